@@ -1,0 +1,3 @@
+pub mod Picks
+pub mod Lower
+pub mod Slot

@@ -1,0 +1,50 @@
+-- The laws of a choice and of the two tests. Assumes nothing.
+use mathlib.Core.Path.{_≡_, refl, sym, _∙_, ap}
+use mathlib.Core.Bool.{Bool, true, false, true≢false, false≢true}
+use Rattle.page.specs.Pick.{pick, _and_, _or_}
+
+pub pick-yes : {A : Type 0} (t : Bool) (a b : A) → t ≡ true → pick t a b ≡ a
+unfolding pick
+pick-yes true a b h = refl
+pick-yes false a b h = absurd (false≢true h)
+
+pub pick-no : {A : Type 0} (t : Bool) (a b : A) → t ≡ false → pick t a b ≡ b
+unfolding pick
+pick-no false a b h = refl
+pick-no true a b h = absurd (true≢false h)
+
+-- what holds of both, each under its test, holds of the pick
+pub pick-by : {A : Type 0} (P : A → Type 0) (t : Bool) (a b : A) → (t ≡ true → P a) → (t ≡ false → P b) → P (pick t a b)
+unfolding pick
+pick-by P true a b h k = h refl
+pick-by P false a b h k = k refl
+
+pub and-yes : (t x : Bool) → t ≡ true → (t and x) ≡ x
+unfolding _and_
+and-yes true x h = refl
+and-yes false x h = absurd (false≢true h)
+
+pub and-no : (t x : Bool) → t ≡ false → (t and x) ≡ false
+unfolding _and_
+and-no false x h = refl
+and-no true x h = absurd (true≢false h)
+
+pub and-left : (t x : Bool) → (t and x) ≡ true → t ≡ true
+unfolding _and_
+and-left true x h = refl
+and-left false x h = h
+
+pub and-right : (t x : Bool) → (t and x) ≡ true → x ≡ true
+unfolding _and_
+and-right true x h = h
+and-right false x h = absurd (false≢true h)
+
+pub or-yes : (t x : Bool) → t ≡ true → (t or x) ≡ true
+unfolding _or_
+or-yes true x h = refl
+or-yes false x h = absurd (false≢true h)
+
+pub or-no : (t x : Bool) → t ≡ false → (t or x) ≡ x
+unfolding _or_
+or-no false x h = refl
+or-no true x h = absurd (true≢false h)

@@ -1,0 +1,4 @@
+pub mod Ground
+pub mod Pick
+pub mod Low
+pub mod Words

@@ -1,0 +1,168 @@
+// Addresses, accesses, kinds of page, and the two words of a slot in register layout.
+ghost use mathlib.Core.Path.{_≡_};
+ghost use Rattle.page.specs.Low.{upper, joined};
+ghost use Rattle.page.specs.Words.{lowBits, typeOf, kindOf, permits, wordValid, wordPreserved, wordAccess, wordMatches, wordAddress, wordDropped, wordFlushed, wordFlushedAt, madeWords};
+
+// An address of the DSP.
+pub struct VirtualAddress(pub u32);
+
+// An address of the memories.
+pub struct PhysicalAddress(pub u32);
+
+pub enum Access {
+    Read,
+    Write,
+}
+
+pub enum Kind {
+    Section,
+    Large,
+    Small,
+    Tiny,
+}
+
+// A slot's two words.
+pub struct Words {
+    pub cam: u32,
+    pub ram: u32,
+}
+
+// The kind that a word's type bits say.
+pub fn kind_of(w: u32) -> Kind
+    ensures { λ r. ⌜ r ≡ kindOf w ⌝ }
+{
+    let t = w % 4;
+    if t == 0 {
+        return Kind::Section;
+    }
+    if t == 1 {
+        return Kind::Large;
+    }
+    if t == 2 {
+        return Kind::Small;
+    }
+    Kind::Tiny
+}
+
+// The type bits of a kind.
+pub fn type_of(k: Kind) -> u32
+    ensures { λ r. ⌜ r ≡ typeOf k ⌝ }
+{
+    match k {
+        Kind::Section => 0,
+        Kind::Large => 1,
+        Kind::Small => 2,
+        Kind::Tiny => 3,
+    }
+}
+
+// How many low bits of an address a page leaves alone.
+pub fn low_bits(k: Kind) -> u32
+    ensures { λ r. ⌜ r ≡ lowBits k ⌝ }
+{
+    match k {
+        Kind::Section => 20,
+        Kind::Large => 16,
+        Kind::Small => 12,
+        Kind::Tiny => 10,
+    }
+}
+
+// An address with the bits below the page size zero.
+pub fn page_start(k: Kind, x: u32) -> u32
+    ensures { λ r. ⌜ r ≡ upper (lowBits k) x ⌝ }
+{
+    let n = low_bits(k);
+    x >> n << n
+}
+
+// The upper bits of one address and the lower ones of another, cut at the page size.
+pub fn join(k: Kind, a: u32, b: u32) -> u32
+    ensures { λ r. ⌜ r ≡ joined (lowBits k) a b ⌝ }
+{
+    page_start(k, a) + (b - page_start(k, b))
+}
+
+// Whether access bits permit an access.
+pub fn permitted(bits: u32, a: Access) -> bool
+    ensures { λ r. ⌜ r ≡ permits bits a ⌝ }
+{
+    match a {
+        Access::Read => 2 <= bits,
+        Access::Write => bits == 3,
+    }
+}
+
+// Bit V of a CAM word.
+fn valid(cam: u32) -> bool
+    ensures { λ r. ⌜ r ≡ wordValid cam ⌝ }
+{
+    cam / 4 % 2 == 1
+}
+
+// Bit P of a CAM word.
+fn preserved(cam: u32) -> bool
+    ensures { λ r. ⌜ r ≡ wordPreserved cam ⌝ }
+{
+    cam / 8 % 2 == 1
+}
+
+// The access bits of a RAM word.
+pub fn access_of(ram: u32) -> u32
+    ensures { λ r. ⌜ r ≡ wordAccess ram ⌝ }
+{
+    ram / 256 % 4
+}
+
+// Whether a slot matches an address.
+pub fn matches(cam: u32, va: VirtualAddress) -> bool
+    ensures { λ r. ⌜ r ≡ wordMatches cam va ⌝ }
+{
+    if !valid(cam) {
+        return false;
+    }
+    let n = low_bits(kind_of(cam)) - 10;
+    let page = va.0 / 1024;
+    let tag = cam / 16;
+    page >> n == tag >> n
+}
+
+// The physical address that a matching slot gives.
+pub fn translated(cam: u32, ram: u32, va: VirtualAddress) -> PhysicalAddress
+    ensures { λ r. ⌜ r ≡ wordAddress cam ram va ⌝ }
+{
+    PhysicalAddress(join(kind_of(cam), ram, va.0))
+}
+
+// A CAM word with V clear.
+fn dropped(cam: u32) -> u32
+    ensures { λ r. ⌜ r ≡ wordDropped cam ⌝ }
+{
+    if valid(cam) { cam - 4 } else { cam }
+}
+
+// A CAM word after a global flush.
+pub fn flushed(cam: u32) -> u32
+    ensures { λ r. ⌜ r ≡ wordFlushed cam ⌝ }
+{
+    if preserved(cam) { cam } else { dropped(cam) }
+}
+
+// A CAM word after an entry flush at an address.
+pub fn flushed_at(va: VirtualAddress, cam: u32) -> u32
+    ensures { λ r. ⌜ r ≡ wordFlushedAt va cam ⌝ }
+{
+    if matches(cam, va) { dropped(cam) } else { cam }
+}
+
+// The words of a page that a walk found.
+pub fn made(k: Kind, frame: PhysicalAddress, access: u32, va: VirtualAddress) -> Words
+    ensures { λ r. ⌜ r ≡ madeWords k frame access va ⌝ }
+{
+    let tag = page_start(k, va.0);
+    let base = page_start(k, frame.0);
+    Words {
+        cam: tag / 64 + 4 + type_of(k),
+        ram: base + 256 * (access % 4),
+    }
+}
