@@ -1,0 +1,4 @@
+pub mod Difference
+pub mod Descriptors
+pub mod Walks
+pub mod Words

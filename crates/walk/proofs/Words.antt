@@ -1,0 +1,86 @@
+-- The words that a walk read. Assumes nothing.
+use mathlib.Core.Path.{_≡_, refl}
+use mathlib.Core.Bool.{false}
+use Prim.Native.Nat.{ℕ}
+use lib.Dec.{eqb}
+use Rattle.page.proofs.Picks.{pick-by}
+use Rattle.memory.specs.Memory.{Lent, placeIn, placeWithin}
+use Rattle.memory.specs.Reads.{wordCount}
+use Rattle.memory.specs.declared.Place.{Place}
+use Rattle.memory.specs.declared.Place.the-variants.{OnChip, External, Nowhere}
+use Rattle.memory.specs.declared.Source.{Source}
+use Rattle.walk.specs.declared.First.{First}
+use Rattle.walk.specs.declared.First.the-variants.{Fault, Coarse, Whole, Fine}
+use Rattle.walk.specs.declared.Found.{Found}
+use Rattle.walk.specs.declared.Read.{Read}
+use Rattle.walk.specs.declared.Read.the-variants.{Word, Missing}
+use Rattle.walk.specs.declared.Table.{Table}
+use Rattle.walk.specs.declared.Table.the-variants as T
+use Rattle.walk.specs.Walk.{firstOf, secondOf, coarseAt, fineAt, readAt, readIn, readWithin, sourceAt, afterSecond, byFirst, afterFirst, walkFrom, walkIn, walkWithin}
+use Rattle.walk.specs.Statements.{PlacedRead, PlacedAt, Placed, isMissing}
+
+-- a word lies where the reading found it
+module _ (place : ℕ → Place) (rd : ℕ → Read) (h : (x : ℕ) → PlacedRead place x (rd x)) (va : ℕ) where
+  placed-second : (t : Table) (s : Source) (b : ℕ) (r : Read) → PlacedAt place s → PlacedRead place b r → Placed place (afterSecond t s b r .reads)
+  placed-second t s b Missing e f = tt
+  placed-second t s b (Word w p) e f = (e, f)
+
+  placed-first : (s : Source) (d : First) → PlacedAt place s → Placed place (byFirst rd va s d .reads)
+  placed-first s Fault e = e
+  placed-first s (Whole p) e = e
+  placed-first s (Coarse t) e = placed-second T.Coarse s (coarseAt t va) (rd (coarseAt t va)) e (h (coarseAt t va))
+  placed-first s (Fine t) e = placed-second T.Fine s (fineAt t va) (rd (fineAt t va)) e (h (fineAt t va))
+
+  placed-after : (dec : ℕ → First) (a : ℕ) (r : Read) → PlacedRead place a r → Placed place (afterFirst rd dec va a r .reads)
+  placed-after dec a Missing e = tt
+  placed-after dec a (Word w p) e = placed-first (sourceAt a p) (dec w) e
+
+  pub placed : (dec : ℕ → First) (a : ℕ) → Placed place (walkFrom rd dec va a .reads)
+  unfolding walkFrom
+  placed dec a = placed-after dec a (rd a) (h a)
+
+read-placed : (place : ℕ → Place) (a w : ℕ) (p : Place) → p ≡ place a → PlacedRead place a (readAt w p)
+read-placed place a w (OnChip k) e = e
+read-placed place a w (External k) e = e
+read-placed place a w Nowhere e = tt
+
+read-in-placed : (m : Lent) (x : ℕ) → PlacedRead (placeIn m) x (readIn m x)
+unfolding readIn
+read-in-placed m x = read-placed (placeIn m) x _ (placeIn m x) refl
+
+pub walk-placed : (m : Lent) (base va : ℕ) → Placed (placeIn m) (walkIn m base va .reads)
+walk-placed m base va = placed (placeIn m) (readIn m) (read-in-placed m) va firstOf _
+
+read-within-placed : (m : Lent) (x : ℕ) → PlacedRead (placeWithin m) x (readWithin m x)
+unfolding readWithin
+read-within-placed m x = read-placed (placeWithin m) x _ (placeWithin m x) refl
+
+pub walk-within-placed : (m : Lent) (base va : ℕ) → Placed (placeWithin m) (walkWithin m base va .reads)
+walk-within-placed m base va = placed (placeWithin m) (readWithin m) (read-within-placed m) va firstOf _
+
+-- no word counts as read exactly where one is missing
+second-there : (t : Table) (w : ℕ) → false ≡ isMissing (secondOf t w)
+unfolding secondOf
+second-there T.Coarse w =
+    pick-by (λ (f : Found). false ≡ isMissing f) _ _ _ (λ _. refl)
+    (λ _. pick-by (λ (f : Found). false ≡ isMissing f) _ _ _ (λ _. refl) (λ _. refl))
+second-there T.Fine w = pick-by (λ (f : Found). false ≡ isMissing f) _ _ _ (λ _. refl) (λ _. refl)
+
+module _ (rd : ℕ → Read) (va : ℕ) where
+  counted-second : (t : Table) (s : Source) (b : ℕ) (r : Read) → eqb (wordCount (afterSecond t s b r .reads)) 0 ≡ isMissing (afterSecond t s b r .found)
+  counted-second t s b Missing = refl
+  counted-second t s b (Word w p) = second-there t w
+
+  counted-first : (s : Source) (d : First) → eqb (wordCount (byFirst rd va s d .reads)) 0 ≡ isMissing (byFirst rd va s d .found)
+  counted-first s Fault = refl
+  counted-first s (Whole p) = refl
+  counted-first s (Coarse t) = counted-second T.Coarse s (coarseAt t va) (rd (coarseAt t va))
+  counted-first s (Fine t) = counted-second T.Fine s (fineAt t va) (rd (fineAt t va))
+
+  counted-after : (dec : ℕ → First) (a : ℕ) (r : Read) → eqb (wordCount (afterFirst rd dec va a r .reads)) 0 ≡ isMissing (afterFirst rd dec va a r .found)
+  counted-after dec a Missing = refl
+  counted-after dec a (Word w p) = counted-first (sourceAt a p) (dec w)
+
+  pub none-where-missing : (dec : ℕ → First) (a : ℕ) → eqb (wordCount (walkFrom rd dec va a .reads)) 0 ≡ isMissing (walkFrom rd dec va a .found)
+  unfolding walkFrom
+  none-where-missing dec a = counted-after dec a (rd a)

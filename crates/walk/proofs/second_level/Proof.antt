@@ -1,0 +1,39 @@
+use Rattle.memory.specs.declared.Reads.the-variants.{Two}
+use Rattle.walk.specs.declared.Found.{Found}
+use Rattle.walk.specs.Walk.{afterSecond, sourceAt}
+use mathlib.Core.Path.{sym, _∙_, ap}
+use borrow.Author.Needs.{needs}
+use Rattle.walk.proofs.second_level.Statement.{statement}
+use Rattle.walk.proofs.second_level.Tie as tie
+
+read-word-requires : tie.Need-read-word-requires
+read-word-requires c κs = search needs
+
+enum-told : tie.Need-enum-told
+enum-told c = search needs
+
+enum-known-read : tie.Need-enum-known-read
+enum-known-read c = search needs
+
+decode-second-requires : tie.Need-decode-second-requires
+decode-second-requires c κs = search needs
+
+returns : tie.Need-returns
+returns c = let a = c .before .before .before .before .before .args in
+    ap (afterSecond (a .table) (a .first) (a .at .0)) (sym (c .enum-told .given .1) ∙ c .before .before .read-word .ensures)
+
+returns-2 : tie.Need-returns-2
+returns-2 c = let a = c .before .before .before .before .before .before .before .args in
+    ap (λ (f : Found). record { found = f; reads = Two (a .first) (sourceAt (a .at .0) (c .before .before .read .given .0 .1 .0)) }) (c .decode-second .ensures)
+    ∙ ap (afterSecond (a .table) (a .first) (a .at .0)) (sym (c .before .before .read .given .1) ∙ c .before .before .before .before .read-word .ensures)
+
+pub second-level-spec : {M : Type 1} → statement M
+second-level-spec =
+    tie.close
+    (tie.spec
+    read-word-requires
+    enum-told
+    enum-known-read
+    decode-second-requires
+    returns
+    returns-2)
