@@ -1,0 +1,14 @@
+use Rattle.bill.specs.Bill.{attemptPosted}
+use borrow.Author.Needs.{needs}
+use Rattle.bill.proofs.Bill.post_attempt.Statement.{statement}
+use Rattle.bill.proofs.Bill.post_attempt.Tie as tie
+
+smooth-requires : tie.Need-smooth-requires
+smooth-requires c κs = search needs
+
+returns : tie.Need-returns
+unfolding attemptPosted
+returns c = cc
+
+pub post-attempt-spec : {M : Type 1} → statement M
+post-attempt-spec = tie.close (tie.spec smooth-requires returns)

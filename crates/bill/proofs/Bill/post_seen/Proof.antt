@@ -1,0 +1,42 @@
+use Rattle.bill.specs.Bill.{seenPosted}
+use mathlib.Core.Path.{sym, _∙_, ap}
+use borrow.Author.Needs.{needs}
+use Rattle.bill.proofs.Bill.post_seen.Statement.{statement}
+use Rattle.bill.proofs.Bill.post_seen.Tie as tie
+
+enum-told : tie.Need-enum-told
+enum-told c = search needs
+
+enum-told-2 : tie.Need-enum-told-2
+enum-told-2 c = search needs
+
+post-attempt-requires : tie.Need-post-attempt-requires
+post-attempt-requires c κs = search needs
+
+enum-told-3 : tie.Need-enum-told-3
+enum-told-3 c = search needs
+
+post-attempt-requires-2 : tie.Need-post-attempt-requires-2
+post-attempt-requires-2 c κs = search needs
+
+returns : tie.Need-returns
+returns c = search needs
+
+returns-2 : tie.Need-returns-2
+returns-2 c = c .post-attempt .ensures ∙ sym (ap (seenPosted (c .before .before .before .args .self)) (c .before .enum-told2 .given .1))
+
+returns-3 : tie.Need-returns-3
+returns-3 c = c .post-attempt2 .ensures ∙ sym (ap (seenPosted (c .before .before .before .args .self)) (c .before .enum-told3 .given .1))
+
+pub post-seen-spec : {M : Type 1} → statement M
+post-seen-spec =
+    tie.close
+    (tie.spec
+    enum-told
+    enum-told-2
+    post-attempt-requires
+    enum-told-3
+    post-attempt-requires-2
+    returns
+    returns-2
+    returns-3)

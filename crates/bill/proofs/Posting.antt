@@ -1,0 +1,87 @@
+-- What a posting changes, and what it leaves alone. Assumes nothing.
+use mathlib.Core.Path.{_≡_, refl, ap, _∙_}
+use mathlib.Core.Bool.{Bool}
+use mathlib.Core.List.{List, [], _∷_, _++_}
+use Prim.Native.Nat.{ℕ}
+use lib.Ieee.{Float, binary64, add}
+use borrow.Author.Tests.{eq-eqb, ne-eqb}
+use Rattle.page.proofs.Picks.{pick-yes, pick-no}
+use Rattle.bill.specs.Types.{Place, OnChip, External, Nowhere, Source, Row, Prices, At, Side, Bill}
+use Rattle.bill.specs.Bill.{rowOf, rowPrice, wordPrice, sideRead, placePosted, wordPosted, wordsPosted, attemptPosted, freshBill}
+
+-- the words of two lists in one are the postings in order
+pub words-append : (p : Prices) (b : Bill) (xs ys : List Source) → wordsPosted p b (xs ++ ys) ≡ wordsPosted p (wordsPosted p b xs) ys
+words-append p b [] ys = refl
+words-append p b (s ∷ xs) ys = words-append p (wordPosted p b s) xs ys
+
+-- a word sets its memory's last row under any price, and adds that memory's price
+module _ (p : Prices) (b : Bill) (s : Source) (k : ℕ) where
+  abbrev with : Place → Bill
+  with place = placePosted p b place (rowOf (s .at))
+
+  pub onchip-row : s .place ≡ OnChip k → wordPosted p b s .onchip .last ≡ At (rowOf (s .at))
+  unfolding placePosted
+  onchip-row e = ap (λ (q : Place). with q .onchip .last) e
+
+  pub onchip-total : s .place ≡ OnChip k → wordPosted p b s .total ≡ add binary64 (b .total) (wordPrice (p .onchip) (b .onchip) (rowOf (s .at)))
+  unfolding placePosted
+  onchip-total e = ap (λ (q : Place). with q .total) e
+
+  pub external-row : s .place ≡ External k → wordPosted p b s .external .last ≡ At (rowOf (s .at))
+  unfolding placePosted
+  external-row e = ap (λ (q : Place). with q .external .last) e
+
+  pub external-total : s .place ≡ External k → wordPosted p b s .total ≡ add binary64 (b .total) (wordPrice (p .external) (b .external) (rowOf (s .at)))
+  unfolding placePosted
+  external-total e = ap (λ (q : Place). with q .total) e
+
+  -- it leaves the other memory's side alone
+  pub onchip-leaves : s .place ≡ OnChip k → wordPosted p b s .external ≡ b .external
+  unfolding placePosted
+  onchip-leaves e = ap (λ (q : Place). with q .external) e
+
+  pub external-leaves : s .place ≡ External k → wordPosted p b s .onchip ≡ b .onchip
+  unfolding placePosted
+  external-leaves e = ap (λ (q : Place). with q .onchip) e
+
+-- and the miss figure
+place-misses : (p : Prices) (b : Bill) (place : Place) (row : ℕ) → placePosted p b place row .misses ≡ b .misses
+unfolding placePosted
+place-misses p b (OnChip k) row = refl
+place-misses p b (External k) row = refl
+place-misses p b Nowhere row = refl
+
+pub word-misses : (p : Prices) (b : Bill) (s : Source) → wordPosted p b s .misses ≡ b .misses
+word-misses p b s = place-misses p b (s .place) (rowOf (s .at))
+
+pub words-misses : (p : Prices) (b : Bill) (ss : List Source) → wordsPosted p b ss .misses ≡ b .misses
+words-misses p b [] = refl
+words-misses p b (s ∷ ss) = words-misses p (wordPosted p b s) ss ∙ word-misses p b s
+
+-- a word in neither memory posts nothing
+pub nowhere-posts : (p : Prices) (b : Bill) (s : Source) → s .place ≡ Nowhere → wordPosted p b s ≡ b
+unfolding placePosted
+nowhere-posts p b s e = ap (λ (q : Place). placePosted p b q (rowOf (s .at))) e
+
+-- an attempt leaves the total and both sides alone
+pub attempt-leaves : (b : Bill) (missed : Bool) → (attemptPosted b missed .total ≡ b .total) × ((attemptPosted b missed .onchip ≡ b .onchip) × (attemptPosted b missed .external ≡ b .external))
+unfolding attemptPosted
+attempt-leaves b missed = (refl, (refl, refl))
+
+-- the first read of either memory is a new row; then the row last read is the same row, and any other is new
+module _ (same fresh : Float) where
+  pub first-onchip : (row : ℕ) → wordPrice (Row same fresh) (freshBill .onchip) row ≡ fresh
+  unfolding wordPrice rowPrice
+  first-onchip row = refl
+
+  pub first-external : (row : ℕ) → wordPrice (Row same fresh) (freshBill .external) row ≡ fresh
+  unfolding wordPrice rowPrice
+  first-external row = refl
+
+  pub same-row : (side : Side) (row : ℕ) → wordPrice (Row same fresh) (sideRead side row) row ≡ same
+  unfolding wordPrice rowPrice
+  same-row side row = pick-yes _ _ _ (eq-eqb row row refl)
+
+  pub other-row : (side : Side) (last row : ℕ) → (last ≡ row → ⊥) → wordPrice (Row same fresh) (sideRead side last) row ≡ fresh
+  unfolding wordPrice rowPrice
+  other-row side last row n = pick-no _ _ _ (ne-eqb last row n)

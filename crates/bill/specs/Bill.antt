@@ -1,0 +1,125 @@
+-- The walk bill (01, "Meters and the walk bill", and refusal 9). Its figures are binary64 values, and its operations those of
+-- IEEE 754, in the order written here.
+use Rattle.page.specs.Ground.{ℕ, _/_, _≡_, Bool, true, false, List, [], _∷_, eqb}
+use Rattle.page.specs.Pick.{pick, _and_}
+use Rattle.bill.specs.Types.{Float, binary64, PhysicalAddress, Place, OnChip, External, Nowhere, Source, Reads, Price, Flat, Row, Prices, LastRow, Never, At, Side, Seen, Nothing, Match, NoMatch, Bill}
+use Rattle.memory.specs.Reads.{sources}
+use lib.Ieee.{ofBits, add, sub, mul, le, fits}
+pub use lib.Ieee.Scale.{finite}
+
+-- 0, 1, 1/8 and 4,096 as bit patterns of an f64
+abbrev pub f0 : Float
+f0 = ofBits binary64 0x0000_0000_0000_0000
+
+abbrev pub f1 : Float
+f1 = ofBits binary64 0x3ff0_0000_0000_0000
+
+abbrev pub f⅛ : Float
+f⅛ = ofBits binary64 0x3fc0_0000_0000_0000
+
+abbrev pub f4096 : Float
+f4096 = ofBits binary64 0x40b0_0000_0000_0000
+
+-- a figure from 0 to 4,096, ends and minus zero allowed, NaN not
+unfoldable pub figureOk : Float → Bool
+figureOk x = le f0 x and le x f4096
+
+-- a test passes at every figure of a price
+unfoldable pub every : (Float → Bool) → Price → Bool
+every test (Flat x) = test x
+every test (Row same fresh) = test same and test fresh
+
+abbrev pub priceOk : Price → Bool
+priceOk p = every figureOk p
+
+abbrev pub pricesOk : Prices → Bool
+pricesOk p = priceOk (p .onchip) and priceOk (p .external)
+
+-- neither figure is infinite or NaN
+abbrev pub billOk : Bill → Bool
+billOk b = finite (b .total) and finite (b .misses)
+
+-- refusal 9 holds where this is false
+unfoldable pub moneyOk : Prices → Bill → Bool
+moneyOk p b = pricesOk p and billOk b
+
+-- rows are this many bytes of physical address
+abbrev pub rowBytes : ℕ
+rowBytes = 1024
+
+abbrev pub rowOf : PhysicalAddress → ℕ
+rowOf a = a .0 / rowBytes
+
+-- a row that is the memory's last one is the same row, and the first read is a new one
+unfoldable pub rowPrice : Float → Float → LastRow → ℕ → Float
+rowPrice same fresh Never row = fresh
+rowPrice same fresh (At last) row = pick (eqb last row) same fresh
+
+-- a word's price, by what the bill keeps of its memory
+unfoldable pub wordPrice : Price → Side → ℕ → Float
+wordPrice (Flat x) side row = x
+wordPrice (Row same fresh) side row = rowPrice same fresh (side .last) row
+
+-- what the bill keeps of a memory after a word more of it
+abbrev pub sideRead : Side → ℕ → Side
+sideRead side row = record { last = At row }
+
+-- a word of a row at its place: that memory's price on the total, and that memory's side read
+unfoldable pub placePosted : Prices → Bill → Place → ℕ → Bill
+placePosted p b (OnChip k) row = record {
+  total = add binary64 (b .total) (wordPrice (p .onchip) (b .onchip) row);
+  misses = b .misses;
+  onchip = sideRead (b .onchip) row;
+  external = b .external;
+}
+placePosted p b (External k) row = record {
+  total = add binary64 (b .total) (wordPrice (p .external) (b .external) row);
+  misses = b .misses;
+  onchip = b .onchip;
+  external = sideRead (b .external) row;
+}
+placePosted p b Nowhere row = b
+
+abbrev pub wordPosted : Prices → Bill → Source → Bill
+wordPosted p b s = placePosted p b (s .place) (rowOf (s .at))
+
+-- words in order
+abbrev pub wordsPosted : Prices → Bill → List Source → Bill
+wordsPosted p b [] = b
+wordsPosted p b (s ∷ rest) = wordsPosted p (wordPosted p b s) rest
+
+-- the words of a walk
+abbrev pub readsPosted : Prices → Bill → Reads → Bill
+readsPosted p b r = wordsPosted p b (sources r)
+
+-- 1 on no match, else 0
+abbrev pub outcomeOf : Bool → Float
+outcomeOf true = f1
+outcomeOf false = f0
+
+-- mean + (x - mean) * 0.125
+unfoldable pub smoothed : Float → Bool → Float
+smoothed mean missed = add binary64 mean (mul binary64 (sub binary64 (outcomeOf missed) mean) f⅛)
+
+-- a metered request or retry while the unit is on
+unfoldable pub attemptPosted : Bill → Bool → Bill
+attemptPosted b missed = record { total = b .total; misses = smoothed (b .misses) missed; onchip = b .onchip; external = b .external }
+
+-- an attempt by what it did with the slots
+abbrev pub seenPosted : Bill → Seen → Bill
+seenPosted b Nothing = b
+seenPosted b Match = attemptPosted b false
+seenPosted b NoMatch = attemptPosted b true
+
+-- all zero with no rows
+abbrev pub freshSide : Side
+freshSide = record { last = Never }
+
+abbrev pub freshBill : Bill
+freshBill = record { total = f0; misses = f0; onchip = freshSide; external = freshSide }
+
+-- both figures are f64 values (as those of every bill that a function is handed are) and finite
+pub record Good (b : Bill) : Type 0 where
+  pub total-fits : fits binary64 (b .total) ≡ true
+  pub misses-fits : fits binary64 (b .misses) ≡ true
+  pub finite-both : billOk b ≡ true
