@@ -1,0 +1,5 @@
+pub mod Loops
+pub mod Searches
+pub mod Ranges
+pub mod Fills
+pub mod Flushes

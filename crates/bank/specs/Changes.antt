@@ -1,0 +1,60 @@
+-- What changes the slots: fill, load, flushes, lock (01, "The walk", "Registers").
+use Rattle.page.specs.Ground.{ℕ, _+_, List, map, ltb, getD, set}
+use Rattle.page.specs.Pick.{pick}
+use Rattle.page.specs.Words.{wordFlushed, wordFlushedAt}
+use Rattle.page.specs.declared.VirtualAddress.{VirtualAddress}
+use Rattle.page.specs.declared.Words.{Words}
+use Rattle.bank.specs.declared.Bank.{Bank}
+use Rattle.bank.specs.Slots.{slots}
+use Rattle.bank.specs.declared.Fill.{Fill}
+use Rattle.bank.specs.declared.Fill.the-variants.{Nothing, Slot}
+
+-- a fill takes the larger of victim and lock base
+unfoldable pub nextSlot : ℕ → ℕ → ℕ
+nextSlot victim lock = pick (ltb victim lock) lock victim
+
+-- after it the victim is the slot after, or the lock base after the last slot
+unfoldable pub nextVictim : ℕ → ℕ → ℕ
+nextVictim slot lock = pick (ltb (slot + 1) slots) (slot + 1) lock
+
+-- the words in slot i
+abbrev pub storedAt : Bank → ℕ → Words → Bank
+storedAt b i w = record { cam = set (b .cam) i (w .cam); ram = set (b .ram) i (w .ram); lock = b .lock; victim = b .victim }
+
+-- a bank with one part set
+abbrev pub withCams : Bank → List ℕ → Bank
+withCams b cam = record { cam = cam; ram = b .ram; lock = b .lock; victim = b .victim }
+
+abbrev pub lockedAt : Bank → ℕ → ℕ → Bank
+lockedAt b lock victim = record { cam = b .cam; ram = b .ram; lock = lock; victim = victim }
+
+-- a fill of slot i
+abbrev pub filledAt : Bank → Words → ℕ → Bank
+filledAt b w i = lockedAt (storedAt b i w) (b .lock) (nextVictim i (b .lock))
+
+unfoldable pub filled : Bank → Words → Bank
+filled b w = filledAt b w (nextSlot (b .victim) (b .lock))
+
+abbrev pub entryFilled : Bank → Fill → Bank
+entryFilled b Nothing = b
+entryFilled b (Slot w) = filled b w
+
+-- load stores in the victim slot and copy reads it; the victim stays
+abbrev pub loaded : Bank → Words → Bank
+loaded b w = storedAt b (b .victim) w
+
+abbrev pub copied : Bank → Words
+copied b = record { cam = getD (b .cam) (b .victim) 0; ram = getD (b .ram) (b .victim) 0 }
+
+-- a global flush drops each slot that is not preserved, an entry flush each that matches
+unfoldable pub flushedAll : List ℕ → List ℕ
+flushedAll cam = map wordFlushed cam
+
+unfoldable pub flushedEntry : VirtualAddress → List ℕ → List ℕ
+flushedEntry va cam = map (wordFlushedAt va) cam
+
+abbrev pub bankFlushed : Bank → Bank
+bankFlushed b = withCams b (flushedAll (b .cam))
+
+abbrev pub bankFlushedAt : Bank → VirtualAddress → Bank
+bankFlushedAt b va = withCams b (flushedEntry va (b .cam))
