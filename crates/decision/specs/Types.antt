@@ -1,0 +1,22 @@
+-- The types that decisions are written with, and their cases: the same aliases everywhere. Others take them from here.
+pub use Rattle.page.specs.declared.Access.{Access}
+pub use Rattle.page.specs.declared.VirtualAddress.{VirtualAddress}
+pub use Rattle.page.specs.declared.PhysicalAddress.{PhysicalAddress}
+pub use Rattle.page.specs.declared.Words.{Words}
+pub use Rattle.memory.specs.Memory.{Lent, lent, lentOk}
+pub use Rattle.memory.specs.declared.Reads.{Reads}
+pub use Rattle.walk.specs.declared.Page.{Page}
+pub use Rattle.walk.specs.declared.Found.{Found}
+pub use Rattle.walk.specs.declared.Walked.{Walked}
+pub use Rattle.meters.specs.declared.Tally.{Tally}
+pub use Rattle.bill.specs.declared.Bill.{Bill}
+pub use Rattle.bill.specs.declared.Prices.{Prices}
+pub use Rattle.bill.specs.declared.Seen.{Seen}
+pub use Rattle.bank.specs.declared.Bank.{Bank}
+pub use Rattle.bank.specs.declared.Fill.{Fill}
+pub use Rattle.bank.specs.declared.Matched.{Matched}
+pub use Rattle.registers.specs.declared.Fault.{Fault}
+pub use Rattle.registers.specs.declared.Pending.{Pending}
+pub use Rattle.registers.specs.declared.Answer.{Answer}
+pub use Rattle.decision.specs.declared.Decision.{Decision}
+pub use Rattle.decision.specs.declared.Shift.{Shift}

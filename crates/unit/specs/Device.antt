@@ -1,0 +1,69 @@
+-- The device: fresh, in range, with parts set, and after an attempt (01, "The unit", "The walk").
+use Rattle.page.specs.Ground.{ℕ, Bool}
+use Rattle.page.specs.Pick.{_and_}
+use Rattle.walk.specs.Walk.{walkIn}
+use Rattle.memory.specs.Reads.{wordCount}
+use Rattle.meters.specs.Posted.{noTally}
+use Rattle.bank.specs.Slots.{bankOk, freshBank}
+use Rattle.bank.specs.Changes.{entryFilled}
+use Rattle.registers.specs.Fields.{freshRegisters, registersOk, pendingOk}
+use Rattle.registers.specs.declared.Pending.the-variants as P
+use Rattle.registers.specs.declared.Answer.the-variants as A
+use Rattle.decision.specs.Decisions.{decided, settled, tallyOf, billed}
+use Rattle.unit.specs.Types.{Access, VirtualAddress, Lent, Walked, Bill, Prices, Bank, Fill, Answer, Decision, Registers, Device, Outcome, Told}
+
+-- a fresh device is all zero
+abbrev pub freshDevice : Device
+freshDevice = record { registers = freshRegisters; bank = freshBank; pending = P.Nothing }
+
+-- every field is in its range; where one is not, every call answers 8
+unfoldable pub inRange : Device → Bool
+inRange d = registersOk (d .registers) and pendingOk (d .pending) and bankOk (d .bank)
+
+-- a device with one part set
+abbrev pub setRegisters : Device → Registers → Device
+setRegisters d r = record { registers = r; bank = d .bank; pending = d .pending }
+
+abbrev pub setBank : Device → Bank → Device
+setBank d b = record { registers = d .registers; bank = b; pending = d .pending }
+
+abbrev pub cleared : Device → Device
+cleared d = record { registers = d .registers; bank = d .bank; pending = P.Nothing }
+
+-- what a call hands back: accepted with nothing to say, or refused, and then nothing changes
+abbrev pub told : Device → Answer → Told
+told d r = record { device = d; answer = r }
+
+abbrev pub toldRefused : Device → ℕ → Told
+toldRefused d k = told d (A.Refused k)
+
+abbrev pub doneWith : Bill → Device → Outcome
+doneWith b d = record { device = d; bill = b; tally = noTally; answer = A.Done }
+
+abbrev pub refusedWith : Device → Bill → ℕ → Outcome
+refusedWith d b k = record { device = d; bill = b; tally = noTally; answer = A.Refused k }
+
+-- what the plain walk of an address gives from the base register
+abbrev pub look : Lent → Device → VirtualAddress → Walked
+look m d va = walkIn m (d .registers .base .0) (va .0)
+
+-- the slots and the pending fault after a decision
+abbrev pub applied : Device → Fill → Answer → VirtualAddress → Access → Device
+applied d f r va a = record { registers = d .registers; bank = entryFilled (d .bank) f; pending = settled va a (d .pending) r }
+
+-- an attempt with its decision: again says whether it is a retry
+abbrev pub concluded : Prices → Bill → Bool → Device → VirtualAddress → Access → Decision → Outcome
+concluded p b again d va a x = record {
+  device = applied d (x .fill) (x .answer) va a;
+  bill = billed p b x;
+  tally = tallyOf again (wordCount (x .reads)) (x .answer);
+  answer = x .answer;
+}
+
+-- what a request or a retry comes to where w is what the plain walk of its address gives
+abbrev pub decidedBy : Walked → Device → VirtualAddress → Access → Decision
+decidedBy w d va a = decided w (d .registers .control) (d .bank .cam) (d .bank .ram) va a
+
+-- a request or a retry
+abbrev pub attemptOf : Lent → Prices → Bill → Bool → Device → VirtualAddress → Access → Outcome
+attemptOf m p b again d va a = concluded p b again d va a (decidedBy (look m d va) d va a)

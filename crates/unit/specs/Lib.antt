@@ -1,0 +1,6 @@
+pub mod Types
+pub mod Refusals
+pub mod Device
+pub mod Calls
+pub mod Steps
+pub mod Machine

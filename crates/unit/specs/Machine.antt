@@ -1,0 +1,61 @@
+-- The whole machine: any calls in any order, with the bill and the meters that they are posted to (01, demands 2 and 3).
+use Rattle.page.specs.Ground.{ℕ, List, [], _∷_}
+use Rattle.meters.specs.Posted.{noTally, posted}
+use Rattle.meters.specs.declared.Meters.{Meters}
+use Rattle.registers.specs.Answers.{number}
+use Rattle.decision.specs.Prefetches.{shiftNumber}
+use Rattle.unit.specs.Types.{Access, VirtualAddress, Lent, Bill, Prices, Tally, Answer, Shift, Device, Outcome, Told}
+use Rattle.unit.specs.Calls.{requestOf, writeOf, readOf, dropOf, shiftOf}
+
+-- a call; prices are given with each that may walk, save the shift report
+pub data Call : Type 0 where
+  request : VirtualAddress → Access → Prices → Call
+  write : ℕ → ℕ → Prices → Call
+  read : ℕ → Call
+  drop-fault : Call
+  shift : VirtualAddress → Call
+
+-- what a call says
+pub data Said : Type 0 where
+  answered : Answer → Said
+  reported : Shift → Said
+
+-- the paper's number of what is said
+abbrev pub saidNumber : Said → ℕ
+saidNumber (answered r) = number r
+saidNumber (reported s) = shiftNumber s
+
+-- what a call leaves and says
+pub record Step : Type 0 where
+  pub device : Device
+  pub bill : Bill
+  pub tally : Tally
+  pub said : Said
+
+abbrev pub stepOut : Outcome → Step
+stepOut o = record { device = o .device; bill = o .bill; tally = o .tally; said = answered (o .answer) }
+
+abbrev pub stepTold : Bill → Told → Step
+stepTold b t = record { device = t .device; bill = b; tally = noTally; said = answered (t .answer) }
+
+abbrev pub step : Lent → Device → Bill → Call → Step
+step m d b (request va a p) = stepOut (requestOf m p b d va a)
+step m d b (write o v p) = stepOut (writeOf m p b d o v)
+step m d b (read o) = stepTold b (readOf d o)
+step m d b drop-fault = stepTold b (dropOf d)
+step m d b (shift va) = record { device = d; bill = b; tally = noTally; said = reported (shiftOf m d va) }
+
+-- a bench in the middle of a session
+pub record Bench : Type 0 where
+  pub device : Device
+  pub bill : Bill
+  pub meters : Meters
+
+-- the bench after a call: the tally is posted to the meters
+abbrev pub benchAfter : Meters → Step → Bench
+benchAfter t s = record { device = s .device; bill = s .bill; meters = posted t (s .tally) }
+
+-- any calls in any order over the same two memories
+abbrev pub run : Lent → Bench → List Call → Bench
+run m s [] = s
+run m s (c ∷ cs) = run m (benchAfter (s .meters) (step m (s .device) (s .bill) c)) cs
