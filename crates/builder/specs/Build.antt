@@ -1,0 +1,75 @@
+-- What the builder answers, and what it leaves in the lent memory (01, "The builder"; "When the unit says no", 4, 10, 11, 12).
+use Rattle.page.specs.Ground.{ℕ, _+_, _*_, _%_, Bool, not, List, _++_, eqb, ltb, length, take, drop}
+use Rattle.page.specs.Pick.{pick, _and_}
+use Rattle.memory.specs.Memory.{memoryOk}
+use Rattle.records.specs.declared.Mapping.{Mapping}
+use Rattle.records.specs.declared.Checked.{Checked}
+use Rattle.records.specs.declared.Checked.the-variants as C
+use Rattle.records.specs.Mappings.{mappings}
+use Rattle.records.specs.Checks.{megabytes, checked}
+use Rattle.builder.specs.declared.Built.{Built}
+use Rattle.builder.specs.declared.Built.the-variants.{Length, BadMemory, BadRecord, Overlap, TooLong}
+use Rattle.builder.specs.Tables.{imageLength}
+use Rattle.builder.specs.Image.{bytesOf, image}
+
+-- the tables need a base that is a multiple of this
+abbrev pub baseUnit : ℕ
+baseUnit = 4096
+
+-- what refusal 4 asks of a builder's memory
+unfoldable pub roomOk : ℕ → ℕ → Bool
+roomOk base room = eqb (base % baseUnit) 0 and memoryOk base room
+
+-- a check's refusal, or what follows it
+abbrev pub afterCheck : Checked → Built → Built
+afterCheck C.Fine b = b
+afterCheck (C.BadRecord i) b = BadRecord i
+afterCheck (C.Overlap i) b = Overlap i
+
+-- 12 with the count, or the image's length
+abbrev pub lengthOr : List Mapping → ℕ → Built
+lengthOr ms room = pick (ltb room (imageLength megabytes ms)) (TooLong (length ms)) (Length (imageLength megabytes ms))
+
+-- 4; then record by record 10 and 11; then 12
+unfoldable pub answerOf : List ℕ → ℕ → ℕ → Built
+answerOf rs base room =
+    pick (not (roomOk base room)) BadMemory (afterCheck (checked megabytes rs) (lengthOr (mappings rs) room))
+
+-- the memory after an answer: the image and every later byte as it was, or all as it was
+abbrev pub leaves : Built → List ℕ → List ℕ → List ℕ
+leaves (Length n) img before = img ++ drop n before
+leaves BadMemory img before = before
+leaves (BadRecord i) img before = before
+leaves (Overlap i) img before = before
+leaves (TooLong c) img before = before
+
+-- an answer and the memory beside it
+pub record Outcome : Type 0 where
+  pub answer : Built
+  pub memory : List ℕ
+
+abbrev pub outcome : Built → List ℕ → Outcome
+outcome b l = record { answer = b; memory = l }
+
+unfoldable pub buildOf : List ℕ → ℕ → List ℕ → Outcome
+buildOf rs base before =
+    outcome (answerOf rs base (length before)) (leaves (answerOf rs base (length before)) (image megabytes (mappings rs) base) before)
+
+-- the paper's number of an answer, 0 where nothing is refused, and the value beside it
+abbrev pub builtNumber : Built → ℕ
+builtNumber (Length n) = 0
+builtNumber BadMemory = 4
+builtNumber (BadRecord i) = 10
+builtNumber (Overlap i) = 11
+builtNumber (TooLong c) = 12
+
+abbrev pub builtValue : Built → ℕ
+builtValue (Length n) = n
+builtValue BadMemory = 0
+builtValue (BadRecord i) = i
+builtValue (Overlap i) = i
+builtValue (TooLong c) = c
+
+-- the k words of f in a memory from offset at on, the other bytes as they were
+unfoldable pub spliced : List ℕ → ℕ → (ℕ → ℕ) → ℕ → List ℕ
+spliced l at f k = take at l ++ (bytesOf f k ++ drop (at + 4 * k) l)

@@ -1,0 +1,54 @@
+-- A record of the builder's input as a mapping (01, "The builder").
+use Rattle.page.specs.Ground.{ℕ, zero, suc, _*_, _/_, Bool, List, [], _∷_, length, getD, take, drop}
+use Rattle.page.specs.Pick.{pick, _or_}
+use Rattle.page.specs.Low.{agree, joined}
+use Rattle.page.specs.Words.{virtual, physical, lowBits, kindOf}
+use Rattle.page.specs.declared.Kind.the-variants.{Section}
+use Rattle.page.specs.declared.VirtualAddress.{VirtualAddress}
+use Rattle.page.specs.declared.PhysicalAddress.{PhysicalAddress}
+use Rattle.memory.specs.Memory.{wordOf}
+use Rattle.records.specs.declared.Mapping.{Mapping}
+use Rattle.records.specs.declared.Held.{Held}
+use Rattle.records.specs.declared.Held.the-variants.{By, Nobody}
+
+-- the bytes of a record
+abbrev pub recordSize : ℕ
+recordSize = 12
+
+-- record i: fewer bytes where the input ends
+abbrev pub recordAt : List ℕ → ℕ → List ℕ
+recordAt rs i = take recordSize (drop (recordSize * i) rs)
+
+-- a record's virtual and physical address, type and access
+unfoldable pub mappingOf : List ℕ → Mapping
+mappingOf r = record
+    { at = virtual (wordOf (take 4 (drop 0 r))); to = physical (wordOf (take 4 (drop 4 r))); kind = kindOf (getD r 8 0); access = getD r 9 0 }
+
+-- the mappings of n records from record i on, and of all whole records
+unfoldable pub mappingsFrom : List ℕ → ℕ → ℕ → List Mapping
+mappingsFrom rs i zero = []
+mappingsFrom rs i (suc n) = mappingOf (recordAt rs i) ∷ mappingsFrom rs (suc i) n
+
+unfoldable pub mappings : List ℕ → List Mapping
+mappings rs = mappingsFrom rs 0 (length rs / recordSize)
+
+-- what stands for a mapping where a list has none
+abbrev pub noMapping : Mapping
+noMapping = record { at = virtual 0; to = physical 0; kind = Section; access = 0 }
+
+-- the mapping's region has the address
+unfoldable pub holds : Mapping → VirtualAddress → Bool
+holds m va = agree (lowBits (m .kind)) (va .0) (m .at .0)
+
+-- the first mapping of a list whose region has the address
+unfoldable pub holder : List Mapping → VirtualAddress → Held
+holder [] va = Nobody
+holder (m ∷ ms) va = pick (holds m va) (By m) (holder ms va)
+
+-- the physical byte that a mapping gives for an address
+unfoldable pub byteOf : Mapping → VirtualAddress → PhysicalAddress
+byteOf m va = physical (joined (lowBits (m .kind)) (m .to .0) (va .0))
+
+-- two regions share an address: one has the other's first
+unfoldable pub overlap : Mapping → Mapping → Bool
+overlap m n = holds m (n .at) or holds n (m .at)
