@@ -1,0 +1,123 @@
+-- A request or a retry answers what the walk answers, and with a prefetch it keeps the slots in agreement. Assumes nothing.
+use Prim.Native.Nat.{ℕ, _*_, _%_, _^_, _<_}
+use native.Mathlib.Omega.{arith}
+use mathlib.Core.Path.{_≡_, refl, sym, _∙_, ap, subst}
+use mathlib.Core.Bool.{Bool}
+use Rattle.page.specs.Words.{madeWords}
+use Rattle.page.specs.declared.Access.the-variants.{Read}
+use Rattle.page.proofs.Picks.{pick-yes}
+use Rattle.walk.specs.Statements.{Proper}
+use Rattle.walk.specs.Walk.{readIn}
+use Rattle.walk.specs.declared.Found.the-variants as D
+use Rattle.walk.proofs.Walks.{walk-proper}
+use Rattle.bank.specs.Slots.{slots, lookedUp}
+use Rattle.bank.specs.Changes.{filled, entryFilled}
+use Rattle.bank.specs.declared.Matched.the-variants as M
+use Rattle.bank.proofs.Ranges.{InRange}
+use Rattle.bank.proofs.Searches.{Lowest, lowest}
+use Rattle.registers.specs.Fields.{limit}
+use Rattle.registers.specs.declared.Answer.the-variants as A
+use Rattle.decision.specs.Decisions.{byFound, byWalk, byMatched, settled}
+use Rattle.decision.specs.Prefetches.{pageAt, prefetchFound, prefetchMatched, prefetchDecided}
+use Rattle.decision.proofs.Joins.{decided-on}
+use Rattle.decision.specs.Types.{Access, VirtualAddress, Lent, Reads, Page, Found, Walked, Bill, Prices, Matched, Pending, Answer}
+use Rattle.decision.specs.declared.Decision.{Decision}
+use Rattle.unit.specs.declared.Device.{Device}
+use Rattle.unit.specs.Device.{look, applied, decidedBy, attemptOf}
+use Rattle.unit.specs.Calls.{prefetched}
+use Rattle.coherence.specs.Agreement.{Look, plain, Uniform, Below, Coherent}
+use Rattle.coherence.specs.Sessions.{lookFrom}
+use Rattle.coherence.proofs.Slots.{Held, made-agrees, fill-agrees}
+
+-- a fault is pending anew only at the address that was asked for
+settled-below : (va : VirtualAddress) (a : Access) (q : Pending) (r : Answer) → va .0 < limit → Below q → Below (settled va a q r)
+settled-below va a q (A.Address x) l h = tt
+settled-below va a q (A.Fault k) l h = l
+settled-below va a q (A.Value x) l h = h
+settled-below va a q A.Done l h = h
+settled-below va a q (A.Refused k) l h = h
+
+module _ (m : Lent) (base : ℕ) where
+  abbrev walked : Look
+  walked = lookFrom m base
+
+  -- the walk from the base register is the walk from the base
+  pub same-walk : (d : Device) → Coherent walked base d → (va : VirtualAddress) → look m d va ≡ walked va
+  same-walk d h va = ap (λ (n : ℕ). lookFrom m n va) (h .base-is)
+
+  module _ (d : Device) (h : Coherent walked base d) (va : VirtualAddress) (a : Access) where
+    abbrev Walks : Decision → Type 0
+    Walks x = x .answer ≡ plain walked va a
+
+    matched-answers : (x : Matched) → Lowest (d .bank .cam) va slots 0 x → Walks (byMatched (look m d va) (d .registers .control) (d .bank .cam) (d .bank .ram) va a x)
+    matched-answers (M.At i) s = h .lanes .agree i va (s .1 .0) a
+    matched-answers M.Nothing s =
+        ap (λ (x : Decision). x .answer) (pick-yes _ _ _ (h .walking)) ∙ ap (λ (w : Walked). byWalk va a w .answer) (same-walk d h va)
+
+    abbrev decision : Decision
+    decision = decidedBy (look m d va) d va a
+
+    decision-is : decision ≡ byMatched (look m d va) (d .registers .control) (d .bank .cam) (d .bank .ram) va a (lookedUp (d .bank .cam) va)
+    decision-is = decided-on _ _ _ _ va a _ (h .on) refl
+
+    -- an attempt answers what the walk answers
+    pub attempt-answers : decision .answer ≡ plain walked va a
+    attempt-answers = ap (λ (x : Decision). x .answer) decision-is ∙ matched-answers (lookedUp (d .bank .cam) va) (lowest (d .bank .cam) va)
+
+  module _ (u : Uniform walked) (d : Device) (h : Coherent walked base d) (r : InRange (d .bank)) (va : VirtualAddress) (l : va .0 < limit) where
+    abbrev Fits : Decision → Type 0
+    Fits x = Held walked (entryFilled (d .bank) (x .fill))
+
+    -- what a walk fills agrees
+    page-fits : (p : Page) → walked va .found ≡ D.Page p → Proper (D.Page p) → Held walked (filled (d .bank) (madeWords (p .kind) (p .frame) (p .access) va))
+    page-fits p e n = fill-agrees walked (d .bank) _ r (made-agrees walked u va p l e (n .0)) (h .lanes)
+
+    found-fits : (a : Access) (s : Reads) (f : Found) → walked va .found ≡ f → Proper f → Fits (byFound va a s f)
+    unfolding byFound
+    found-fits a s D.Missing e n = h .lanes
+    found-fits a s D.NoPage e n = h .lanes
+    found-fits a s (D.Page p) e n = page-fits p e n
+
+    prefetch-found-fits : (s : Reads) (f : Found) → walked va .found ≡ f → Proper f → Fits (prefetchFound va s f)
+    unfolding prefetchFound
+    prefetch-found-fits s D.Missing e n = h .lanes
+    prefetch-found-fits s D.NoPage e n = h .lanes
+    prefetch-found-fits s (D.Page p) e n = page-fits p e n
+
+    walk-is : walked va .found ≡ look m d va .found
+    walk-is = ap (λ (w : Walked). w .found) (sym (same-walk d h va))
+
+    proper : Proper (look m d va .found)
+    proper = walk-proper (readIn m) (va .0) (d .registers .base .0)
+
+    matched-fits : (a : Access) (x : Matched) → Fits (byMatched (look m d va) (d .registers .control) (d .bank .cam) (d .bank .ram) va a x)
+    matched-fits a (M.At i) = h .lanes
+    matched-fits a M.Nothing = subst Fits (sym (pick-yes _ _ _ (h .walking))) (found-fits a (look m d va .reads) (look m d va .found) walk-is proper)
+
+    prefetch-matched-fits : (x : Matched) → Fits (prefetchMatched (look m d va) va x)
+    prefetch-matched-fits (M.At i) = h .lanes
+    prefetch-matched-fits M.Nothing = prefetch-found-fits (look m d va .reads) (look m d va .found) walk-is proper
+
+    -- a decision whose fill agrees keeps every slot in agreement
+    applied-keeps : (a : Access) (x : Decision) → Fits x → Coherent walked base (applied d (x .fill) (x .answer) va a)
+    applied-keeps a x f = record {
+      on = h .on;
+      walking = h .walking;
+      base-is = h .base-is;
+      lanes = f;
+      below = settled-below va a (d .pending) (x .answer) l (h .below);
+    }
+
+    pub attempt-keeps : (p : Prices) (b : Bill) (again : Bool) (a : Access) → Coherent walked base (attemptOf m p b again d va a .device)
+    attempt-keeps p b again a =
+        applied-keeps a (decision d h va a) (subst Fits (sym (decision-is d h va a)) (matched-fits a (lookedUp (d .bank .cam) va)))
+
+    prefetch-fits : Fits (prefetchDecided (look m d va) (d .bank .cam) va)
+    unfolding prefetchDecided
+    prefetch-fits = prefetch-matched-fits (lookedUp (d .bank .cam) va)
+
+  pub prefetch-keeps : Uniform walked → (d : Device) → Coherent walked base d → InRange (d .bank) → (p : Prices) (b : Bill) (v : ℕ) → Coherent walked base (prefetched m p b d v .device)
+  prefetch-keeps u d h r p b v =
+      let at = pageAt v in
+      let l : v % 2 ^ 14 * 2 ^ 10 < limit = omega arith in
+      applied-keeps u d h r at l Read (prefetchDecided (look m d at) (d .bank .cam) at) (prefetch-fits u d h r at l)

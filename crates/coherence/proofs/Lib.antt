@@ -1,0 +1,7 @@
+pub mod Refusing
+pub mod Slots
+pub mod Attempts
+pub mod Writes
+pub mod Sessions
+pub mod Answered
+pub mod Started

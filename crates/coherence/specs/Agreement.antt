@@ -1,0 +1,53 @@
+-- What the slots hold never shows: the plain answer, tables that agree with themselves, slots that agree with them (01, demand 3).
+use Rattle.page.specs.Ground.{ℕ, _/_, _^_, _<_, _≡_, true, List, getD, length}
+use Rattle.page.specs.Words.{lowBits, wordMatches, wordAccess, wordAddress}
+use Rattle.bank.specs.Slots.{slots}
+use Rattle.registers.specs.Fields.{limit, isOn, isWalking}
+use Rattle.registers.specs.declared.Pending.{Pending}
+use Rattle.registers.specs.declared.Pending.the-variants.{Nothing, Held}
+use Rattle.walk.specs.declared.Found.the-variants as D
+use Rattle.decision.specs.Types.{Access, VirtualAddress, Page, Walked, Answer}
+use Rattle.decision.specs.Decisions.{byAccess, byWalk}
+use Rattle.unit.specs.declared.Device.{Device}
+
+-- what the plain walk gives at each address
+abbrev pub Look : Type 0
+Look = VirtualAddress → Walked
+
+-- what the walk alone answers
+abbrev pub plain : Look → VirtualAddress → Access → Answer
+plain look va a = byWalk va a (look va) .answer
+
+-- where the walk finds a page, it finds the same page at every address of that page
+abbrev pub Uniform : Look → Type 0
+Uniform look =
+    (va va′ : VirtualAddress) (p : Page) → va .0 < limit → look va .found ≡ D.Page p →
+    va′ .0 / 2 ^ lowBits (p .kind) ≡ va .0 / 2 ^ lowBits (p .kind) → look va′ .found ≡ D.Page p
+
+-- a slot answers, at every address that it matches, what the walk answers
+abbrev pub Agrees : Look → ℕ → ℕ → Type 0
+Agrees look cam ram =
+    (va : VirtualAddress) → wordMatches cam va ≡ true → (a : Access) → byAccess (wordAccess ram) (wordAddress cam ram va) a ≡ plain look va a
+
+-- the lanes of 32 slots, each of which agrees
+pub record Lanes (look : Look) (cam ram : List ℕ) : Type 0 where
+  pub cams : length cam ≡ slots
+  pub rams : length ram ≡ slots
+  pub agree : (i : ℕ) → Agrees look (getD cam i 0) (getD ram i 0)
+
+-- a pending fault is at an address below 2^24: refusal 1 lets no other by, and a prefetch names no other
+abbrev pub Below : Pending → Type 0
+Below Nothing = Unit {0}
+Below (Held k va a) = va .0 < limit
+
+-- what a session keeps, part by part: on, walking, the base fixed, every slot in agreement
+pub record Kept (look : Look) (base control at : ℕ) (cam ram : List ℕ) (pending : Pending) : Type 0 where
+  pub on : isOn control ≡ true
+  pub walking : isWalking control ≡ true
+  pub base-is : at ≡ base
+  pub lanes : Lanes look cam ram
+  pub below : Below pending
+
+-- a device in such a session
+abbrev pub Coherent : Look → ℕ → Device → Type 0
+Coherent look base d = Kept look base (d .registers .control) (d .registers .base .0) (d .bank .cam) (d .bank .ram) (d .pending)

@@ -1,0 +1,47 @@
+-- What keeps the promise from being hollow: a request or a retry that the paper does not refuse is answered (01, "When the unit says no").
+use Rattle.page.specs.Ground.{ℕ, _%_, _<_, _≡_, true, false}
+use Rattle.walk.specs.Statements.{isMissing}
+use Rattle.bill.specs.Bill.{moneyOk}
+use Rattle.registers.specs.Answers.{isPrefetch, isRefusal}
+use Rattle.registers.specs.Fields.{limit}
+use Rattle.registers.specs.declared.Pending.the-variants.{Nothing, Held}
+use Rattle.decision.specs.Types.{Access, VirtualAddress, Lent, lentOk, Bill, Prices, Fault, Answer}
+use Rattle.unit.specs.declared.Device.{Device}
+use Rattle.unit.specs.Device.{inRange}
+use Rattle.unit.specs.Calls.{acknowledgeAt, requestOf, writeOf}
+use Rattle.coherence.specs.Agreement.{Look, plain, Coherent}
+use Rattle.coherence.specs.Sessions.{lookFrom}
+
+-- neither 8 nor 4 nor 9 holds
+pub record Ready (m : Lent) (p : Prices) (b : Bill) (d : Device) : Type 0 where
+  pub range : inRange d ≡ true
+  pub memories : lentOk m ≡ true
+  pub money : moneyOk p b ≡ true
+
+-- an answer that is no refusal, and is the plain walk's
+pub record Answered (look : Look) (va : VirtualAddress) (a : Access) (r : Answer) : Type 0 where
+  pub accepted : isRefusal r ≡ false
+  pub plainly : r ≡ plain look va a
+
+-- a request, with nothing pending and every descriptor that its walk needs at hand
+abbrev pub RequestAnswered : Lent → ℕ → Type 0
+RequestAnswered m base =
+    (p : Prices) (b : Bill) (d : Device) (va : VirtualAddress) (a : Access) →
+    Coherent (lookFrom m base) base d →
+    Ready m p b d →
+    d .pending ≡ Nothing →
+    va .0 < limit →
+    isMissing (lookFrom m base va .found) ≡ false →
+    Answered (lookFrom m base) va a (requestOf m p b d va a .answer)
+
+-- the retry of a pending request: acknowledge, with bit 0 set
+abbrev pub RetryAnswered : Lent → ℕ → Type 0
+RetryAnswered m base =
+    (p : Prices) (b : Bill) (d : Device) (v : ℕ) (k : Fault) (va : VirtualAddress) (a : Access) →
+    Coherent (lookFrom m base) base d →
+    Ready m p b d →
+    d .pending ≡ Held k va a →
+    isPrefetch k ≡ false →
+    v % 2 ≡ 1 →
+    isMissing (lookFrom m base va .found) ≡ false →
+    Answered (lookFrom m base) va a (writeOf m p b d acknowledgeAt v .answer)

@@ -1,0 +1,4 @@
+pub mod Agreement
+pub mod Sessions
+pub mod Answered
+pub mod Started

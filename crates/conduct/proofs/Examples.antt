@@ -1,0 +1,104 @@
+-- The theorems are not empty: small devices, computed by hand and here. Assumes nothing.
+use mathlib.Core.Path.{_≡_, refl}
+use mathlib.Core.List.{[], _∷_}
+use Prim.Native.Nat.{ℕ}
+use lib.Count.{trailingZeros}
+use lib.Ieee.{ofBits, ofFields, odd, le, lt, eq}
+use lib.ListN.{take}
+use Rattle.page.specs.Low.{upper, joined}
+use Rattle.page.specs.Pick.{pick, _and_, _or_}
+use Rattle.page.specs.Words.{virtual, physical, kindOf, wordMatches, wordAddress, wordDropped, wordFlushed, wordFlushedAt, madeCam, madeRam}
+use Rattle.page.specs.declared.Access.the-variants.{Read, Write}
+use Rattle.memory.specs.Memory.{lent, memoryOk, apart, memoriesOk, holds, placeWithin, placeIn, wordOf}
+use Rattle.walk.specs.Walk.{firstOf, firstAt, readIn, walkFrom}
+use Rattle.bill.specs.Bill.{f0, freshBill, figureOk, every, moneyOk}
+use Rattle.bill.specs.declared.Price.the-variants.{Flat}
+use Rattle.bank.specs.Slots.{lookedFrom, allFrom, bankOk, freshBank, slotAt}
+use Rattle.bank.specs.Changes.{nextSlot, nextVictim, storedAt, lockedAt, filled, flushedAll, flushedEntry}
+use Rattle.registers.specs.Fields.{entryOk, registersOk, freshRegisters, withControl, withStaged, camAddress}
+use Rattle.registers.specs.Table.{listed, noRegister, whenBit, commandOf}
+use Rattle.registers.specs.declared.Pending.the-variants as P
+use Rattle.registers.specs.declared.Answer.the-variants as A
+use Rattle.registers.specs.declared.Fault.the-variants as K
+use Rattle.decision.specs.Decisions.{byAccess, byFound, decided}
+use Rattle.unit.specs.Refusals.{refuses}
+use Rattle.unit.specs.Device.{freshDevice, inRange, setRegisters, setBank}
+use Rattle.unit.specs.Calls.{acknowledgeAt, lacks, isMalformed, isUntimely, writeLacks, requestOf, writeOf}
+use Rattle.unit.specs.Machine.{request, write, answered, Step, step}
+use Rattle.conduct.specs.Types.{Access, Words, Lent, Prices, Device}
+use Rattle.conduct.specs.Flushed.{flushAt, entryFlushAt}
+use Rattle.conduct.specs.Metered.{oneFresh, oneRetry}
+
+abbrev free : Prices
+free = record { onchip = Flat f0; external = Flat f0 }
+
+-- two first-level words: 11200802, a section at 11200000 for reading, and a fault
+abbrev twoWords : Lent
+twoWords = lent (0x02 ∷ 0x08 ∷ 0x20 ∷ 0x11 ∷ 0 ∷ 0 ∷ 0 ∷ 0 ∷ []) 0 [] 0
+
+-- on and walking from base 0, with the lock base at 5 and the victim at 2
+abbrev running : Device
+running = setBank (setRegisters freshDevice (withControl freshRegisters 7)) (lockedAt freshBank 5 2)
+
+abbrev section : Words
+section = record { cam = 0x4; ram = 0x11200200 }
+
+abbrev asking : Device → ℕ → Access → Step
+asking d va a = step twoWords d freshBill (request (virtual va) a free)
+
+-- a fresh device is off: physical is virtual; 2^24 is refused 1
+fresh-answers :
+    (asking freshDevice 0x012345 Write .said ≡ answered (A.Address (physical 0x012345)))
+    × (asking freshDevice 0x012345 Write .tally ≡ oneFresh 0)
+    × (asking freshDevice 0x1000000 Read .said ≡ answered (A.Refused 1))
+unfolding requestOf refuses pick _and_ _or_ inRange registersOk entryOk bankOk allFrom memoriesOk memoryOk apart moneyOk every figureOk le lt eq ofBits ofFields odd trailingZeros lacks decided
+fresh-answers = (refl, refl, refl)
+
+-- a walk that finds a page fills slot 5 and moves the victim on, also where access is then refused
+walk-fills :
+    (asking running 0x012345 Read .said ≡ answered (A.Address (physical 0x11212345)))
+    × (asking running 0x012345 Read .tally ≡ oneFresh 1)
+    × (asking running 0x012345 Write .said ≡ answered (A.Fault K.Permission))
+    × (slotAt (asking running 0x012345 Write .device .bank) 5 ≡ section)
+    × (asking running 0x012345 Write .device .bank .victim ≡ 6)
+unfolding requestOf refuses pick _and_ _or_ inRange registersOk entryOk bankOk allFrom memoriesOk memoryOk apart moneyOk every figureOk le lt eq ofBits ofFields odd trailingZeros lacks decided lookedFrom wordMatches kindOf walkFrom firstAt upper joined readIn placeIn placeWithin holds wordOf firstOf byFound byAccess filled nextSlot nextVictim madeCam madeRam
+walk-fills = (refl, refl, refl, refl, refl)
+
+-- one that finds none fills nothing, and one that lacks its word is refused 3
+walk-faults :
+    (asking running 0x112345 Read .said ≡ answered (A.Fault K.Translation))
+    × (asking running 0x112345 Read .tally ≡ oneFresh 1)
+    × (asking running 0x112345 Read .device .bank ≡ running .bank)
+    × (asking running 0x212345 Read .said ≡ answered (A.Refused 3))
+unfolding requestOf refuses pick _and_ _or_ inRange registersOk entryOk bankOk allFrom memoriesOk memoryOk apart moneyOk every figureOk le lt eq ofBits ofFields odd trailingZeros lacks decided lookedFrom wordMatches kindOf walkFrom firstAt upper readIn placeIn placeWithin holds wordOf firstOf byFound
+walk-faults = (refl, refl, refl, refl)
+
+-- on with a slot that the host loaded after the miss: one acknowledgement gives the address
+abbrev waiting : Device
+waiting = record {
+  registers = withControl freshRegisters 3;
+  bank = storedAt freshBank 0 section;
+  pending = P.Held K.Miss (virtual 0x012345) Read;
+}
+
+acknowledged :
+    (step twoWords waiting freshBill (write acknowledgeAt 1 free) .said ≡ answered (A.Address (physical 0x11212345)))
+    × (step twoWords waiting freshBill (write acknowledgeAt 1 free) .tally ≡ oneRetry 0)
+    × (step twoWords waiting freshBill (write acknowledgeAt 1 free) .device .pending ≡ P.Nothing)
+unfolding writeOf refuses pick _and_ _or_ inRange registersOk entryOk bankOk allFrom memoriesOk memoryOk apart moneyOk every figureOk le lt eq ofBits ofFields odd trailingZeros noRegister isMalformed isUntimely writeLacks lacks commandOf listed decided lookedFrom wordMatches kindOf byAccess wordAddress upper joined
+acknowledged = (refl, refl, refl)
+
+-- slot 0 is valid, slot 1 valid and preserved, and the CAM registers have slot 1's address
+abbrev loaded : Device
+loaded = record {
+  registers = withStaged freshRegisters (record { camhi = 0; camlo = 0x4000; ramhi = 0; ramlo = 0 });
+  bank = storedAt (storedAt freshBank 0 section) 1 (record { cam = 0x400c; ram = 0x11300200 });
+  pending = P.Nothing;
+}
+
+-- a global flush leaves slot 1, an entry flush clears its V, preserved or not
+flushed :
+    (take 2 (step twoWords loaded freshBill (write flushAt 1 free) .device .bank .cam) ≡ 0 ∷ 0x400c ∷ [])
+    × (take 2 (step twoWords loaded freshBill (write entryFlushAt 1 free) .device .bank .cam) ≡ 0x4 ∷ 0x4008 ∷ [])
+unfolding writeOf refuses pick _and_ _or_ inRange registersOk entryOk bankOk allFrom noRegister isMalformed isUntimely writeLacks commandOf listed whenBit flushedAll flushedEntry camAddress wordFlushed wordFlushedAt wordDropped wordMatches kindOf
+flushed = (refl, refl)

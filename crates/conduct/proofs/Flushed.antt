@@ -1,0 +1,107 @@
+-- Demand 2, the flushes: V is kept exactly where it should be, and nothing else changes. Assumes nothing.
+use mathlib.Core.Path.{_≡_, refl, sym, _∙_, ap, subst}
+use mathlib.Core.Bool.{true, not}
+use Prim.Native.Nat.{ℕ, _/_, _%_}
+use native.Mathlib.Omega.{arith}
+use borrow.Author.Tests.{eq-eqb, ne-eqb}
+use Rattle.page.specs.Pick.{pick, _and_, _or_}
+use Rattle.page.specs.Words.{wordValid, wordPreserved, wordMatches, wordFlushed, wordFlushedAt}
+use Rattle.page.proofs.Picks.{pick-yes, pick-no, pick-by, and-yes, and-no}
+use Rattle.page.proofs.Slot.{dropped-off, dropped-rest}
+use Rattle.bank.specs.Changes.{bankFlushed, bankFlushedAt}
+use Rattle.bank.proofs.Flushes.{flush-word, flush-exact as word-exact, entry-word}
+use Rattle.registers.specs.Fields.{camAddress}
+use Rattle.registers.specs.Table.{listed, noRegister, whenBit, commandOf}
+use Rattle.registers.specs.declared.Command.the-variants as C
+use Rattle.registers.specs.declared.Tending.the-variants.{Flush, FlushEntry}
+use Rattle.unit.specs.Refusals.{Clear}
+use Rattle.unit.specs.Device.{inRange, setBank, refusedWith}
+use Rattle.unit.specs.Calls.{isMalformed, isUntimely, writeLacks, writeRefusals, carried, writeOf}
+use Rattle.conduct.specs.Types.{VirtualAddress, Lent, Bill, Prices, Command, Tending, Device, Outcome}
+use Rattle.conduct.specs.Flushed.{flushAt, entryFlushAt, camAt, ValidWhere, Flushes, FlushExact}
+use Rattle.conduct.proofs.Firsts.{clear-goes-on, refuses-by}
+
+-- a flushed word keeps all but V
+abbrev Rest : ℕ → ℕ → Type 0
+Rest w x = (x / 8 ≡ w / 8) × (x % 4 ≡ w % 4)
+
+flushed-rest : (w : ℕ) → Rest w (wordFlushed w)
+unfolding wordFlushed
+flushed-rest w = pick-by (Rest w) _ _ _ (λ _. (refl, refl)) (λ _. dropped-rest w)
+
+flushedAt-rest : (va : VirtualAddress) (w : ℕ) → Rest w (wordFlushedAt va w)
+unfolding wordFlushedAt
+flushedAt-rest va w = pick-by (Rest w) _ _ _ (λ _. dropped-rest w) (λ _. (refl, refl))
+
+flushedAt-valid : (va : VirtualAddress) (w : ℕ) → wordValid (wordFlushedAt va w) ≡ (not (wordMatches w va) and wordValid w)
+unfolding wordFlushedAt
+flushedAt-valid va w =
+    pick-by (λ (x : ℕ). wordValid x ≡ (not (wordMatches w va) and wordValid w)) _ _ _
+    (λ e. dropped-off w ∙ sym (and-no _ _ (ap not e)))
+    (λ e. sym (and-yes _ _ (ap not e)))
+
+-- a device with the CAM lane rewritten word by word
+module _ (d : Device) where
+  all-exact : ValidWhere wordPreserved d (setBank d (bankFlushed (d .bank)))
+  all-exact = record {
+    valid = λ j. word-exact (d .bank .cam) j;
+    above = λ j. ap (λ (x : ℕ). x / 8) (flush-word (d .bank .cam) j) ∙ flushed-rest (camAt d j) .0;
+    below = λ j. ap (λ (x : ℕ). x % 4) (flush-word (d .bank .cam) j) ∙ flushed-rest (camAt d j) .1;
+    ram = refl;
+    lock = refl;
+    victim = refl;
+    registers = refl;
+    pending = refl;
+  }
+
+  entry-exact : (va : VirtualAddress) → ValidWhere (λ w. not (wordMatches w va)) d (setBank d (bankFlushedAt (d .bank) va))
+  entry-exact va = record {
+    valid = λ j. ap wordValid (entry-word va (d .bank .cam) j) ∙ flushedAt-valid va (camAt d j);
+    above = λ j. ap (λ (x : ℕ). x / 8) (entry-word va (d .bank .cam) j) ∙ flushedAt-rest va (camAt d j) .0;
+    below = λ j. ap (λ (x : ℕ). x % 4) (entry-word va (d .bank .cam) j) ∙ flushedAt-rest va (camAt d j) .1;
+    ram = refl;
+    lock = refl;
+    victim = refl;
+    registers = refl;
+    pending = refl;
+  }
+
+module _ (m : Lent) (d : Device) (b : Bill) (p : Prices) (v : ℕ) where
+  -- a flush register has no refusal of its own
+  flush-clear : inRange d ≡ true → Clear (writeRefusals m p b d flushAt v)
+  unfolding noRegister isMalformed isUntimely writeLacks _and_ _or_
+  flush-clear h = (ap not h, (refl, (refl, (refl, (refl, (refl, (refl, (refl, (refl, tt)))))))))
+
+  entry-clear : inRange d ≡ true → Clear (writeRefusals m p b d entryFlushAt v)
+  unfolding noRegister isMalformed isUntimely writeLacks _and_ _or_
+  entry-clear h = (ap not h, (refl, (refl, (refl, (refl, (refl, (refl, (refl, (refl, tt)))))))))
+
+  goes : (o : ℕ) (t : Tending) → commandOf o v ≡ whenBit v t → Clear (writeRefusals m p b d o v) → v % 2 ≡ 1 → writeOf m p b d o v ≡ carried m p b d (C.Tend t)
+  unfolding writeOf whenBit
+  goes o t e c h =
+      clear-goes-on (refusedWith d b) (carried m p b d (commandOf o v)) (writeRefusals m p b d o v) c
+      ∙ ap (carried m p b d) (e ∙ pick-yes _ _ _ (eq-eqb (v % 2) 1 h))
+
+  stays : (o : ℕ) (t : Tending) → commandOf o v ≡ whenBit v t → v % 2 ≡ 0 → writeOf m p b d o v .device ≡ d
+  unfolding writeOf whenBit
+  stays o t e h =
+      refuses-by (refusedWith d b) (carried m p b d (commandOf o v)) (λ (x : Outcome). x .device ≡ d) (writeRefusals m p b d o v) (λ k. refl)
+      (λ _. ap (λ (c : Command). carried m p b d c .device) (e ∙ pick-no _ _ _ (ne-eqb (v % 2) 1 (λ q. omega (arith, q, h)))))
+
+  at-flush : commandOf flushAt v ≡ whenBit v Flush
+  unfolding commandOf listed pick
+  at-flush = refl
+
+  at-entry : commandOf entryFlushAt v ≡ whenBit v FlushEntry
+  unfolding commandOf listed pick
+  at-entry = refl
+
+  flushes : Flushes m d b p v
+  flushes = record {
+    all = λ r h. subst (λ (x : Outcome). ValidWhere wordPreserved d (x .device)) (sym (goes flushAt Flush at-flush (flush-clear r) h)) (all-exact d);
+    entry = λ r h. subst (λ (x : Outcome). ValidWhere (λ w. not (wordMatches w (camAddress (d .registers .staged)))) d (x .device)) (sym (goes entryFlushAt FlushEntry at-entry (entry-clear r) h)) (entry-exact d (camAddress (d .registers .staged)));
+    none = λ h. (stays flushAt Flush at-flush h, stays entryFlushAt FlushEntry at-entry h);
+  }
+
+pub flush-exact : FlushExact
+flush-exact = flushes

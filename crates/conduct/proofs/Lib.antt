@@ -1,0 +1,15 @@
+pub mod Firsts
+pub mod Tests
+pub mod Attempts
+pub mod Prefetches
+pub mod Writes
+pub mod Refused
+pub mod Calls
+pub mod Metered
+pub mod Filled
+pub mod Cached
+pub mod Flushed
+pub mod Answered
+pub mod Frames
+pub mod Ranged
+pub mod Examples

@@ -1,0 +1,91 @@
+-- What a prefetch comes to, by the plain walk of its address. Assumes nothing.
+use mathlib.Core.Path.{_≡_, refl, _∙_, ap}
+use mathlib.Core.Bool.{Bool, true, false, true≢false, false≢true}
+use Rattle.page.specs.Pick.{_and_}
+use Rattle.page.proofs.Picks.{and-left, and-right}
+use Rattle.walk.specs.Statements.{isMissing}
+use Rattle.walk.specs.declared.Found.the-variants as D
+use Rattle.bill.specs.declared.Seen.the-variants as S
+use Rattle.bank.specs.Slots.{lookedUp}
+use Rattle.bank.specs.declared.Matched.the-variants as M
+use Rattle.registers.specs.Answers.{isRefusal}
+use Rattle.registers.specs.Fields.{isOn, isWalking}
+use Rattle.decision.specs.Prefetches.{prefetchFound, prefetchMatched, prefetchDecided}
+use Rattle.unit.specs.Device.{look}
+use Rattle.unit.specs.Calls.{noMatch}
+use Rattle.conduct.specs.Types.{VirtualAddress, Lent, Reads, Found, Walked, Matched, Decision, Device}
+use Rattle.conduct.specs.Asked.{walksFor}
+use Rattle.conduct.specs.Filled.{pageFill}
+use Rattle.conduct.proofs.Tests.{rest, front}
+use Rattle.conduct.proofs.Attempts.{Still, Does, does-still, does-walk}
+
+module _ (va : VirtualAddress) (r : Reads) where
+  found-answers : (f : Found) → isMissing f ≡ false → isRefusal (prefetchFound va r f .answer) ≡ false
+  unfolding prefetchFound
+  found-answers D.Missing h = absurd (true≢false h)
+  found-answers D.NoPage h = refl
+  found-answers (D.Page p) h = refl
+
+  found-fill : (f : Found) → prefetchFound va r f .fill ≡ pageFill va f
+  unfolding prefetchFound
+  found-fill D.Missing = refl
+  found-fill D.NoPage = refl
+  found-fill (D.Page p) = refl
+
+  found-reads : (f : Found) → isMissing f ≡ false → prefetchFound va r f .reads ≡ r
+  unfolding prefetchFound
+  found-reads D.Missing h = absurd (true≢false h)
+  found-reads D.NoPage h = refl
+  found-reads (D.Page p) h = refl
+
+  found-seen : (f : Found) → prefetchFound va r f .seen ≡ S.Nothing
+  unfolding prefetchFound
+  found-seen D.Missing = refl
+  found-seen D.NoPage = refl
+  found-seen (D.Page p) = refl
+
+module _ (w : Walked) (va : VirtualAddress) where
+  matched-answers : (x : Matched) → (noMatch x and isMissing (w .found)) ≡ false → isRefusal (prefetchMatched w va x .answer) ≡ false
+  matched-answers (M.At i) h = refl
+  matched-answers M.Nothing h = found-answers va (w .reads) (w .found) (rest true _ refl h)
+
+  matched-seen : (x : Matched) → prefetchMatched w va x .seen ≡ S.Nothing
+  matched-seen (M.At i) = refl
+  matched-seen M.Nothing = found-seen va (w .reads) (w .found)
+
+  matched-still : (x : Matched) → noMatch x ≡ false → Still (prefetchMatched w va x)
+  matched-still (M.At i) h = (refl, refl)
+  matched-still M.Nothing h = absurd (true≢false h)
+
+  matched-walks : (x : Matched) → noMatch x ≡ true → prefetchMatched w va x ≡ prefetchFound va (w .reads) (w .found)
+  matched-walks (M.At i) h = absurd (false≢true h)
+  matched-walks M.Nothing h = refl
+
+module _ (m : Lent) (d : Device) (va : VirtualAddress) where
+  abbrev x : Decision
+  x = prefetchDecided (look m d va) (d .bank .cam) va
+
+  pub prefetch-seen : x .seen ≡ S.Nothing
+  unfolding prefetchDecided
+  prefetch-seen = matched-seen (look m d va) va (lookedUp (d .bank .cam) va)
+
+  -- a prefetch that lacks no descriptor
+  module _ (h : (noMatch (lookedUp (d .bank .cam) va) and isMissing (look m d va .found)) ≡ false) where
+    pub prefetch-answers : isRefusal (x .answer) ≡ false
+    unfolding prefetchDecided
+    prefetch-answers = matched-answers (look m d va) va (lookedUp (d .bank .cam) va) h
+
+    -- while the unit is on and walking
+    module _ (on : isOn (d .registers .control) ≡ true) (walking : isWalking (d .registers .control) ≡ true) where
+      pub prefetch-does : Does m d va x
+      unfolding prefetchDecided walksFor
+      prefetch-does = by-walk (walksFor d va) refl
+        where
+          by-walk : (t : Bool) → walksFor d va ≡ t → Does m d va x
+          by-walk false e = does-still m d va e x (matched-still (look m d va) va (lookedUp (d .bank .cam) va) (front _ _ walking (rest _ _ on e)))
+          by-walk true e =
+              let n = and-left _ _ (and-right (isOn (d .registers .control)) _ e) in
+              let y = matched-walks (look m d va) va (lookedUp (d .bank .cam) va) n in
+              does-walk m d va e x
+              (ap (λ (y : Decision). y .fill) y ∙ found-fill va (look m d va .reads) (look m d va .found))
+              (ap (λ (y : Decision). y .reads) y ∙ found-reads va (look m d va .reads) (look m d va .found) (rest _ _ n h))

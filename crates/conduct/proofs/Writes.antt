@@ -1,0 +1,129 @@
+-- What a write does past its refusals, by its offset: it is never refused there. Assumes nothing.
+use mathlib.Core.Path.{_≡_, refl, sym, _∙_, ap, subst}
+use mathlib.Core.Bool.{true, false, not, true≢false}
+use Prim.Native.Nat.{ℕ, _/_, _%_}
+use native.Mathlib.Omega.{arith}
+use lib.Dec.{eqb, leb}
+use borrow.Author.Tests.{eqb-false, leb-false, lt-ltb, not-false}
+use Rattle.page.specs.Pick.{pick, _and_, _or_}
+use Rattle.page.proofs.Picks.{pick-yes, pick-by, and-yes, and-left, and-right}
+use Rattle.walk.specs.Statements.{isMissing}
+use Rattle.bank.specs.Slots.{slots, lookedUp}
+use Rattle.registers.specs.Answers.{isPrefetch}
+use Rattle.registers.specs.Fields.{isOn, isWalking}
+use Rattle.registers.specs.Table.{listed, controlCommand, lockCommand, loadCommand, whenBit, commandOf}
+use Rattle.registers.specs.declared.Pending.the-variants.{Nothing, Held}
+use Rattle.registers.specs.declared.Command.the-variants as C
+use Rattle.registers.specs.declared.Tending.the-variants.{Flush, FlushEntry}
+use Rattle.registers.proofs.Offsets.{by-offset}
+use Rattle.decision.specs.Prefetches.{pageAt}
+use Rattle.unit.specs.Refusals.{Clear}
+use Rattle.unit.specs.Device.{look, cleared, doneWith, attemptOf}
+use Rattle.unit.specs.Calls.{prefetchAt, acknowledgeAt, lockAt, loadAt, noMatch, lacks, isReadOnly, mayWalk, retryLacks, writeLacks, isMalformed, isUntimely, writeRefusals, prefetched, heldRetried, retried, carried}
+use Rattle.conduct.specs.Types.{Access, VirtualAddress, Lent, Bill, Prices, Fault, Pending, Command, Device, Outcome, Tending}
+use Rattle.conduct.specs.Asked.{Asked, nothing, attempt, prefetch, retryAsked, writeAsked}
+use Rattle.conduct.proofs.Tests.{rest, either-left, either-right, pick-both, four}
+
+module _ (m : Lent) (p : Prices) (b : Bill) (d : Device) (v : ℕ) (P : Asked → Outcome → Type 0) where
+  -- what a write of acknowledge does: nothing, a drop, or a retry
+  module _
+      (stays : P nothing (doneWith b d))
+      (drops : P nothing (doneWith b (cleared d)))
+      (retries : (va : VirtualAddress) (a : Access) → lacks m d va ≡ false → P (attempt true va a) (attemptOf m p b true d va a)) where
+    held-by : (k : Fault) (va : VirtualAddress) (a : Access) → retryLacks m d (Held k va a) ≡ false → P (retryAsked (Held k va a)) (heldRetried m p b d k va a)
+    held-by k va a h = pick-both P _ _ _ _ _ (λ _. drops) (λ e. retries va a (rest (not (isPrefetch k)) _ (ap not e) h))
+
+    retry-by : (q : Pending) → retryLacks m d q ≡ false → P (retryAsked q) (retried m p b d q)
+    retry-by Nothing h = stays
+    retry-by (Held k va a) h = held-by k va a h
+
+    acknowledge-by : writeLacks m d acknowledgeAt v ≡ false → P (writeAsked (d .pending) acknowledgeAt v) (carried m p b d (C.Acknowledge (eqb (v % 2) 1)))
+    unfolding writeAsked writeLacks pick _and_ _or_
+    acknowledge-by h = pick-both P (eqb (v % 2) 1) _ _ _ _ (λ e. retry-by (d .pending) (rest _ _ e h)) (λ _. stays)
+
+  -- what a write of another register does: it leaves some device, and neither reads nor meters
+  module _ (sets : (d′ : Device) → P nothing (doneWith b d′)) where
+    abbrev Carries : Command → Type 0
+    Carries c = P nothing (carried m p b d c)
+
+    control-by : Carries (controlCommand v)
+    unfolding controlCommand
+    control-by = pick-by Carries _ _ _ (λ _. sets _) (λ _. sets _)
+
+    bit-by : (t : Tending) → Carries (whenBit v t)
+    unfolding whenBit
+    bit-by t = pick-by Carries _ _ _ (λ _. sets _) (λ _. sets _)
+
+    lock-by : isMalformed lockAt v ≡ false → Carries (lockCommand v)
+    unfolding isMalformed lockCommand _and_ _or_
+    lock-by h =
+        let e = either-left (leb slots (v / 1024) or leb slots (v / 16 % 64)) false h in
+        let l = lt-ltb (v / 1024) slots (leb-false slots (v / 1024) (either-left _ _ e)) in
+        let r = lt-ltb (v / 16 % 64) slots (leb-false slots (v / 16 % 64) (either-right (leb slots (v / 1024)) _ e)) in
+        subst Carries (sym (pick-yes _ _ _ (and-yes _ _ l ∙ r))) (sets _)
+
+    load-by : isMalformed loadAt v ≡ false → Carries (loadCommand v)
+    unfolding isMalformed loadCommand _and_ _or_
+    load-by h =
+        pick-by Carries _ _ _ (λ _. sets _)
+        (λ x. pick-by Carries _ _ _ (λ _. sets _)
+        (λ y. pick-by Carries _ _ _ (λ _. sets _)
+        (λ z. absurd (four (v % 4) (omega arith) (eqb-false (v % 4) 0 x) (eqb-false (v % 4) 1 y) (eqb-false (v % 4) 2 z) (eqb-false (v % 4) 3 h)))))
+
+  abbrev Sets : ℕ → Type 0
+  Sets o = mayWalk o ≡ false → (d′ : Device) → P nothing (doneWith b d′)
+
+  abbrev Goes : ℕ → Type 0
+  Goes o = Clear (writeRefusals m p b d o v) → P (writeAsked (d .pending) o v) (carried m p b d (commandOf o v))
+
+  read-only : (o : ℕ) → isReadOnly o ≡ true → Goes o
+  read-only o e c = absurd (true≢false (sym e ∙ c .1 .1 .0))
+
+  -- what holds of each of these holds of what every write does past its refusals
+  pub write-by :
+      P nothing (doneWith b d)
+      → P nothing (doneWith b (cleared d))
+      → ((va : VirtualAddress) (a : Access) → lacks m d va ≡ false → P (attempt true va a) (attemptOf m p b true d va a))
+      → (Clear (writeRefusals m p b d prefetchAt v) → P (prefetch (pageAt v)) (prefetched m p b d v))
+      → (o : ℕ) → Sets o → Goes o
+  unfolding commandOf listed writeAsked pick _and_ _or_
+  write-by stays drops retries fetches =
+      by-offset (λ (o : ℕ). Sets o → Goes o)
+      (λ s c. fetches c)
+      (λ s. read-only 0x04 refl)
+      (λ s c. control-by (s refl))
+      (λ s. read-only 0x0c refl)
+      (λ s. read-only 0x10 refl)
+      (λ s. read-only 0x14 refl)
+      (λ s c. acknowledge-by stays drops retries (c .1 .1 .1 .1 .1 .1 .1 .1 .0))
+      (λ s c. s refl _)
+      (λ s c. s refl _)
+      (λ s c. lock-by (s refl) (c .1 .1 .1 .1 .1 .0))
+      (λ s c. load-by (s refl) (c .1 .1 .1 .1 .1 .0))
+      (λ s c. s refl _)
+      (λ s c. s refl _)
+      (λ s c. s refl _)
+      (λ s c. s refl _)
+      (λ s c. bit-by (s refl) Flush)
+      (λ s c. bit-by (s refl) FlushEntry)
+      (λ s. read-only 0x44 refl)
+      (λ s. read-only 0x48 refl)
+      (λ s. read-only 0x4c refl)
+      (λ s. read-only 0x50 refl)
+      (λ o e s c. absurd (true≢false (sym e ∙ c .1 .0)))
+
+-- a prefetch that is not refused finds the unit on and walking, and lacks no descriptor
+module _ (m : Lent) (p : Prices) (b : Bill) (d : Device) (v : ℕ) (c : Clear (writeRefusals m p b d prefetchAt v)) where
+  prefetch-timely : (isOn (d .registers .control) and isWalking (d .registers .control)) ≡ true
+  unfolding isUntimely
+  prefetch-timely = not-false _ (rest true _ refl (either-left _ _ (c .1 .1 .1 .1 .1 .1 .1 .0)))
+
+  pub prefetch-on : isOn (d .registers .control) ≡ true
+  prefetch-on = and-left _ _ prefetch-timely
+
+  pub prefetch-walking : isWalking (d .registers .control) ≡ true
+  prefetch-walking = and-right (isOn (d .registers .control)) _ prefetch-timely
+
+  pub prefetch-there : (noMatch (lookedUp (d .bank .cam) (pageAt v)) and isMissing (look m d (pageAt v) .found)) ≡ false
+  unfolding writeLacks
+  prefetch-there = rest true _ refl (either-left _ _ (c .1 .1 .1 .1 .1 .1 .1 .1 .0))

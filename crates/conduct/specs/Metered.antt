@@ -1,0 +1,67 @@
+-- Demand 2, the meters and the bill after each call (01, "Meters and the walk bill").
+use Rattle.page.specs.Ground.{ℕ, _≡_, true, false, [], _∷_}
+use Rattle.page.specs.Pick.{pick}
+use Rattle.memory.specs.Reads.{wordCount}
+use Rattle.meters.specs.Posted.{noTally, posted, Within}
+use Rattle.bill.specs.Bill.{readsPosted, seenPosted}
+use Rattle.bill.specs.declared.Seen.the-variants as S
+use Rattle.bank.specs.Slots.{lookedUp}
+use Rattle.registers.specs.Fields.{isOn}
+use Rattle.unit.specs.Calls.{noMatch}
+use Rattle.unit.specs.Machine.{Call, request, write, read, drop-fault, shift, step, Bench, run}
+use Rattle.conduct.specs.Types.{VirtualAddress, Lent, Tally, Bill, Prices, Seen, Device}
+use Rattle.conduct.specs.Refused.{Accepted, saidRefused}
+use Rattle.conduct.specs.Asked.{Asked, nothing, attempt, prefetch, asked, readsFor}
+
+-- a fresh request and the words that it read, a retry and its words, words alone
+abbrev pub oneFresh : ℕ → Tally
+oneFresh n = record { fresh = 1; retries = 0; words = n }
+
+abbrev pub oneRetry : ℕ → Tally
+oneRetry n = record { fresh = 0; retries = 1; words = n }
+
+abbrev pub wordsOnly : ℕ → Tally
+wordsOnly n = record { fresh = 0; retries = 0; words = n }
+
+-- what is added to the meters: the words are those that the plain walk reads
+abbrev pub tallyAsked : Lent → Device → Asked → Tally
+tallyAsked m d nothing = noTally
+tallyAsked m d (attempt false va a) = oneFresh (wordCount (readsFor m d va))
+tallyAsked m d (attempt true va a) = oneRetry (wordCount (readsFor m d va))
+tallyAsked m d (prefetch va) = wordsOnly (wordCount (readsFor m d va))
+
+-- a call that is not refused adds exactly that
+abbrev pub Metered : Type 0
+Metered = (m : Lent) (d : Device) (b : Bill) (c : Call) → Accepted m d b c → step m d b c .tally ≡ tallyAsked m d (asked d c)
+
+-- an attempt is smoothed while the unit is on, by whether a slot matches
+unfoldable pub seenFor : Device → VirtualAddress → Seen
+seenFor d va = pick (isOn (d .registers .control)) (pick (noMatch (lookedUp (d .bank .cam) va)) S.NoMatch S.Match) S.Nothing
+
+-- what is billed: each word that the plain walk reads, in order, then the smoothing; a prefetch is not smoothed
+abbrev pub billAsked : Lent → Device → Prices → Bill → Asked → Bill
+billAsked m d p b nothing = b
+billAsked m d p b (attempt again va a) = seenPosted (readsPosted p b (readsFor m d va)) (seenFor d va)
+billAsked m d p b (prefetch va) = readsPosted p b (readsFor m d va)
+
+-- the bill after a call, at the prices given with it
+abbrev pub billOf : Lent → Device → Bill → Call → Bill
+billOf m d b (request va a p) = billAsked m d p b (asked d (request va a p))
+billOf m d b (write o v p) = billAsked m d p b (asked d (write o v p))
+billOf m d b (read o) = b
+billOf m d b drop-fault = b
+billOf m d b (shift va) = b
+
+-- a call that is not refused bills exactly that
+abbrev pub Billed : Type 0
+Billed = (m : Lent) (d : Device) (b : Bill) (c : Call) → Accepted m d b c → step m d b c .bill ≡ billOf m d b c
+
+-- a bench posts the tally of each call to its meters, and nothing else; no tally leaves them, and a refused call the whole bench
+pub record Posts (m : Lent) (s : Bench) (c : Call) : Type 0 where
+  pub posts : run m s (c ∷ []) .meters ≡ posted (s .meters) (step m (s .device) (s .bill) c .tally)
+  pub stay : Within (s .meters) → step m (s .device) (s .bill) c .tally ≡ noTally → run m s (c ∷ []) .meters ≡ s .meters
+  pub refused : Within (s .meters) → saidRefused (step m (s .device) (s .bill) c .said) ≡ true → run m s (c ∷ []) ≡ s
+
+-- so it is for every bench and call
+abbrev pub PostedMeters : Type 0
+PostedMeters = (m : Lent) (s : Bench) (c : Call) → Posts m s c

@@ -1,0 +1,97 @@
+-- The plain walk over an image answers as the list, and the start is what its writes leave. Assumes nothing.
+use mathlib.Core.Path.{_≡_, refl, sym, _∙_, ap, ap₂, subst}
+use mathlib.Core.Bool.{Bool, true, false, true≢false, false≢true}
+use mathlib.Core.List.{List}
+use Prim.Native.Nat.{ℕ, _+_, _*_, _/_, _%_, _^_, _<_, _≤_}
+use native.Mathlib.Omega.{arith}
+use Rattle.page.proofs.Picks.{pick-by}
+use Rattle.page.specs.Pick.{pick}
+use Rattle.page.specs.Words.{permits}
+use Rattle.memory.specs.Memory.{Lent, lentOk}
+use Rattle.walk.specs.Walk.{physicalOf}
+use Rattle.walk.specs.Statements.{isMissing}
+use Rattle.walk.specs.declared.Found.the-variants as D
+use Rattle.walk.proofs.Walks.{walk-refused}
+use Rattle.records.specs.declared.Mapping.{Mapping}
+use Rattle.records.specs.declared.Held.{Held}
+use Rattle.records.specs.declared.Held.the-variants.{By, Nobody}
+use Rattle.records.specs.declared.Meaning.{Meaning}
+use Rattle.records.specs.declared.Meaning.the-variants.{Byte, Permission, Translation}
+use Rattle.records.specs.Mappings.{mappings, holder, byteOf}
+use Rattle.records.specs.Meanings.{meaning, heldMeaning}
+use Rattle.builder.specs.declared.Built.the-variants.{Length}
+use Rattle.builder.specs.Build.{answerOf}
+use Rattle.builder.proofs.Answers.{accepted, room-unit, room-memory, image-first}
+use Rattle.records.specs.Checks.{megabytes}
+use Rattle.registers.specs.declared.Fault.the-variants as K
+use Rattle.registers.specs.declared.Answer.the-variants as A
+use Rattle.decision.specs.Types.{Access, VirtualAddress, PhysicalAddress, Reads, Found, Walked, Bill, Prices, Answer}
+use Rattle.decision.specs.Decisions.{byAccess, byFound}
+use Rattle.unit.specs.declared.Device.{Device}
+use Rattle.unit.specs.declared.Outcome.{Outcome}
+use Rattle.unit.specs.Device.{freshDevice}
+use Rattle.unit.specs.Machine.{write, step}
+use Rattle.coherence.specs.Agreement.{Look, plain, Uniform}
+use Rattle.coherence.specs.Sessions.{started, lookFrom, controlAt, baseHighAt, baseLowAt}
+use Rattle.coherence.specs.Started.{startControl}
+use Rattle.coherence.proofs.Started.{started-by-writes}
+use Rattle.translates.specs.Statements.{Gives, Inside}
+use Rattle.demands.specs.Demands.{said, byList, start}
+
+-- a byte with its access, and what a mapping says of it
+access-said : (m : Mapping) (va : VirtualAddress) (a : Access) (t : Bool) → permits (m .access) a ≡ t → byAccess (m .access) (byteOf m va) a ≡ said (heldMeaning (By m) va a)
+unfolding byAccess pick
+access-said m va a true e = rw e
+access-said m va a false e = rw e
+
+pub gives-said : (h : Held) (va : VirtualAddress) (a : Access) (r : Reads) (f : Found) → Gives h va f → byFound va a r f .answer ≡ said (heldMeaning h va a)
+unfolding byFound
+gives-said (By m) va a r (D.Page p) g =
+    ap₂ (λ (x : PhysicalAddress) (n : ℕ). byAccess n x a) (g .0) (g .1) ∙ access-said m va a (permits (m .access) a) refl
+gives-said (By m) va a r D.NoPage g = absurd g
+gives-said (By m) va a r D.Missing g = absurd g
+gives-said Nobody va a r (D.Page p) g = absurd g
+gives-said Nobody va a r D.NoPage g = refl
+gives-said Nobody va a r D.Missing g = absurd g
+
+pub list-said : (look : Look) (ms : List Mapping) (va : VirtualAddress) (a : Access) → Gives (holder ms va) va (look va .found) → plain look va a ≡ byList ms va a
+unfolding meaning
+list-said look ms va a g = gives-said (holder ms va) va a (look va .reads) (look va .found) g
+
+-- a walk that gives what the list says misses no word
+pub gives-found : (h : Held) (va : VirtualAddress) (f : Found) → Gives h va f → isMissing f ≡ false
+gives-found h va (D.Page p) g = refl
+gives-found h va D.NoPage g = refl
+gives-found (By m) va D.Missing g = absurd g
+gives-found Nobody va D.Missing g = absurd g
+
+-- over refused memories a walk finds nothing at all
+pub refused-uniform : (m : Lent) (base : ℕ) → lentOk m ≡ false → Uniform (lookFrom m base)
+refused-uniform m base e va va′ p low f s = absurd (none (sym (ap (λ (w : Walked). w .found) (walk-refused m e base (va .0))) ∙ f))
+  where
+    none : D.Missing ≡ D.Page p → ⊥
+    none q = false≢true (sym (ap isMissing q))
+
+pub refused-plain : (m : Lent) (base : ℕ) (va : VirtualAddress) (a : Access) → lentOk m ≡ false → plain (lookFrom m base) va a ≡ A.Refused 3
+unfolding byFound
+refused-plain m base va a e = ap (λ (w : Walked). byFound va a (w .reads) (w .found) .answer) (walk-refused m e base (va .0))
+
+-- the start is what the three writes leave
+module _ (rs : List ℕ) (base room len : ℕ) (e : answerOf rs base room ≡ Length len) where
+  pub base-low : base < 2 ^ 32
+  base-low =
+      let a = accepted rs base room len e in
+      omega (arith, room-memory base room (a .memory), a .fits, image-first megabytes (mappings rs))
+
+  pub base-128 : base % 128 ≡ 0
+  base-128 = omega (arith, room-unit base room (accepted rs base room len e .memory))
+
+  pub start-is : (m : Lent) (v : ℕ) (p : Prices) (b : Bill) → v % 8 ≡ 7 → start m base v p b ≡ started (startControl v) base
+  start-is m v p b h =
+      let w = started-by-writes v base h base-low base-128 in
+      ap (λ (d : Device). step m (step m d b (write baseLowAt (base % 65536) p) .device) b (write controlAt v p) .device) (dev (w .high m p b))
+      ∙ ap (λ (d : Device). step m d b (write controlAt v p) .device) (dev (w .low m p b))
+      ∙ dev (w .on m p b)
+    where
+      dev : {x y : Outcome} → x ≡ y → x .device ≡ y .device
+      dev q = ap (λ (o : Outcome). o .device) q

@@ -1,0 +1,87 @@
+-- The three demands hold. Assumes nothing.
+use mathlib.Core.Path.{_≡_, refl, sym, _∙_, ap, subst}
+use mathlib.Core.Bool.{Bool, true, false, false≢true, true≢false}
+use mathlib.Core.List.{List}
+use mathlib.Core.Logic.{_≢_}
+use Prim.Native.Nat.{ℕ}
+use lib.ListN.{length}
+use Rattle.memory.specs.Memory.{Lent, lentOk}
+use Rattle.records.specs.Mappings.{mappings, holder}
+use Rattle.records.specs.Checks.{megabytes}
+use Rattle.builder.specs.declared.Built.{Built}
+use Rattle.builder.specs.declared.Built.the-variants.{Length, BadMemory, BadRecord, Overlap, TooLong}
+use Rattle.builder.specs.Image.{image}
+use Rattle.builder.specs.Build.{answerOf, buildOf, builtNumber, leaves}
+use Rattle.registers.specs.Answers.{isRefusal}
+use Rattle.unit.specs.declared.Device.{Device}
+use Rattle.unit.specs.Machine.{answered, step}
+use Rattle.coherence.specs.Agreement.{Uniform, plain}
+use Rattle.coherence.specs.Sessions.{after, asked, asks, started, lookFrom, CacheNeverShows}
+use Rattle.coherence.specs.Started.{startControl}
+use Rattle.coherence.proofs.Sessions.{cache-never-shows}
+use Rattle.coherence.proofs.Started.{start-on, start-walking}
+use Rattle.conduct.proofs.Refused.{exactly-when, accepted-when, nothing-changes}
+use Rattle.conduct.proofs.Ranged.{range-kept}
+use Rattle.conduct.proofs.Filled.{locked-kept, one-slot-filled, no-page-no-fill}
+use Rattle.conduct.proofs.Cached.{fault-not-cached}
+use Rattle.conduct.proofs.Flushed.{flush-exact}
+use Rattle.conduct.proofs.Metered.{metered, billed, posted-meters}
+use Rattle.conduct.proofs.Answered.{one-acknowledgement, off-is-virtual}
+use Rattle.translates.proofs.Theorems.{image-translates, accepted-no-refusal, no-refusal-accepted}
+use Rattle.demands.specs.Demands.{BuildRefuses, Demand1, Demand2, Demand3, byList}
+use Rattle.demands.proofs.Lists.{list-said, refused-uniform, refused-plain, start-is}
+
+-- a refused build leaves the memory
+left : (b : Built) (img before : List ℕ) → builtNumber b ≢ 0 → leaves b img before ≡ before
+left (Length n) img before h = absurd (h refl)
+left BadMemory img before h = refl
+left (BadRecord i) img before h = refl
+left (Overlap i) img before h = refl
+left (TooLong c) img before h = refl
+
+refused-left : (rs : List ℕ) (base : ℕ) (before : List ℕ) → builtNumber (buildOf rs base before .answer) ≢ 0 → buildOf rs base before .memory ≡ before
+unfolding buildOf
+refused-left rs base before h = left (answerOf rs base (length before)) (image megabytes (mappings rs) base) before h
+
+build-refuses : BuildRefuses
+build-refuses = record {
+  accepted = accepted-no-refusal;
+  not-refused = λ rs base room a. ap builtNumber (no-refusal-accepted rs base room a);
+  unchanged = refused-left;
+}
+
+pub demand-1 : Demand1
+demand-1 = record { when = exactly-when; otherwise = accepted-when; unchanged = nothing-changes; in-range = range-kept; builds = build-refuses }
+
+pub demand-2 : Demand2
+demand-2 = record {
+  locked = locked-kept;
+  filled = one-slot-filled;
+  no-page = no-page-no-fill;
+  not-cached = fault-not-cached;
+  flushed = flush-exact;
+  metered = metered;
+  billed = billed;
+  posted = posted-meters;
+  acknowledged = one-acknowledgement;
+  off = off-is-virtual;
+}
+
+pub demand-3 : Demand3
+demand-3 rs base room len m v p b₀ cs b c va a r bytes acc standing on adm =
+    subst (λ (d : Device). asked (after m d cs) c ≡ asks va a → step m (after m d cs) b c .said ≡ answered r → isRefusal r ≡ false → r ≡ byList (mappings rs) va a)
+    (sym (start-is rs base room len acc m v p b₀ on))
+    (by (lentOk m) refl)
+  where
+    never : Uniform (lookFrom m base) → CacheNeverShows m (startControl v) base
+    never = cache-never-shows m (startControl v) base (start-on v) (start-walking v)
+
+    by : (t : Bool) → lentOk m ≡ t → asked (after m (started (startControl v) base) cs) c ≡ asks va a →
+        step m (after m (started (startControl v) base) cs) b c .said ≡ answered r → isRefusal r ≡ false → r ≡ byList (mappings rs) va a
+    by true e q s f =
+        let t = image-translates rs base room len m bytes acc e standing in
+        let n = never (t .uniform) cs b c va a r adm q s f in
+        n .1 ∙ list-said (lookFrom m base) (mappings rs) va a (t .gives va (n .0))
+    by false e q s f =
+        let n = never (refused-uniform m base e) cs b c va a r adm q s f in
+        absurd (true≢false (sym (ap isRefusal (n .1 ∙ refused-plain m base va a e)) ∙ f))

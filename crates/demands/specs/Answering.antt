@@ -1,0 +1,59 @@
+-- What keeps demand 3 from being hollow: each request that the paper does not refuse is in fact answered, and so is each retry.
+use Rattle.page.specs.Ground.{ℕ, _%_, _<_, _≡_, true, false, List, [], _∷_}
+use Rattle.memory.specs.Memory.{Lent, lentOk}
+use Rattle.bill.specs.Bill.{moneyOk}
+use Rattle.records.specs.Mappings.{mappings}
+use Rattle.records.specs.Checks.{megabytes}
+use Rattle.builder.specs.declared.Built.the-variants.{Length}
+use Rattle.builder.specs.Image.{image}
+use Rattle.builder.specs.Build.{answerOf}
+use Rattle.registers.specs.Fields.{limit}
+use Rattle.registers.specs.Answers.{isPrefetch}
+use Rattle.registers.specs.declared.Pending.the-variants.{Nothing, Held}
+use Rattle.decision.specs.Types.{Access, VirtualAddress, Bill, Prices, Fault}
+use Rattle.unit.specs.declared.Device.{Device}
+use Rattle.unit.specs.Calls.{acknowledgeAt, requestOf, writeOf}
+use Rattle.conduct.specs.Refused.{BytesFit, ValueFits}
+use Rattle.coherence.specs.Sessions.{after, Admitted}
+use Rattle.coherence.specs.Sessions as Sessions
+use Rattle.translates.specs.Statements.{Bytes, Standing}
+use Rattle.demands.specs.Demands.{byList, start}
+
+-- every value written has 16 bits, as its type says
+abbrev pub ValuesFit : List Sessions.Billed → Type 0
+ValuesFit [] = Unit {0}
+ValuesFit (c ∷ cs) = ValueFits (c .1) × ValuesFit cs
+
+-- a session of demand 3 over memories that are not refused
+pub record Session (rs : List ℕ) (base : ℕ) (m : Lent) (d : Device) : Type 0 where
+  pub room : ℕ
+  pub len : ℕ
+  pub v : ℕ
+  pub p : Prices
+  pub b : Bill
+  pub calls : List Sessions.Billed
+  pub bytes : Bytes rs
+  pub accepted : answerOf rs base room ≡ Length len
+  pub lent : lentOk m ≡ true
+  pub lent-bytes : BytesFit m
+  pub standing : Standing m base (image megabytes (mappings rs) base)
+  pub on : v % 8 ≡ 7
+  pub admitted : Admitted calls
+  pub values : ValuesFit calls
+  pub device : d ≡ after m (start m base v p b) calls
+
+-- a request below 2^24 with nothing pending and good prices and bill answers as the list
+abbrev pub RequestsAnswered : Type 0
+RequestsAnswered =
+    (rs : List ℕ) (base : ℕ) (m : Lent) (d : Device) → Session rs base m d →
+    (p : Prices) (b : Bill) (va : VirtualAddress) (a : Access) →
+    d .pending ≡ Nothing → va .0 < limit → moneyOk p b ≡ true →
+    requestOf m p b d va a .answer ≡ byList (mappings rs) va a
+
+-- and so does the retry of a pending request
+abbrev pub RetriesAnswered : Type 0
+RetriesAnswered =
+    (rs : List ℕ) (base : ℕ) (m : Lent) (d : Device) → Session rs base m d →
+    (p : Prices) (b : Bill) (v : ℕ) (k : Fault) (va : VirtualAddress) (a : Access) →
+    d .pending ≡ Held k va a → isPrefetch k ≡ false → v % 2 ≡ 1 → moneyOk p b ≡ true →
+    writeOf m p b d acknowledgeAt v .answer ≡ byList (mappings rs) va a

@@ -1,0 +1,93 @@
+-- The three demands of the buyer, over the definitions that the code's contracts cite. Their proofs: proofs/Proved.antt.
+use Rattle.page.specs.Ground.{ℕ, _/_, _%_, _<_, _≡_, true, false, List, [], _∷_, length}
+use Rattle.memory.specs.Memory.{Lent}
+use Rattle.records.specs.declared.Mapping.{Mapping}
+use Rattle.records.specs.declared.Meaning.{Meaning}
+use Rattle.records.specs.declared.Meaning.the-variants.{Byte, Permission, Translation}
+use Rattle.records.specs.Mappings.{mappings}
+use Rattle.records.specs.Meanings.{meaning}
+use Rattle.records.specs.Checks.{megabytes}
+use Rattle.builder.specs.declared.Built.{Built}
+use Rattle.builder.specs.declared.Built.the-variants.{Length}
+use Rattle.builder.specs.Image.{image}
+use Rattle.builder.specs.Build.{answerOf, buildOf, builtNumber}
+use Rattle.registers.specs.declared.Fault.the-variants as K
+use Rattle.registers.specs.declared.Answer.the-variants as A
+use Rattle.registers.specs.Answers.{isRefusal}
+use Rattle.decision.specs.Types.{Access, VirtualAddress, Bill, Prices, Answer}
+use Rattle.unit.specs.declared.Device.{Device}
+use Rattle.unit.specs.Device.{freshDevice}
+use Rattle.unit.specs.Machine.{Call, write, answered, step}
+use Rattle.conduct.specs.Refused.{ExactlyWhen, AcceptedWhen, NothingChanges, RangeKept}
+use Rattle.conduct.specs.Filled.{LockedKept, OneSlotFilled, NoPageNoFill, FaultNotCached}
+use Rattle.conduct.specs.Flushed.{FlushExact}
+use Rattle.conduct.specs.Metered.{Metered, Billed, PostedMeters}
+use Rattle.conduct.specs.Answered.{OneAcknowledgement, OffIsVirtual}
+use Rattle.coherence.specs.Sessions.{after, Admitted, asked, asks, controlAt, baseHighAt, baseLowAt}
+use Rattle.coherence.specs.Sessions as Sessions
+use Rattle.translates.specs.Statements.{Bytes, Standing, Accepts}
+use mathlib.Core.Logic.{_≢_}
+
+-- a build is refused exactly when one of its conditions holds, and then every byte of the memory is as it was
+pub record BuildRefuses : Type 0 where
+  pub accepted : (rs : List ℕ) (base room len : ℕ) → answerOf rs base room ≡ Length len → Accepts rs base room
+  pub not-refused : (rs : List ℕ) (base room : ℕ) → Accepts rs base room → builtNumber (answerOf rs base room) ≡ 0
+  pub unchanged : (rs : List ℕ) (base : ℕ) (before : List ℕ) → builtNumber (buildOf rs base before .answer) ≢ 0 → buildOf rs base before .memory ≡ before
+
+-- 1. It takes anything; each refusal comes when the paper says and at no other time, and then nothing is changed
+-- (that every function is safe and ends is what the check of its crate says)
+pub record Demand1 : Type 0 where
+  pub when : ExactlyWhen
+  pub otherwise : AcceptedWhen
+  pub unchanged : NothingChanges
+  pub in-range : RangeKept
+  pub builds : BuildRefuses
+
+-- 2. Answer and state after each call are those of the tables and the house rules (the contracts of the code are these very
+-- definitions); a walk never touches a locked slot, a flush keeps exactly the preserved entries, a retry is metered as a retry
+pub record Demand2 : Type 0 where
+  pub locked : LockedKept
+  pub filled : OneSlotFilled
+  pub no-page : NoPageNoFill
+  pub not-cached : FaultNotCached
+  pub flushed : FlushExact
+  pub metered : Metered
+  pub billed : Billed
+  pub posted : PostedMeters
+  pub acknowledged : OneAcknowledgement
+  pub off : OffIsVirtual
+
+-- what a list alone answers
+abbrev pub said : Meaning → Answer
+said (Byte p) = A.Address p
+said Permission = A.Fault K.Permission
+said Translation = A.Fault K.Translation
+
+abbrev pub byList : List Mapping → VirtualAddress → Access → Answer
+byList ms va a = said (meaning ms va a)
+
+-- fresh from reset: the base set by its two halves, then control with bits 2, 1 and 0 set
+abbrev pub startingWith : ℕ → ℕ → Prices → Bill → List Sessions.Billed
+startingWith base v p b =
+    (b, write baseHighAt (base / 65536) p) ∷ (b, write baseLowAt (base % 65536) p) ∷ (b, write controlAt v p) ∷ []
+
+abbrev pub start : Lent → ℕ → ℕ → Prices → Bill → Device
+start m base v p b = after m freshDevice (startingWith base v p b)
+
+-- 3. For a list that the builder accepts, its image standing at its base in one of the two memories, among any other bytes:
+-- after any calls but writes to control or base, with any prices and bills, each request or retry that is not refused answers
+-- as the list alone would.
+-- Loading slots cannot break it: load is refused 7 while walking is set. A pending fault cannot: it is only a request to retry.
+abbrev pub Demand3 : Type 0
+Demand3 =
+    (rs : List ℕ) (base room len : ℕ) (m : Lent) (v : ℕ) (p : Prices) (b₀ : Bill)
+    (cs : List Sessions.Billed) (b : Bill) (c : Call) (va : VirtualAddress) (a : Access) (r : Answer) →
+    Bytes rs →
+    answerOf rs base room ≡ Length len →
+    Standing m base (image megabytes (mappings rs) base) →
+    v % 8 ≡ 7 →
+    Admitted cs →
+    asked (after m (start m base v p b₀) cs) c ≡ asks va a →
+    step m (after m (start m base v p b₀) cs) b c .said ≡ answered r →
+    isRefusal r ≡ false →
+    r ≡ byList (mappings rs) va a

@@ -1,0 +1,74 @@
+-- The sheet's proved lines hold. Assumes nothing.
+use mathlib.Core.Path.{_≡_, refl, ap, ap₂, _∙_}
+use mathlib.Core.Bool.{true, false≢true}
+use mathlib.Core.List.{List, [], _∷_}
+use Prim.Native.Nat.{ℕ, _/_}
+use native.Mathlib.Omega.{arith}
+use lib.Ieee.{ofFields, ofBits, le, lt, eq}
+use lib.ListN.{replicate}
+use borrow.Author.Tests.{eqb-true}
+use Rattle.page.specs.Pick.{pick, _and_, _or_}
+use Rattle.page.proofs.Picks.{and-left, and-right}
+use Rattle.page.specs.Low.{upper, joined}
+use Rattle.page.specs.Words.{kindOf, wordMatches, madeCam, madeRam}
+use Rattle.memory.specs.Memory.{memoryOk, apart, memoriesOk, holds, placeWithin, placeIn, wordOf}
+use Rattle.walk.specs.Walk.{firstOf, secondOf, firstAt, coarseAt, fineAt, readIn, walkFrom}
+use Rattle.records.specs.Mappings.{mappings, mappingsFrom, mappingOf, holder, byteOf, overlap}
+use Rattle.records.specs.Mappings as M
+use Rattle.records.specs.Checks.{megabytes, multiple, proper, wellFormed, bad, clashes, overlapping, checkedFrom, checked}
+use Rattle.builder.specs.Tables.{hasKind, tableOf, tableEnd, tableStart, imageLength}
+use Rattle.builder.specs.Image.{firstWord, pageWord, secondWord, inTables, imageWord, image}
+use Rattle.builder.specs.Build.{leaves, roomOk, answerOf, buildOf}
+use Rattle.bill.specs.Bill.{figureOk, every, moneyOk}
+use Rattle.bank.specs.Slots.{lookedFrom, allFrom, bankOk}
+use Rattle.bank.specs.Changes.{nextSlot, nextVictim, filled}
+use Rattle.registers.specs.Fields.{entryOk, registersOk}
+use Rattle.registers.specs.Table.{noRegister, listed, lockCommand, commandOf}
+use Rattle.decision.specs.Decisions.{byAccess, byFound, decided}
+use Rattle.unit.specs.Refusals.{refuses}
+use Rattle.unit.specs.Device.{inRange}
+use Rattle.unit.specs.Calls.{lacks, requestOf, isMalformed, isUntimely, writeLacks, writeOf}
+use Rattle.coherence.specs.Started.{StartedByWrites}
+use Rattle.coherence.proofs.Started.{started-by-writes}
+use Rattle.translates.specs.ListA.{recordsA, baseA}
+use Rattle.sheet.specs.Bench.{roomA, builtA, controlA}
+use Rattle.sheet.specs.Sheet.{Line, sheet, same, answeredIn, passesIn, allPassIn, answered, allPass, Each}
+use Rattle.sheet.proofs.Runs.{runOf, run-is}
+
+-- the bench starts from a fresh device by three register writes
+pub bench-starts : StartedByWrites controlA baseA
+bench-starts = started-by-writes controlA baseA refl (omega arith) refl
+
+-- what is built, word after word
+abbrev words : ℕ → ℕ
+words k = imageWord megabytes (mappings recordsA) baseA k
+
+abbrev written : List ℕ
+written = leaves (answerOf recordsA baseA roomA) (runOf words 0 (imageLength megabytes (mappings recordsA) / 4)) (replicate roomA 0)
+
+built-is : builtA ≡ written
+unfolding builtA buildOf image
+built-is = ap (λ (l : List ℕ). leaves (answerOf recordsA baseA roomA) l (replicate roomA 0)) (run-is words (imageLength megabytes (mappings recordsA) / 4))
+
+-- all lines, computed together over the whole image
+written-passes : allPassIn written sheet ≡ true
+unfolding runOf pick _and_ _or_ upper joined kindOf wordMatches madeCam madeRam memoryOk apart memoriesOk holds placeWithin placeIn wordOf firstOf secondOf firstAt coarseAt fineAt readIn walkFrom mappings mappingsFrom mappingOf M.holds holder byteOf overlap multiple proper wellFormed bad clashes overlapping checkedFrom checked hasKind tableOf tableEnd tableStart imageLength firstWord pageWord secondWord inTables imageWord roomOk answerOf figureOk every moneyOk lookedFrom allFrom bankOk nextSlot nextVictim filled entryOk registersOk noRegister listed lockCommand commandOf byAccess byFound decided refuses inRange lacks requestOf isMalformed isUntimely writeLacks writeOf answeredIn sheet passesIn ofFields ofBits le lt eq
+written-passes = refl
+
+pub sheet-holds : allPass sheet ≡ true
+sheet-holds = ap (λ (l : List ℕ). allPassIn l sheet) built-is ∙ written-passes
+
+-- so each line is an equation
+same-is : (xs ys : List ℕ) → same xs ys ≡ true → xs ≡ ys
+same-is [] [] h = refl
+same-is [] (y ∷ ys) h = absurd (false≢true h)
+same-is (x ∷ xs) [] h = absurd (false≢true h)
+same-is (x ∷ xs) (y ∷ ys) h = ap₂ _∷_ (eqb-true x y (and-left _ _ h)) (same-is xs ys (and-right _ _ h))
+
+pub each : (ls : List Line) → allPass ls ≡ true → Each ls
+unfolding passesIn
+each [] h = tt
+each (l ∷ ls) h = (same-is (answered (l .0)) (l .1) (and-left _ _ h), each ls (and-right _ _ h))
+
+pub each-line : Each sheet
+each-line = each sheet sheet-holds

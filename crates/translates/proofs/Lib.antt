@@ -1,0 +1,6 @@
+pub mod Written
+pub mod Over
+pub mod Faithful
+pub mod Memories
+pub mod Theorems
+pub mod Samples

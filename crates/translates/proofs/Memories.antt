@@ -1,0 +1,178 @@
+-- Memories that hold the image read as its words. Assumes nothing.
+use mathlib.Core.Path.{_≡_, refl, sym, ap, ap₂, _∙_}
+use mathlib.Core.Bool.{Bool, true, false, true≢false}
+use mathlib.Core.List.{List}
+use mathlib.Core.Logic.{inl, inr}
+use Prim.Native.Nat.{ℕ, suc, zero, _+_, _*_, _-_, _/_, _%_, _^_, _≤_, _<_}
+use native.Mathlib.Omega.{arith}
+use native.Mathlib.Nat.{mod-add-div', mod-eq-of-lt, div-div-eq-div-mul}
+use lib.Dec.{lit<}
+use borrow.Author.Tests.{le-leb, ltb-true}
+use lib.ListN.{length, getD, take, drop, length-take, length-drop}
+use lib.Seq.{getD-take, getD-drop}
+use Rattle.page.specs.Low.{upper}
+use Rattle.page.specs.Words.{virtual, lowBits}
+use Rattle.page.specs.declared.Kind.{Kind}
+use Rattle.page.specs.declared.VirtualAddress.{VirtualAddress}
+use Rattle.page.proofs.Picks.{pick-yes, pick-no, pick-by, and-yes}
+use Rattle.page.proofs.Lower.{upper-le, joined-lt}
+use Rattle.page.proofs.Slot.{lowBits-le, start-1024, typeOf-lt}
+use Rattle.memory.specs.Memory.{Lent, lentOk, holds, placeWithin, placeIn, partAt, littleEndian, wordOf}
+use Rattle.memory.specs.declared.Place.{Place}
+use Rattle.memory.specs.declared.Place.the-variants.{OnChip, External}
+use Rattle.memory.proofs.Places.{place-ok, held-once}
+use Rattle.walk.specs.declared.Read.the-variants as R
+use Rattle.walk.specs.Walk.{readAt, readIn}
+use Rattle.records.specs.declared.Mapping.{Mapping}
+use Rattle.records.specs.declared.Held.{Held}
+use Rattle.records.specs.declared.Held.the-variants.{By, Nobody}
+use Rattle.records.specs.Mappings.{holder, byteOf}
+use Rattle.records.specs.Mappings as M
+use Rattle.records.proofs.Alls.{All, OnHeld, all-holder}
+use Rattle.builder.specs.declared.Table as B
+use Rattle.builder.specs.declared.Table.the-variants.{Fine, Coarse, Absent}
+use Rattle.builder.specs.Tables.{tableOf, tableSize, tableStart, imageLength}
+use Rattle.builder.specs.Image.{sectionWord, firstBy, firstWord, writtenAs, pageWord, secondBy, addressOf, secondWord, inTables, imageWord, wordBytes, bytesOf, image}
+use Rattle.builder.proofs.Splices.{bytes-length, bytes-at}
+use Rattle.builder.proofs.Places.{end-next, end-last}
+use Rattle.builder.proofs.Answers.{image-4, image-length-is}
+use Rattle.translates.specs.Statements.{Has, Standing}
+use Rattle.translates.proofs.Over.{Stands}
+
+-- every word of the image fits 32 bits where the physical addresses do
+abbrev pub Phys : Mapping → Type 0
+Phys m = m .to .0 < 2 ^ 32
+
+page-fits : (k : Kind) (m : Mapping) (a : VirtualAddress) → Phys m → pageWord k m a < 2 ^ 32
+unfolding pageWord byteOf
+page-fits k m a h =
+    let p : byteOf m a .0 < 2 ^ 32 = joined-lt (lowBits (m .kind)) 32 (m .to .0) (a .0) (omega (arith, lowBits-le (m .kind))) h in
+    omega (arith, upper-le (lowBits k) (byteOf m a .0), start-1024 k (byteOf m a .0), typeOf-lt k)
+
+second-fits : (t : B.Table) (a va : VirtualAddress) (h : Held) → OnHeld (λ m. Phys m × (M.holds m va ≡ true)) h → secondBy t h a < 2 ^ 32
+second-fits t a va (By m) o = page-fits (writtenAs t (m .kind)) m a (o .0)
+second-fits t a va Nobody o = lit< tt
+
+section-fits : (va : VirtualAddress) (h : Held) → OnHeld (λ m. Phys m × (M.holds m va ≡ true)) h → sectionWord h < 2 ^ 32
+unfolding upper
+section-fits va (By m) o = omega (arith, o .0)
+section-fits va Nobody o = lit< tt
+
+word-fits : (ms : List Mapping) → All Phys ms → (t : B.Table) (i j : ℕ) → secondWord ms t i j < 2 ^ 32
+unfolding secondWord
+word-fits ms phys t i j =
+    second-fits t (addressOf t i j) (addressOf t i j) (holder ms (addressOf t i j)) (all-holder Phys ms (addressOf t i j) phys)
+
+module _ (n : ℕ) (ms : List Mapping) (phys : All Phys ms) (base : ℕ) (room : base + imageLength n ms ≤ 2 ^ 32) where
+  tables-fit : (k o : ℕ) → inTables n ms k o < 2 ^ 32
+  unfolding inTables
+  tables-fit zero o = lit< tt
+  tables-fit (suc k) o = pick-by (λ (w : ℕ). w < 2 ^ 32) _ _ _ (λ _. word-fits ms phys _ _ _) (λ _. tables-fit k o)
+
+  first-fits : (i : ℕ) → i < n → firstWord n ms base i < 2 ^ 32
+  unfolding firstWord
+  first-fits i h = by-table (tableOf ms i) refl
+    where
+      ends : (t : B.Table) → tableOf ms i ≡ t → tableStart n ms i + tableSize t ≤ imageLength n ms
+      ends t e = omega (arith, ap tableSize e, end-next n ms i, end-last n ms (suc i) (omega arith))
+
+      by-table : (t : B.Table) → tableOf ms i ≡ t → firstBy t (base + tableStart n ms i) (holder ms (virtual (i * 2 ^ 20))) < 2 ^ 32
+      by-table Fine e = omega (arith, ends Fine e)
+      by-table Coarse e = omega (arith, ends Coarse e)
+      by-table Absent e = section-fits (virtual (i * 2 ^ 20)) (holder ms (virtual (i * 2 ^ 20))) (all-holder Phys ms (virtual (i * 2 ^ 20)) phys)
+
+  image-fits : (k : ℕ) → imageWord n ms base k < 2 ^ 32
+  unfolding imageWord
+  image-fits k = pick-by (λ (w : ℕ). w < 2 ^ 32) _ _ _ (λ t. first-fits k (ltb-true _ _ t)) (λ _. tables-fit n (4 * k))
+
+-- a word is what its four bytes say
+digits : (x : ℕ) → x % 256 + x / 256 * 256 ≡ x
+digits x = mod-add-div' x 256
+
+word-value : (w : ℕ) → w < 2 ^ 32 → littleEndian (w % 256) (w / 256 % 256) (w / 65536 % 256) (w / 16777216 % 256) ≡ w
+word-value w h =
+    let a : w / 65536 ≡ w / 256 / 256 = sym (div-div-eq-div-mul w 256 256) in
+    let b : w / 16777216 ≡ w / 256 / 256 / 256 = sym (div-div-eq-div-mul w 65536 256) ∙ ap (λ (z : ℕ). z / 256) a in
+    let t : w / 16777216 < 256 = omega arith in
+    let t′ : w / 16777216 % 256 ≡ w / 256 / 256 / 256 = mod-eq-of-lt t ∙ b in
+    let a′ : w / 65536 % 256 ≡ w / 256 / 256 % 256 = ap (λ (z : ℕ). z % 256) a in
+    four (w % 256) (w / 256 % 256) (w / 65536 % 256) (w / 16777216 % 256) (w / 256) (w / 256 / 256) w (digits w)
+    (digits (w / 256)) (ap₂ (λ (x y : ℕ). x + y * 256) a′ t′ ∙ digits (w / 256 / 256))
+  where
+    four : (d0 d1 d2 d3 x1 x2 w : ℕ) → d0 + x1 * 256 ≡ w → d1 + x2 * 256 ≡ x1 → d2 + d3 * 256 ≡ x2 → littleEndian d0 d1 d2 d3 ≡ w
+    four d0 d1 d2 d3 x1 x2 w e1 e2 e3 = omega arith
+
+-- word k of the words of f, read back from their bytes among others
+module _ (f : ℕ → ℕ) (n k : ℕ) (l : List ℕ) (k₀ : ℕ) (h : k < n) (e : take (4 * n) (drop k₀ l) ≡ bytesOf f n) where
+  pub room-of : k₀ + 4 * n ≤ length l
+  room-of =
+      let a = ap length e ∙ bytes-length f n in
+      let b = length-take (4 * n) (drop k₀ l) in
+      let c = length-drop k₀ l in
+      omega arith
+
+  byte : (j : ℕ) → j < 4 → getD (take 4 (drop (k₀ + 4 * k) l)) j 0 ≡ getD (wordBytes (f k)) j 0
+  byte j c =
+      let at : k₀ + 4 * k + j ≡ k₀ + (4 * k + j) = omega arith in
+      let w : (4 * k + j) / 4 ≡ k = omega arith in
+      let r : (4 * k + j) % 4 ≡ j = omega arith in
+      getD-take 4 (drop (k₀ + 4 * k) l) j 0 c
+      ∙ getD-drop (k₀ + 4 * k) l j 0
+      ∙ ap (λ (x : ℕ). getD l x 0) at
+      ∙ sym (getD-drop k₀ l (4 * k + j) 0)
+      ∙ sym (getD-take (4 * n) (drop k₀ l) (4 * k + j) 0 (omega arith))
+      ∙ ap (λ (x : List ℕ). getD x (4 * k + j) 0) e
+      ∙ bytes-at f n (4 * k + j) (omega arith)
+      ∙ ap₂ (λ (x y : ℕ). getD (wordBytes (f x)) y 0) w r
+
+  pub word-back : f k < 2 ^ 32 → wordOf (take 4 (drop (k₀ + 4 * k) l)) ≡ f k
+  unfolding wordOf
+  word-back lt =
+      pick-yes _ _ _ (le-leb 4 (length (take 4 (drop (k₀ + 4 * k) l))) (omega (arith, room-of, length-take 4 (drop (k₀ + 4 * k) l), length-drop (k₀ + 4 * k) l)))
+      ∙ ap₂ (λ (x y : ℕ). littleEndian x y (getD (take 4 (drop (k₀ + 4 * k) l)) 2 0) (getD (take 4 (drop (k₀ + 4 * k) l)) 3 0)) (byte 0 (lit< tt)) (byte 1 (lit< tt))
+      ∙ ap₂ (λ (x y : ℕ). littleEndian (f k % 256) (f k / 256 % 256) x y) (byte 2 (lit< tt)) (byte 3 (lit< tt))
+      ∙ word-value (f k) lt
+
+-- so the memories read as the image
+module _ (n : ℕ) (ms : List Mapping) (phys : All Phys ms) (base : ℕ) (room : base + imageLength n ms ≤ 2 ^ 32) (m : Lent) (ok : lentOk m ≡ true) where
+  -- the word at an offset of the image, in the memory that has it
+  part : (l : List ℕ) (b k : ℕ) → Has l b base (image n ms base) → 4 * k + 4 ≤ imageLength n ms
+      → (holds b (length l) (base + 4 * k) ≡ true) × (wordOf (take 4 (drop (base + 4 * k - b) l)) ≡ imageWord n ms base k)
+  unfolding image holds
+  part l b k h fits =
+      let len = image-length-is n ms base in
+      let full : take (imageLength n ms) (drop (base - b) l) ≡ image n ms base = ap (λ (x : ℕ). take x (drop (base - b) l)) (sym len) ∙ h .1 in
+      let four : 4 * (imageLength n ms / 4) ≡ imageLength n ms = omega (arith, image-4 n ms) in
+      let e : take (4 * (imageLength n ms / 4)) (drop (base - b) l) ≡ bytesOf (imageWord n ms base) (imageLength n ms / 4) = ap (λ (x : ℕ). take x (drop (base - b) l)) four ∙ full in
+      let lt : k < imageLength n ms / 4 = omega arith in
+      let r = room-of (imageWord n ms base) (imageLength n ms / 4) k l (base - b) lt e in (
+        and-yes _ _ (le-leb b (base + 4 * k) (omega (arith, h .0))) ∙ le-leb (base + 4 * k + 4) (b + length l) (omega (arith, h .0)),
+        ap (λ (x : ℕ). wordOf (take 4 (drop x l))) (let z : base + 4 * k - b ≡ base - b + 4 * k = omega (arith, h .0) in z)
+            ∙ word-back (imageWord n ms base) (imageLength n ms / 4) k l (base - b) lt e (image-fits n ms phys base room k),
+      )
+
+  -- where the word lies
+  on-chip : (k : ℕ) → holds (m .onbase) (length (m .on)) (base + 4 * k) ≡ true → placeIn m (base + 4 * k) ≡ OnChip (base + 4 * k - m .onbase)
+  unfolding placeWithin
+  on-chip k h = place-ok m (base + 4 * k) ok ∙ pick-yes _ _ _ h
+
+  external : (k : ℕ) → holds (m .extbase) (length (m .ext)) (base + 4 * k) ≡ true → placeIn m (base + 4 * k) ≡ External (base + 4 * k - m .extbase)
+  unfolding placeWithin
+  external k h = place-ok m (base + 4 * k) ok ∙ pick-no _ _ _ (other (holds (m .onbase) (length (m .on)) (base + 4 * k)) refl) ∙ pick-yes _ _ _ h
+    where
+      other : (b : Bool) → holds (m .onbase) (length (m .on)) (base + 4 * k) ≡ b → b ≡ false
+      other false e = refl
+      other true e = absurd (true≢false (sym h ∙ held-once m (base + 4 * k) ok e))
+
+  reads : (k : ℕ) (p : Place) → placeIn m (base + 4 * k) ≡ p → readAt (wordOf (partAt m p)) p ≡ R.Word (imageWord n ms base k) p
+      → readIn m (base + 4 * k) ≡ R.Word (imageWord n ms base k) (placeIn m (base + 4 * k))
+  unfolding readIn
+  reads k p e f = ap (λ (x : Place). readAt (wordOf (partAt m x)) x) e ∙ f ∙ ap (R.Word (imageWord n ms base k)) (sym e)
+
+  pub stands : Standing m base (image n ms base) → Stands (readIn m) (placeIn m) n ms base
+  stands (inl h) k fits =
+      let p = part (m .on) (m .onbase) k h fits in
+      reads k (OnChip (base + 4 * k - m .onbase)) (on-chip k (p .0)) (ap (λ (w : ℕ). R.Word w (OnChip (base + 4 * k - m .onbase))) (p .1))
+  stands (inr h) k fits =
+      let p = part (m .ext) (m .extbase) k h fits in
+      reads k (External (base + 4 * k - m .extbase)) (external k (p .0)) (ap (λ (w : ℕ). R.Word w (External (base + 4 * k - m .extbase))) (p .1))

@@ -1,0 +1,28 @@
+-- Lists that are accepted, by computation: list A of the bench sheet, and the empty list. Assumes nothing.
+use mathlib.Core.Path.{_≡_, refl}
+use mathlib.Core.List.{[]}
+use Prim.Native.Nat.{ℕ}
+use lib.ListN.{replicate}
+use Rattle.page.specs.Pick.{pick, _and_, _or_}
+use Rattle.page.specs.Words.{kindOf}
+use Rattle.memory.specs.Memory.{memoryOk, wordOf}
+use Rattle.records.specs.Mappings.{mappingOf, mappingsFrom, mappings, holds, holder, overlap}
+use Rattle.records.specs.Checks.{megabytes, multiple, proper, wellFormed, bad, clashes, overlapping, checkedFrom, checked}
+use Rattle.builder.specs.declared.Built.the-variants.{Length}
+use Rattle.builder.specs.Tables.{hasKind, tableOf, tableEnd, tableStart, imageLength}
+use Rattle.builder.specs.Image.{firstWord, inTables, imageWord, bytesOf, image}
+use Rattle.builder.specs.Build.{roomOk, answerOf}
+use Rattle.translates.specs.ListA.{recordsA, baseA}
+
+pub accepts-a : answerOf recordsA baseA 8192 ≡ Length 8192
+unfolding answerOf roomOk memoryOk checked checkedFrom bad wellFormed proper multiple mappingOf wordOf kindOf pick _and_ _or_ clashes overlapping overlap holds mappingsFrom mappings imageLength tableEnd tableOf hasKind
+accepts-a = refl
+
+-- the empty list builds 64 zero bytes
+pub accepts-empty : answerOf [] baseA 64 ≡ Length 64
+unfolding answerOf roomOk memoryOk checked checkedFrom pick _and_ mappings mappingsFrom imageLength tableEnd tableOf hasKind _or_
+accepts-empty = refl
+
+pub image-empty : (base : ℕ) → image megabytes (mappings []) base ≡ replicate 64 0
+unfolding image bytesOf imageWord firstWord inTables holder imageLength tableStart tableEnd tableOf hasKind pick _or_ mappings mappingsFrom
+image-empty base = refl

@@ -1,0 +1,137 @@
+-- The image of an accepted list translates as the list (01, demand 3), and such lists are what the paper says. Assumes nothing.
+use mathlib.Core.Path.{_≡_, refl, sym, ap, ap₂, _∙_, subst}
+use mathlib.Core.Bool.{Bool, true, false, not}
+use mathlib.Core.List.{List}
+use Prim.Native.Nat.{ℕ, _+_, _-_, _*_, _/_, _%_, _^_, _≤_, _<_}
+use native.Mathlib.Omega.{arith}
+use native.Mathlib.Decide.{decLe}
+use lib.Dec.{eqb, lit<}
+use borrow.Author.Tests.{eqb-true, le-ltb, ltb-false}
+use lib.ListN.{length, take, drop, length-take, List·getD-eq-default}
+use lib.Seq.{getD-take, getD-drop, take-append-seam}
+use native.Mathlib.Nat.{le-refl}
+use Rattle.page.specs.Pick.{_and_, _or_}
+use Rattle.page.specs.Words.{lowBits}
+use Rattle.page.specs.declared.VirtualAddress.{VirtualAddress}
+use Rattle.page.proofs.Picks.{pick-by, and-right, or-no}
+use Rattle.page.proofs.Slot.{lowBits-le}
+use Rattle.memory.specs.Memory.{Lent, lentOk, placeIn, wordOf}
+use Rattle.walk.specs.declared.Walked.{Walked}
+use Rattle.walk.specs.Walk.{firstOf, readIn, walkFrom}
+use Rattle.walk.proofs.Descriptors.{first-at-legal}
+use Rattle.records.specs.declared.Mapping.{Mapping}
+use Rattle.records.specs.Mappings.{recordAt, mappingOf, mappings, holder}
+use Rattle.records.specs.Checks.{megabytes, proper, bad, overlapping}
+use Rattle.records.proofs.Alls.{All, all-map}
+use Rattle.records.proofs.Accepted.{accepted-proper, accepted-disjoint, all-records, fine-clean, clean-fine, Disjoint}
+use Rattle.records.proofs.Bits.{agree-up}
+use Rattle.builder.specs.declared.Table as B
+use Rattle.builder.specs.declared.Built.{Built}
+use Rattle.builder.specs.declared.Built.the-variants.{Length}
+use Rattle.builder.specs.Tables.{tableOf, tableStart, imageLength}
+use Rattle.builder.specs.Image.{image}
+use Rattle.builder.specs.Build.{answerOf, leaves, buildOf}
+use Rattle.builder.proofs.Answers.{room-unit, room-memory, accepted, accepts}
+use Rattle.translates.specs.Statements.{lookIn, limit, Gives, Inside, Has, Standing, Translates, Bytes, ImageTranslates, Accepts, LeavesImage}
+use Rattle.translates.proofs.Written.{foundFor}
+use Rattle.translates.proofs.Over.{Narrow, known, walked, readsFor, over}
+use Rattle.translates.proofs.Faithful.{found-gives, found-uniform, reads-inside}
+use Rattle.translates.proofs.Memories.{Phys, stands}
+
+-- a proper mapping's access is 2 or 3
+narrow-of : (n : ℕ) (m : Mapping) → proper n m ≡ true → Narrow m
+unfolding proper
+narrow-of n m e = either (eqb (m .access) 2) refl (and-right _ _ (and-right _ _ (and-right _ _ e)))
+  where
+    either : (b : Bool) → eqb (m .access) 2 ≡ b → (b or eqb (m .access) 3) ≡ true → m .access < 4
+    either true t f = omega (arith, eqb-true (m .access) 2 t)
+    either false t f = omega (arith, eqb-true (m .access) 3 (sym (or-no false (eqb (m .access) 3) refl) ∙ f))
+
+-- a word of bytes fits 32 bits, and parts of bytes are bytes
+bytes-drop : (n : ℕ) (l : List ℕ) → Bytes l → Bytes (drop n l)
+bytes-drop n l h i = subst (λ (x : ℕ). x < 256) (sym (getD-drop n l i 0)) (h (n + i))
+
+bytes-take : (n : ℕ) (l : List ℕ) → Bytes l → Bytes (take n l)
+bytes-take n l h i = elim (decLe n i) [
+  | yes g ↦ subst (λ (x : ℕ). x < 256) (sym (List·getD-eq-default (take n l) 0 {n = i} (omega (arith, length-take n l)))) (lit< tt)
+  | no g ↦ subst (λ (x : ℕ). x < 256) (sym (getD-take n l i 0 (omega arith))) (h i)
+]
+
+word-lt : (l : List ℕ) → Bytes l → wordOf l < 2 ^ 32
+unfolding wordOf
+word-lt l h =
+    pick-by (λ (w : ℕ). w < 2 ^ 32) _ _ _ (λ _. omega (arith, h 0, h 1, h 2, h 3)) (λ _. lit< tt)
+
+phys-of : (rs : List ℕ) → Bytes rs → (k : ℕ) → Phys (mappingOf (recordAt rs k))
+unfolding mappingOf
+phys-of rs h k =
+    word-lt (take 4 (drop 4 (recordAt rs k)))
+    (bytes-take 4 (drop 4 (recordAt rs k)) (bytes-drop 4 (recordAt rs k) (bytes-take 12 (drop (12 * k) rs) (bytes-drop (12 * k) rs h))))
+
+-- a list without bad or overlapping records, its image at a base that is a multiple of 4,096 and ends by 2^32, in memories that are not refused
+module _ (ms : List Mapping) (narrow : All Narrow ms) (apart : Disjoint ms) (phys : All Phys ms) (base : ℕ) (unit : base % 4096 ≡ 0)
+    (room : base + imageLength megabytes ms ≤ 2 ^ 32) (m : Lent) (ok : lentOk m ≡ true) (standing : Standing m base (image megabytes ms base)) where
+  abbrev t : VirtualAddress → B.Table
+  t va = tableOf ms (va .0 / 2 ^ 20)
+
+  look-is : (va : VirtualAddress) → va .0 < limit
+      → lookIn m base va ≡ walked (foundFor (tableOf ms (va .0 / 2 ^ 20)) (holder ms va) va) (readsFor (placeIn m) base (tableStart megabytes ms (va .0 / 2 ^ 20)) va (tableOf ms (va .0 / 2 ^ 20)))
+  look-is va low =
+      ap (walkFrom (readIn m) firstOf (va .0)) (first-at-legal base (va .0) (omega arith) low)
+      ∙ over megabytes ms base (readIn m) (placeIn m) (stands megabytes ms phys base room m ok standing) narrow unit va (omega arith)
+
+  found-is : (va : VirtualAddress) → va .0 < limit → lookIn m base va .found ≡ foundFor (tableOf ms (va .0 / 2 ^ 20)) (holder ms va) va
+  found-is va low = ap (λ (w : Walked). w .found) (look-is va low)
+
+  pub translates : Translates m base ms
+  translates =
+      record {
+        gives = λ va low. subst (Gives (holder ms va) va) (sym (found-is va low)) (found-gives (t va) va (holder ms va) (known ms narrow va (t va) refl));
+        uniform = λ va va′ p low e s.
+            let low′ : va′ .0 < limit = below (lowBits (p .kind)) (lowBits-le (p .kind)) (va .0) (va′ .0) low s in
+            found-is va′ low′ ∙ found-uniform ms narrow apart va va′ p (sym (found-is va low) ∙ e) s;
+        inside = λ va low.
+            subst (λ (w : Walked). Inside base (imageLength megabytes ms) (w .reads)) (sym (look-is va low))
+            (reads-inside megabytes ms base (placeIn m) va (omega arith));
+      }
+    where
+      below : (k : ℕ) → k ≤ 20 → (x y : ℕ) → x < limit → y / 2 ^ k ≡ x / 2 ^ k → y < limit
+      below k h x y low e = omega (arith, agree-up k 20 y x h e)
+
+pub image-translates : ImageTranslates
+image-translates rs base room len m bytes e ok standing =
+    let a = accepted rs base room len e in
+    translates (mappings rs) (all-map (mappings rs) (narrow-of megabytes) (accepted-proper megabytes rs (a .records)))
+    (accepted-disjoint megabytes rs (a .records)) (all-records Phys rs (λ k _. phys-of rs bytes k)) base (room-unit base room (a .memory))
+    (omega (arith, a .fits, room-memory base room (a .memory))) m ok standing
+
+-- a list is accepted exactly when no refusal's condition holds
+pub accepted-no-refusal : (rs : List ℕ) (base room len : ℕ) → answerOf rs base room ≡ Length len → Accepts rs base room
+accepted-no-refusal rs base room len e =
+    let a = accepted rs base room len e in
+    record {
+      no4 = a .memory;
+      no10 = λ i h. fine-clean megabytes rs (a .records) i h .0;
+      no11 = λ i h. fine-clean megabytes rs (a .records) i h .1;
+      no12 = le-ltb _ _ (a .fits);
+    }
+
+pub no-refusal-accepted : (rs : List ℕ) (base room : ℕ) → Accepts rs base room → answerOf rs base room ≡ Length (imageLength megabytes (mappings rs))
+no-refusal-accepted rs base room a =
+    accepts rs base room (imageLength megabytes (mappings rs))
+    (record { memory = a .no4; records = clean-fine megabytes rs (λ i h. (a .no10 i h, a .no11 i h)); fits = ltb-false _ _ (a .no12); length-is = refl })
+
+-- a build leaves the image of an accepted list
+pub leaves-image : LeavesImage
+unfolding buildOf
+leaves-image rs base len before e = ap (λ (b : Built). leaves b (image megabytes (mappings rs) base) before) e
+
+-- so the memory that was built in has it, lent at the base
+pub built-has : (rs : List ℕ) (base len : ℕ) (before : List ℕ) → answerOf rs base (length before) ≡ Length len
+    → Has (buildOf rs base before .memory) base base (image megabytes (mappings rs) base)
+built-has rs base len before e =
+    let img : List ℕ = image megabytes (mappings rs) base in (
+      le-refl base,
+      ap₂ (λ (l : List ℕ) (k : ℕ). take (length img) (drop k l)) (leaves-image rs base len before e) (let z : base - base ≡ 0 = omega arith in z)
+          ∙ take-append-seam img (drop len before),
+    )

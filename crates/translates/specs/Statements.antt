@@ -1,0 +1,97 @@
+-- What the image of an accepted list owes (01, demand 3): the plain walk over it finds what the list says, the same over a
+-- page's whole range, and needs no word outside it.
+use Rattle.page.specs.Ground.{ℕ, _+_, _-_, _*_, _/_, _^_, _<_, _≤_, _≡_, true, false, not, List, _++_, ltb, length, getD, take, drop}
+use Rattle.page.specs.Words.{lowBits}
+use Rattle.page.specs.declared.VirtualAddress.{VirtualAddress}
+use Rattle.memory.specs.Memory.{Lent, lentOk}
+use Rattle.memory.specs.declared.Source.{Source}
+use Rattle.memory.specs.declared.Reads.{Reads}
+use Rattle.memory.specs.declared.Reads.the-variants.{Nothing, One, Two}
+use Rattle.walk.specs.declared.Page.{Page}
+use Rattle.walk.specs.declared.Found.{Found}
+use Rattle.walk.specs.declared.Found.the-variants as D
+use Rattle.walk.specs.declared.Walked.{Walked}
+use Rattle.walk.specs.Walk.{physicalOf, walkIn}
+use Rattle.records.specs.declared.Mapping.{Mapping}
+use Rattle.records.specs.declared.Held.{Held}
+use Rattle.records.specs.declared.Held.the-variants.{By, Nobody}
+use Rattle.records.specs.Mappings.{mappings, holder, byteOf}
+use Rattle.records.specs.Checks.{megabytes, bad, overlapping, begun}
+use Rattle.builder.specs.declared.Built.the-variants.{Length}
+use Rattle.builder.specs.Tables.{imageLength}
+use Rattle.builder.specs.Image.{image}
+use Rattle.builder.specs.Build.{roomOk, answerOf, buildOf}
+use mathlib.Core.Logic.{_⊎_}
+
+-- what a walk comes to at each address
+abbrev pub Look : Type 0
+Look = VirtualAddress → Walked
+
+abbrev pub lookIn : Lent → ℕ → Look
+lookIn m base va = walkIn m base (va .0)
+
+-- the first address past the virtual ones
+abbrev pub limit : ℕ
+limit = megabytes * 2 ^ 20
+
+-- where a walk below an end finds a page, it finds the same page at every address of that page
+abbrev pub Uniform : ℕ → Look → Type 0
+Uniform end look =
+    (va va′ : VirtualAddress) (p : Page) → va .0 < end → look va .found ≡ D.Page p →
+    va′ .0 / 2 ^ lowBits (p .kind) ≡ va .0 / 2 ^ lowBits (p .kind) → look va′ .found ≡ D.Page p
+
+-- what is found has the byte and the access of the mapping that holds the address; where none does, no page is found
+abbrev pub Gives : Held → VirtualAddress → Found → Type 0
+Gives (By m) va (D.Page p) = (physicalOf p va ≡ byteOf m va) × (p .access ≡ m .access)
+Gives (By m) va D.NoPage = ⊥
+Gives (By m) va D.Missing = ⊥
+Gives Nobody va (D.Page p) = ⊥
+Gives Nobody va D.NoPage = Unit
+Gives Nobody va D.Missing = ⊥
+
+-- a word lies in the n bytes at base
+abbrev pub Within : ℕ → ℕ → Source → Type 0
+Within base n s = (base ≤ s .at .0) × (s .at .0 + 4 ≤ base + n)
+
+-- a walk read one or two words, and they lie in the n bytes at base
+abbrev pub Inside : ℕ → ℕ → Reads → Type 0
+Inside base n Nothing = ⊥
+Inside base n (One s) = Within base n s
+Inside base n (Two s t) = Within base n s × Within base n t
+
+-- a memory lent at b has bytes at an address, among others
+abbrev pub Has : List ℕ → ℕ → ℕ → List ℕ → Type 0
+Has l b at bytes = (b ≤ at) × (take (length bytes) (drop (at - b) l) ≡ bytes)
+
+-- one of the two memories has them
+abbrev pub Standing : Lent → ℕ → List ℕ → Type 0
+Standing m at bytes = Has (m .on) (m .onbase) at bytes ⊎ Has (m .ext) (m .extbase) at bytes
+
+-- what two memories owe a list whose image stands at a base in one of them
+pub record Translates (m : Lent) (base : ℕ) (ms : List Mapping) : Type 0 where
+  pub gives : (va : VirtualAddress) → va .0 < limit → Gives (holder ms va) va (lookIn m base va .found)
+  pub uniform : Uniform limit (lookIn m base)
+  pub inside : (va : VirtualAddress) → va .0 < limit → Inside base (imageLength megabytes ms) (lookIn m base va .reads)
+
+-- a list of bytes
+abbrev pub Bytes : List ℕ → Type 0
+Bytes l = (i : ℕ) → getD l i 0 < 256
+
+-- every accepted list, wherever its image stands in memories that are not refused
+abbrev pub ImageTranslates : Type 0
+ImageTranslates =
+    (rs : List ℕ) (base room len : ℕ) (m : Lent) → Bytes rs → answerOf rs base room ≡ Length len → lentOk m ≡ true →
+    Standing m base (image megabytes (mappings rs) base) → Translates m base (mappings rs)
+
+-- a list is accepted exactly when no refusal's condition holds: 4, 10 and 11 of a record that the input begins, 12
+pub record Accepts (rs : List ℕ) (base room : ℕ) : Type 0 where
+  pub no4 : roomOk base room ≡ true
+  pub no10 : (i : ℕ) → i < begun rs → bad megabytes rs i ≡ false
+  pub no11 : (i : ℕ) → i < begun rs → overlapping rs i ≡ false
+  pub no12 : ltb room (imageLength megabytes (mappings rs)) ≡ false
+
+-- an accepted list's image is what a build leaves, and every later byte as it was
+abbrev pub LeavesImage : Type 0
+LeavesImage =
+    (rs : List ℕ) (base len : ℕ) (before : List ℕ) → answerOf rs base (length before) ≡ Length len →
+    buildOf rs base before .memory ≡ image megabytes (mappings rs) base ++ drop len before
