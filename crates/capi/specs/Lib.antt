@@ -1,0 +1,5 @@
+pub mod Words
+pub mod Answers
+pub mod State
+pub mod Handed
+pub mod Run

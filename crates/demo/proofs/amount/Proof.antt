@@ -1,0 +1,26 @@
+use mathlib.Core.Path.{sym, subst}
+use lib.Dec.{T}
+use lib.Ieee.{ofBits, neg}
+use borrow.Author.Needs.{needs}
+use Rattle.demo.proofs.amount.Statement.{statement}
+use Rattle.demo.proofs.amount.Tie as tie
+
+truncating-f64-to-u64-requires : tie.Need-truncating-f64-to-u64-requires
+unfolding ofBits neg
+truncating-f64-to-u64-requires c κs = (subst T (sym (c .before .if1 .taken)) tt, subst T (sym (c .if2 .taken)) tt)
+
+whole-requires : tie.Need-whole-requires
+whole-requires c κs = search needs
+
+returns : tie.Need-returns
+returns c = search needs
+
+returns-2 : tie.Need-returns-2
+returns-2 c = search needs
+
+returns-3 : tie.Need-returns-3
+returns-3 c = search needs
+
+pub amount-spec : {M : Type 1} → statement M
+amount-spec =
+    tie.close (tie.spec truncating-f64-to-u64-requires whole-requires returns returns-2 returns-3)

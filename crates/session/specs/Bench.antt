@@ -1,0 +1,46 @@
+-- A bench in the middle of a session: what a call of a record makes of it and says, by the machine's own step (01, demand 2; 02, P1).
+use Rattle.page.specs.Ground.{List, [], _∷_}
+use Rattle.meters.specs.Posted.{noMeters, posted}
+use Rattle.meters.specs.declared.Meters.{Meters}
+use Rattle.bill.specs.Bill.{freshBill}
+use Rattle.registers.specs.declared.Answer.the-variants.{Done}
+use Rattle.unit.specs.Types.{Lent, Prices}
+use Rattle.unit.specs.Device.{freshDevice}
+use Rattle.unit.specs.Machine as M
+use Rattle.unit.specs.Machine.{Step, step}
+use Rattle.calls.specs.declared.Call.{Call}
+use Rattle.calls.specs.declared.Call.the-variants as C
+use Rattle.session.specs.declared.Bench.{Bench}
+use Rattle.session.specs.declared.Said.{Said}
+use Rattle.session.specs.declared.Said.the-variants.{Answered, Reported}
+use Rattle.session.specs.declared.Stepped.{Stepped}
+
+-- a fresh device, bill and meters
+abbrev pub freshBench : Bench
+freshBench = record { device = freshDevice; bill = freshBill; meters = noMeters }
+
+-- what the machine says
+abbrev pub saidOf : M.Said → Said
+saidOf (M.answered r) = Answered r
+saidOf (M.reported s) = Reported s
+
+-- a step of the machine, its tally posted to the meters
+abbrev pub made : Meters → Step → Stepped
+made t s = record {
+  bench = record { device = s .device; bill = s .bill; meters = posted t (s .tally) };
+  said = saidOf (s .said);
+}
+
+-- a call with its prices; a record that is none changes nothing
+abbrev pub stepped : Lent → Prices → Bench → Call → Stepped
+stepped m p b (C.Write o v) = made (b .meters) (step m (b .device) (b .bill) (M.write o v p))
+stepped m p b (C.Read o) = made (b .meters) (step m (b .device) (b .bill) (M.read o))
+stepped m p b (C.Request va a) = made (b .meters) (step m (b .device) (b .bill) (M.request va a p))
+stepped m p b C.Drop = made (b .meters) (step m (b .device) (b .bill) M.drop-fault)
+stepped m p b (C.Shift va) = made (b .meters) (step m (b .device) (b .bill) (M.shift va))
+stepped m p b C.Bad = record { bench = b; said = Answered Done }
+
+-- the bench after any calls in order
+abbrev pub benchRun : Lent → Prices → Bench → List Call → Bench
+benchRun m p b [] = b
+benchRun m p b (c ∷ cs) = benchRun m p (stepped m p b c .bench) cs
