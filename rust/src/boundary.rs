@@ -1,0 +1,412 @@
+//! The byte boundary: build, run, from and fetch over byte slices. All numbers
+//! are little-endian.
+
+use crate::answer::{Answer, Fault};
+use crate::bill::{Bill, Price, Prices};
+use crate::builder::{self, Refused};
+use crate::memory::{Memories, Role};
+use crate::meters::Meters;
+use crate::unit::{Access, Books, Image, Lent, Pending, Unit, SLOTS};
+
+/// Bytes of one call, of one answer, and of the state.
+pub const CALL: usize = 12;
+pub const ANSWER: usize = 16;
+pub const STATE: usize = 328;
+
+/// Kinds of calls.
+pub const WRITE: u8 = 1;
+pub const READ: u8 = 2;
+pub const REQUEST: u8 = 3;
+pub const DROP: u8 = 4;
+pub const SHIFT: u8 = 5;
+
+/// Where things are in a state.
+pub const SLOTS_AT: usize = 28;
+pub const PENDING_AT: usize = 284;
+pub const METERS_AT: usize = 292;
+pub const BILL_AT: usize = 304;
+pub const ROWS_AT: usize = 320;
+
+/// A price as it crosses: kind (0 flat, 1 row) and two figures.
+pub type Quote = (u32, f64, f64);
+
+/// The four functions of the boundary, of whichever program.
+#[allow(clippy::too_many_arguments)]
+pub trait Program {
+    fn name(&self) -> &'static str;
+
+    fn build(&self, records: &[u8], base: u32, memory: &mut [u8]) -> u64;
+
+    fn run(
+        &self,
+        calls: &[u8],
+        on_chip: &[u8],
+        on_chip_base: u32,
+        external: &[u8],
+        external_base: u32,
+        on_chip_price: Quote,
+        external_price: Quote,
+        out: &mut [u8],
+    ) -> u64;
+
+    fn from(
+        &self,
+        state: &[u8],
+        total: f64,
+        misses: f64,
+        calls: &[u8],
+        on_chip: &[u8],
+        on_chip_base: u32,
+        external: &[u8],
+        external_base: u32,
+        on_chip_price: Quote,
+        external_price: Quote,
+        out: &mut [u8],
+    ) -> u64;
+
+    fn fetch(
+        &self,
+        on_chip: &[u8],
+        on_chip_base: u32,
+        external: &[u8],
+        external_base: u32,
+        address: u32,
+    ) -> u64;
+}
+
+/// This program.
+#[derive(Clone, Copy, Debug)]
+pub struct Second;
+
+impl Program for Second {
+    fn name(&self) -> &'static str {
+        "second"
+    }
+
+    fn build(&self, records: &[u8], base: u32, memory: &mut [u8]) -> u64 {
+        build(records, base, memory)
+    }
+
+    fn run(
+        &self,
+        calls: &[u8],
+        on_chip: &[u8],
+        on_chip_base: u32,
+        external: &[u8],
+        external_base: u32,
+        on_chip_price: Quote,
+        external_price: Quote,
+        out: &mut [u8],
+    ) -> u64 {
+        run(
+            calls,
+            on_chip,
+            on_chip_base,
+            external,
+            external_base,
+            on_chip_price,
+            external_price,
+            out,
+        )
+    }
+
+    fn from(
+        &self,
+        state: &[u8],
+        total: f64,
+        misses: f64,
+        calls: &[u8],
+        on_chip: &[u8],
+        on_chip_base: u32,
+        external: &[u8],
+        external_base: u32,
+        on_chip_price: Quote,
+        external_price: Quote,
+        out: &mut [u8],
+    ) -> u64 {
+        from(
+            state,
+            total,
+            misses,
+            calls,
+            on_chip,
+            on_chip_base,
+            external,
+            external_base,
+            on_chip_price,
+            external_price,
+            out,
+        )
+    }
+
+    fn fetch(
+        &self,
+        on_chip: &[u8],
+        on_chip_base: u32,
+        external: &[u8],
+        external_base: u32,
+        address: u32,
+    ) -> u64 {
+        fetch(on_chip, on_chip_base, external, external_base, address)
+    }
+}
+
+/// The image's length; or 2^63 + number * 2^32 + index or count.
+pub fn build(records: &[u8], base: u32, memory: &mut [u8]) -> u64 {
+    match builder::build(records, base, memory) {
+        Ok(length) => length as u64,
+        Err(Refused { refusal, at }) => 1 << 63 | (refusal as u64) << 32 | u64::from(at),
+    }
+}
+
+/// Memory * 2^60 + offset * 2^32 + word; 0 where the four bytes are nowhere.
+pub fn fetch(
+    on_chip: &[u8],
+    on_chip_base: u32,
+    external: &[u8],
+    external_base: u32,
+    address: u32,
+) -> u64 {
+    let memories = Memories::new(on_chip, on_chip_base, external, external_base);
+    match memories.word(address) {
+        None => 0,
+        Some((role, word)) => {
+            let memory = match role {
+                Role::OnChip => 1,
+                Role::External => 2,
+            };
+            memory << 60 | u64::from(memories.offset(role, address)) << 32 | u64::from(word)
+        }
+    }
+}
+
+/// Runs calls from a fresh device, meters and bill. The bytes written, or 0.
+#[allow(clippy::too_many_arguments)]
+pub fn run(
+    calls: &[u8],
+    on_chip: &[u8],
+    on_chip_base: u32,
+    external: &[u8],
+    external_base: u32,
+    on_chip_price: Quote,
+    external_price: Quote,
+    out: &mut [u8],
+) -> u64 {
+    let memories = Memories::new(on_chip, on_chip_base, external, external_base);
+    let Some((lent, out)) = open(calls, memories, on_chip_price, external_price, out) else {
+        return 0;
+    };
+    let (answers, state) = out.split_at_mut(out.len() - STATE);
+    let mut unit = Unit::fresh();
+    let mut books = Books::default();
+    play(&mut unit, &mut books, &lent, calls, answers);
+    encode(&unit.image(), &books, state);
+    (answers.len() + STATE) as u64
+}
+
+/// The same from a handed-in state.
+#[allow(clippy::too_many_arguments)]
+pub fn from(
+    state: &[u8],
+    total: f64,
+    misses: f64,
+    calls: &[u8],
+    on_chip: &[u8],
+    on_chip_base: u32,
+    external: &[u8],
+    external_base: u32,
+    on_chip_price: Quote,
+    external_price: Quote,
+    out: &mut [u8],
+) -> u64 {
+    let memories = Memories::new(on_chip, on_chip_base, external, external_base);
+    let Some((image, mut books)) = decode(state, total, misses) else {
+        return 0;
+    };
+    let Some((lent, out)) = open(calls, memories, on_chip_price, external_price, out) else {
+        return 0;
+    };
+    let (answers, state) = out.split_at_mut(out.len() - STATE);
+    match Unit::try_from(&image) {
+        Ok(mut unit) => {
+            play(&mut unit, &mut books, &lent, calls, answers);
+            encode(&unit.image(), &books, state);
+        }
+        // A device out of range: every call answers 8 and changes nothing.
+        Err(refusal) => {
+            for out in answers.chunks_exact_mut(ANSWER) {
+                say(Answer::Refused(refusal), out);
+            }
+            encode(&image, &books, state);
+        }
+    }
+    (answers.len() + STATE) as u64
+}
+
+/// What has to hold for a list to be run at all: `None` where it does not.
+/// Gives what is lent, and the part of `out` that will be written.
+fn open<'a, 'b>(
+    calls: &[u8],
+    memories: Memories<'a>,
+    on_chip_price: Quote,
+    external_price: Quote,
+    out: &'b mut [u8],
+) -> Option<(Lent<'a>, &'b mut [u8])> {
+    let prices = Prices::new(price(on_chip_price)?, price(external_price)?);
+    let records = calls.chunks_exact(CALL);
+    // Kind, offset or access, two zero bytes, address, value below 65,536; what a kind does not use is zero.
+    let as_said = |call: &[u8]| {
+        let zero = |bytes: &[u8]| bytes.iter().all(|&byte| byte == 0);
+        zero(&call[2..4])
+            && zero(&call[10..12])
+            && match call[0] {
+                WRITE => zero(&call[4..8]),
+                READ => zero(&call[4..10]),
+                REQUEST => call[1] <= 1 && zero(&call[8..10]),
+                DROP => zero(&call[1..10]),
+                SHIFT => call[1] == 0 && zero(&call[8..10]),
+                _ => false,
+            }
+    };
+    if !records.remainder().is_empty() || !records.clone().all(as_said) {
+        return None;
+    }
+    let out = out.get_mut(..records.len() * ANSWER + STATE)?;
+    Some((Lent { memories, prices }, out))
+}
+
+fn price((kind, a, b): Quote) -> Option<Price> {
+    match kind {
+        0 => Some(Price::Flat(a)),
+        1 => Some(Price::Row { same: a, new: b }),
+        _ => None,
+    }
+}
+
+/// Plays a list of calls that are as said, one answer for each.
+fn play(unit: &mut Unit, books: &mut Books, lent: &Lent, calls: &[u8], answers: &mut [u8]) {
+    for (call, out) in calls.chunks_exact(CALL).zip(answers.chunks_exact_mut(ANSWER)) {
+        let address = word(call, 4);
+        let offset = u32::from(call[1]);
+        let answer = match call[0] {
+            REQUEST => unit.request(lent, books, address, Access::from_byte(call[1])),
+            WRITE => unit.write(lent, books, offset, half(call, 8)),
+            READ => unit.read(offset),
+            DROP => unit.drop_fault(),
+            _ => unit.shift_report(&lent.memories, address),
+        };
+        say(answer, out);
+    }
+}
+
+#[inline]
+fn say(answer: Answer, out: &mut [u8]) {
+    out[..8].copy_from_slice(&u64::from(answer.number()).to_le_bytes());
+    out[8..16].copy_from_slice(&answer.value().to_le_bytes());
+}
+
+#[inline]
+fn half(bytes: &[u8], at: usize) -> u16 {
+    u16::from_le_bytes([bytes[at], bytes[at + 1]])
+}
+
+#[inline]
+fn word(bytes: &[u8], at: usize) -> u32 {
+    u32::from_le_bytes([bytes[at], bytes[at + 1], bytes[at + 2], bytes[at + 3]])
+}
+
+/// A word kept as two halves, the high one first.
+fn halves(bytes: &[u8], at: usize) -> u32 {
+    u32::from(half(bytes, at)) << 16 | u32::from(half(bytes, at + 2))
+}
+
+/// A handed-in state; `None` where it is none. The bill's figures come beside it.
+fn decode(state: &[u8], total: f64, misses: f64) -> Option<(Image, Books)> {
+    if state.len() != STATE {
+        return None;
+    }
+    if state[PENDING_AT + 1] > 1 {
+        return None;
+    }
+    let access = Access::from_byte(state[PENDING_AT + 1]);
+    let pending = match state[PENDING_AT] {
+        0 => None,
+        status => Some(Pending {
+            fault: Fault::from_status(status)?,
+            access,
+            address: word(state, PENDING_AT + 4),
+        }),
+    };
+    let image = Image {
+        prefetch: half(state, 0),
+        control: half(state, 2),
+        base: word(state, 4),
+        lock_base: half(state, 8),
+        victim: half(state, 10),
+        cam: halves(state, 12),
+        ram: halves(state, 16),
+        read_cam: halves(state, 20),
+        read_ram: halves(state, 24),
+        slots: core::array::from_fn(|slot| {
+            let at = SLOTS_AT + 8 * slot;
+            (halves(state, at), halves(state, at + 4))
+        }),
+        pending,
+    };
+    let meters = Meters {
+        fresh: word(state, METERS_AT),
+        retries: word(state, METERS_AT + 4),
+        words: word(state, METERS_AT + 8),
+    };
+    let rows = [word(state, ROWS_AT), word(state, ROWS_AT + 4)];
+    Some((image, Books { meters, bill: Bill { total, misses, rows } }))
+}
+
+/// The state as it is handed back. `out` has 328 bytes.
+fn encode(image: &Image, books: &Books, out: &mut [u8]) {
+    let mut at = 0;
+    let mut put = |bytes: &[u8]| {
+        out[at..at + bytes.len()].copy_from_slice(bytes);
+        at += bytes.len();
+    };
+    put(&image.prefetch.to_le_bytes());
+    put(&image.control.to_le_bytes());
+    put(&image.base.to_le_bytes());
+    put(&image.lock_base.to_le_bytes());
+    put(&image.victim.to_le_bytes());
+    for word in [image.cam, image.ram, image.read_cam, image.read_ram] {
+        put(&word.rotate_left(16).to_le_bytes());
+    }
+    debug_assert_eq!(image.slots.len(), SLOTS);
+    for &(cam, ram) in &image.slots {
+        put(&cam.rotate_left(16).to_le_bytes());
+        put(&ram.rotate_left(16).to_le_bytes());
+    }
+    let (status, access, address) = match image.pending {
+        None => (0, 0, 0),
+        Some(pending) => (pending.fault.status(), pending.access as u8, pending.address),
+    };
+    put(&[status, access, 0, 0]);
+    put(&address.to_le_bytes());
+    put(&books.meters.fresh.to_le_bytes());
+    put(&books.meters.retries.to_le_bytes());
+    put(&books.meters.words.to_le_bytes());
+    put(&figure(books.bill.total).to_le_bytes());
+    put(&figure(books.bill.misses).to_le_bytes());
+    put(&books.bill.rows[0].to_le_bytes());
+    put(&books.bill.rows[1].to_le_bytes());
+    debug_assert_eq!(at, STATE);
+}
+
+/// The bits of a figure; one NaN stands for all.
+fn figure(figure: f64) -> u64 {
+    if figure.is_nan() {
+        0x7FF8_0000_0000_0000
+    } else {
+        figure.to_bits()
+    }
+}
+
+#[cfg(test)]
+#[path = "boundary_tests.rs"]
+mod tests;

@@ -1,0 +1,156 @@
+//! Rows worked out by hand from the boundary's description.
+
+use super::*;
+
+fn call(kind: u8, second: u8, address: u32, value: u32) -> [u8; 12] {
+    let mut bytes = [kind, second, 0, 0, 0, 0, 0, 0, 0, 0, 0, 0];
+    bytes[4..8].copy_from_slice(&address.to_le_bytes());
+    bytes[8..].copy_from_slice(&value.to_le_bytes());
+    bytes
+}
+
+const FLAT: Quote = (0, 1.0, f64::NAN);
+
+fn run_fresh(calls: &[u8], out: &mut [u8]) -> u64 {
+    run(calls, &[], 0, &[], 0, FLAT, FLAT, out)
+}
+
+#[test]
+fn a_fresh_state() {
+    let mut out = [0xAA; STATE + 1];
+    assert_eq!(run_fresh(&[], &mut out), STATE as u64);
+    let mut expected = [0; STATE];
+    expected[ROWS_AT..].fill(0xFF);
+    assert_eq!(out[..STATE], expected);
+    assert_eq!(out[STATE], 0xAA);
+}
+
+#[test]
+fn answers_and_state_to_the_byte() {
+    let calls = [
+        call(WRITE, 0x1C, 0, 0x1234),
+        call(WRITE, 0x24, 0, 31 << 10 | 5 << 4),
+        call(WRITE, 0x2C, 0, 2),
+        call(WRITE, 0x30, 0, 0x5677),
+        call(WRITE, 0x34, 0, 0x89AB),
+        call(WRITE, 0x38, 0, 0xCD00),
+        call(WRITE, 0x28, 0, 1),
+        call(WRITE, 0x28, 0, 2),
+        call(WRITE, 0x08, 0, 3),
+        call(REQUEST, 1, 0x12_3456, 0),
+        call(READ, 0x10, 0, 0),
+        call(SHIFT, 0, 0, 0),
+        call(READ, 0xFE, 0, 0),
+    ]
+    .concat();
+    let mut out = vec![0xAA; 13 * 16 + STATE];
+    assert_eq!(run_fresh(&calls, &mut out), out.len() as u64);
+    let numbers: Vec<(u64, u64)> = out[..13 * 16]
+        .chunks(16)
+        .map(|answer| {
+            let (number, value) = answer.split_at(8);
+            (
+                u64::from_le_bytes(number.try_into().unwrap()),
+                u64::from_le_bytes(value.try_into().unwrap()),
+            )
+        })
+        .collect();
+    let mut expected = vec![(0, 0); 13];
+    expected[9] = (22, 0);
+    expected[10] = (101, 0x3400);
+    expected[11] = (3, 0);
+    expected[12] = (5, 0);
+    assert_eq!(numbers, expected);
+    let state = &out[13 * 16..];
+    let head = [
+        0, 0, 3, 0, 0, 0, 0x34, 0x12, 31, 0, 5, 0, 2, 0, 0x77, 0x56, 0xAB, 0x89, 0, 0xCD, 2, 0,
+        0x77, 0x56, 0xAB, 0x89, 0, 0xCD,
+    ];
+    assert_eq!(state[..28], head);
+    for slot in 0..32 {
+        let bytes = &state[28 + 8 * slot..][..8];
+        assert_eq!(bytes, if slot == 5 { &head[12..20] } else { &[0; 8] });
+    }
+    assert_eq!(state[284..292], [2, 1, 0, 0, 0x56, 0x34, 0x12, 0]);
+    assert_eq!(state[292..304], [1, 0, 0, 0, 0, 0, 0, 0, 0, 0, 0, 0]);
+    assert_eq!(state[304..312], [0; 8]);
+    assert_eq!(state[312..320], 0.125_f64.to_le_bytes());
+    assert_eq!(state[320..], [0xFF; 8]);
+}
+
+#[test]
+fn lists_that_are_not_as_said() {
+    let good = call(REQUEST, 1, 0, 0);
+    let refused = |calls: &[u8]| {
+        let mut out = vec![0xAA; calls.len() / 12 * 16 + STATE];
+        let answer = run_fresh(calls, &mut out);
+        assert_eq!(answer == 0, out.iter().all(|&byte| byte == 0xAA));
+        answer == 0
+    };
+    assert!(!refused(&good));
+    assert!(refused(&good[..11]));
+    for (at, byte) in [(0, 0), (0, 6), (0, 255), (1, 2), (2, 1), (3, 1), (10, 1), (11, 1)] {
+        let mut bad = good;
+        bad[at] = byte;
+        assert!(refused(&bad), "{at} {byte}");
+        assert!(refused(&[good, bad].concat()), "{at} {byte}");
+    }
+    let mut out = [0xAA; 16 + STATE];
+    assert_eq!(run_fresh(&good, &mut out[1..]), 0);
+    assert_eq!(run(&good, &[], 0, &[], 0, (2, 0.0, 0.0), FLAT, &mut out), 0);
+    assert_eq!(run(&good, &[], 0, &[], 0, FLAT, (9, 0.0, 0.0), &mut out), 0);
+    assert_eq!(out, [0xAA; 16 + STATE]);
+}
+
+#[test]
+fn states_are_handed_through() {
+    // Any bytes are taken as they stand; out of range, every call answers 8.
+    let mut state: [u8; STATE] = core::array::from_fn(|at| (at * 7 + 3) as u8);
+    state[PENDING_AT..PENDING_AT + 4].copy_from_slice(&[8, 1, 0, 0]);
+    let calls = [
+        call(WRITE, 0xFF, 0, 0),
+        call(READ, 0, 0, 0),
+        call(REQUEST, 0, u32::MAX, 0),
+        call(DROP, 0, 0, 0),
+        call(SHIFT, 0, u32::MAX, 0),
+    ]
+    .concat();
+    let mut out = vec![0xAA; 5 * 16 + STATE];
+    let nan = f64::from_bits(0xFFF0_0000_0000_0001);
+    let n = from(&state, nan, -0.0, &calls, &[], 1, &[], 2, FLAT, FLAT, &mut out);
+    assert_eq!(n, out.len() as u64);
+    for answer in out[..80].chunks(16) {
+        assert_eq!(answer, [8, 0, 0, 0, 0, 0, 0, 0, 0, 0, 0, 0, 0, 0, 0, 0]);
+    }
+    state[304..312].copy_from_slice(&0x7FF8_0000_0000_0000_u64.to_le_bytes());
+    state[312..320].copy_from_slice(&(1_u64 << 63).to_le_bytes());
+    assert_eq!(out[80..], state);
+    for (at, byte) in [(PENDING_AT, 3), (PENDING_AT, 16), (PENDING_AT + 1, 2)] {
+        let mut bad = state;
+        bad[at] = byte;
+        assert_eq!(from(&bad, 0.0, 0.0, &[], &[], 0, &[], 0, FLAT, FLAT, &mut out), 0);
+    }
+    assert_eq!(from(&state[1..], 0.0, 0.0, &[], &[], 0, &[], 0, FLAT, FLAT, &mut out), 0);
+}
+
+#[test]
+fn fetched_words() {
+    let on = [1, 2, 3, 4, 5, 6, 7, 8];
+    let external = [9, 10, 11, 12];
+    let go = |address| fetch(&on, 0x100, &external, 0x108, address);
+    assert_eq!(go(0x100), 0x1000_0000_0403_0201);
+    assert_eq!(go(0x104), 0x1000_0004_0807_0605);
+    assert_eq!(go(0x103), 0x1000_0003_0706_0504);
+    assert_eq!(go(0x108), 0x2000_0000_0C0B_0A09);
+    assert_eq!(go(0x105), 0);
+    assert_eq!(go(0x10C), 0);
+    assert_eq!(fetch(&on, 0x100, &external, 0x104, 0x100), 0);
+}
+
+#[test]
+fn builds_as_numbers() {
+    assert_eq!(build(&[], 0, &mut [1; 64]), 64);
+    assert_eq!(build(&[], 4, &mut [1; 64]), 1 << 63 | 4 << 32);
+    assert_eq!(build(&[0], 0, &mut [1; 64]), 1 << 63 | 10 << 32);
+    assert_eq!(build(&[], 0, &mut [1; 60]), 1 << 63 | 12 << 32);
+}

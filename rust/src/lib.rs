@@ -1,0 +1,16 @@
+//! A second program for the memory unit of a DSP and for the builder of its
+//! address tables, written from the scope paper (01) and its sources alone.
+//!
+//! It is an oracle for differential tests and a yardstick for speed. Section
+//! names in the comments are those of paper 01; tables are those of source 000.
+
+pub mod answer;
+pub mod bill;
+pub mod boundary;
+pub mod builder;
+pub mod dice;
+pub mod memory;
+pub mod meters;
+pub mod native;
+pub mod unit;
+pub mod walk;

@@ -1,0 +1,254 @@
+//! The proved implementation, through the C functions of the boundary.
+//!
+//! It is there where the build found its archive (see `build.rs`); `linked`
+//! gives it, or `None`.
+
+use crate::boundary::{Program, Quote};
+
+/// The proved implementation. There is no value of it where it is not linked.
+#[derive(Clone, Copy, Debug)]
+pub struct Native(Linked);
+
+/// The proved implementation, where it is linked.
+pub fn linked() -> Option<Native> {
+    linkage()
+}
+
+#[cfg(native)]
+#[derive(Clone, Copy, Debug)]
+struct Linked;
+
+#[cfg(native)]
+fn linkage() -> Option<Native> {
+    Some(Native(Linked))
+}
+
+#[cfg(not(native))]
+#[derive(Clone, Copy, Debug)]
+enum Linked {}
+
+#[cfg(not(native))]
+fn linkage() -> Option<Native> {
+    None
+}
+
+#[cfg(native)]
+mod c {
+    extern "C" {
+        pub fn nx_build(
+            records: *const u8,
+            records_len: usize,
+            base: u32,
+            memory: *mut u8,
+            memory_len: usize,
+        ) -> u64;
+
+        pub fn nx_run(
+            calls: *const u8,
+            calls_len: usize,
+            on_chip: *const u8,
+            on_chip_len: usize,
+            on_chip_base: u32,
+            external: *const u8,
+            external_len: usize,
+            external_base: u32,
+            on_chip_kind: u32,
+            on_chip_a: f64,
+            on_chip_b: f64,
+            external_kind: u32,
+            external_a: f64,
+            external_b: f64,
+            out: *mut u8,
+            out_len: usize,
+        ) -> u64;
+
+        pub fn nx_from(
+            state: *const u8,
+            state_len: usize,
+            total: f64,
+            misses: f64,
+            calls: *const u8,
+            calls_len: usize,
+            on_chip: *const u8,
+            on_chip_len: usize,
+            on_chip_base: u32,
+            external: *const u8,
+            external_len: usize,
+            external_base: u32,
+            on_chip_kind: u32,
+            on_chip_a: f64,
+            on_chip_b: f64,
+            external_kind: u32,
+            external_a: f64,
+            external_b: f64,
+            out: *mut u8,
+            out_len: usize,
+        ) -> u64;
+
+        pub fn nx_fetch(
+            on_chip: *const u8,
+            on_chip_len: usize,
+            on_chip_base: u32,
+            external: *const u8,
+            external_len: usize,
+            external_base: u32,
+            address: u32,
+        ) -> u64;
+    }
+}
+
+// SAFETY, of each call below: every pointer comes with its length from a slice
+// that lives through the call; those written through come from `&mut` slices,
+// which alias nothing else.
+#[cfg(native)]
+impl Program for Native {
+    fn name(&self) -> &'static str {
+        "native"
+    }
+
+    fn build(&self, records: &[u8], base: u32, memory: &mut [u8]) -> u64 {
+        unsafe {
+            c::nx_build(records.as_ptr(), records.len(), base, memory.as_mut_ptr(), memory.len())
+        }
+    }
+
+    fn run(
+        &self,
+        calls: &[u8],
+        on_chip: &[u8],
+        on_chip_base: u32,
+        external: &[u8],
+        external_base: u32,
+        on_chip_price: Quote,
+        external_price: Quote,
+        out: &mut [u8],
+    ) -> u64 {
+        unsafe {
+            c::nx_run(
+                calls.as_ptr(),
+                calls.len(),
+                on_chip.as_ptr(),
+                on_chip.len(),
+                on_chip_base,
+                external.as_ptr(),
+                external.len(),
+                external_base,
+                on_chip_price.0,
+                on_chip_price.1,
+                on_chip_price.2,
+                external_price.0,
+                external_price.1,
+                external_price.2,
+                out.as_mut_ptr(),
+                out.len(),
+            )
+        }
+    }
+
+    fn from(
+        &self,
+        state: &[u8],
+        total: f64,
+        misses: f64,
+        calls: &[u8],
+        on_chip: &[u8],
+        on_chip_base: u32,
+        external: &[u8],
+        external_base: u32,
+        on_chip_price: Quote,
+        external_price: Quote,
+        out: &mut [u8],
+    ) -> u64 {
+        unsafe {
+            c::nx_from(
+                state.as_ptr(),
+                state.len(),
+                total,
+                misses,
+                calls.as_ptr(),
+                calls.len(),
+                on_chip.as_ptr(),
+                on_chip.len(),
+                on_chip_base,
+                external.as_ptr(),
+                external.len(),
+                external_base,
+                on_chip_price.0,
+                on_chip_price.1,
+                on_chip_price.2,
+                external_price.0,
+                external_price.1,
+                external_price.2,
+                out.as_mut_ptr(),
+                out.len(),
+            )
+        }
+    }
+
+    fn fetch(
+        &self,
+        on_chip: &[u8],
+        on_chip_base: u32,
+        external: &[u8],
+        external_base: u32,
+        address: u32,
+    ) -> u64 {
+        unsafe {
+            c::nx_fetch(
+                on_chip.as_ptr(),
+                on_chip.len(),
+                on_chip_base,
+                external.as_ptr(),
+                external.len(),
+                external_base,
+                address,
+            )
+        }
+    }
+}
+
+#[cfg(not(native))]
+impl Program for Native {
+    fn name(&self) -> &'static str {
+        match self.0 {}
+    }
+
+    fn build(&self, _: &[u8], _: u32, _: &mut [u8]) -> u64 {
+        match self.0 {}
+    }
+
+    fn run(
+        &self,
+        _: &[u8],
+        _: &[u8],
+        _: u32,
+        _: &[u8],
+        _: u32,
+        _: Quote,
+        _: Quote,
+        _: &mut [u8],
+    ) -> u64 {
+        match self.0 {}
+    }
+
+    fn from(
+        &self,
+        _: &[u8],
+        _: f64,
+        _: f64,
+        _: &[u8],
+        _: &[u8],
+        _: u32,
+        _: &[u8],
+        _: u32,
+        _: Quote,
+        _: Quote,
+        _: &mut [u8],
+    ) -> u64 {
+        match self.0 {}
+    }
+
+    fn fetch(&self, _: &[u8], _: u32, _: &[u8], _: u32, _: u32) -> u64 {
+        match self.0 {}
+    }
+}

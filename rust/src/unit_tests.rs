@@ -1,0 +1,627 @@
+//! Rows worked out by hand from the paper.
+
+use super::*;
+use crate::bill::{Price, NO_ROW};
+use crate::builder::build;
+
+const BASE: u32 = 0x2000_0000;
+
+/// Offsets of Table 3, typed from it.
+const PREFETCH: u32 = 0x00;
+const CONTROL: u32 = 0x08;
+const FAULT_HIGH: u32 = 0x0C;
+const FAULT_LOW: u32 = 0x10;
+const STATUS: u32 = 0x14;
+const ACKNOWLEDGE: u32 = 0x18;
+const BASE_HIGH: u32 = 0x1C;
+const BASE_LOW: u32 = 0x20;
+const LOCK: u32 = 0x24;
+const LOAD: u32 = 0x28;
+const CAM_HIGH: u32 = 0x2C;
+const CAM_LOW: u32 = 0x30;
+const RAM_HIGH: u32 = 0x34;
+const RAM_LOW: u32 = 0x38;
+const GLOBAL_FLUSH: u32 = 0x3C;
+const ENTRY_FLUSH: u32 = 0x40;
+const READ_CAM_HIGH: u32 = 0x44;
+const READ_RAM_LOW: u32 = 0x50;
+
+/// A unit, its books, and an on-chip memory with the image of a list.
+struct Bench {
+    unit: Unit,
+    books: Books,
+    memory: Vec<u8>,
+    price: Price,
+}
+
+fn record(virtual_start: u32, physical: u32, kind: u8, access: u8) -> [u8; 12] {
+    let mut bytes = [0; 12];
+    bytes[..4].copy_from_slice(&virtual_start.to_le_bytes());
+    bytes[4..8].copy_from_slice(&physical.to_le_bytes());
+    bytes[8] = kind;
+    bytes[9] = access;
+    bytes
+}
+
+impl Bench {
+    fn with(list: &[[u8; 12]]) -> Bench {
+        let mut memory = vec![0xEE; 65_536];
+        build(&list.concat(), BASE, &mut memory).unwrap();
+        let price = Price::Flat(1.0);
+        let mut bench = Bench { unit: Unit::fresh(), books: Books::default(), memory, price };
+        bench.done(BASE_HIGH, 0x2000);
+        bench.done(CONTROL, 7);
+        bench
+    }
+
+    fn list_a() -> Bench {
+        Bench::with(&[
+            record(0x01_0000, 0x1002_0000, 1, 3),
+            record(0x30_0000, 0x1120_0000, 0, 2),
+            record(0x50_0400, 0x1000_0C00, 3, 3),
+        ])
+    }
+
+    fn go<T>(&mut self, call: impl FnOnce(&mut Unit, &Lent, &mut Books) -> T) -> T {
+        let memories = Memories::new(&self.memory, BASE, &[], 0);
+        let lent = Lent { memories, prices: Prices::new(self.price, Price::Flat(1.0)) };
+        call(&mut self.unit, &lent, &mut self.books)
+    }
+
+    fn read_at(&mut self, address: u32) -> Answer {
+        self.go(|unit, lent, books| unit.request(lent, books, address, Access::Read))
+    }
+
+    fn write_at(&mut self, address: u32) -> Answer {
+        self.go(|unit, lent, books| unit.request(lent, books, address, Access::Write))
+    }
+
+    fn set(&mut self, offset: u32, value: u16) -> Answer {
+        self.go(|unit, lent, books| unit.write(lent, books, offset, value))
+    }
+
+    fn done(&mut self, offset: u32, value: u16) {
+        assert_eq!(self.set(offset, value), Answer::Done, "{offset:x} {value:x}");
+    }
+
+    fn get(&self, offset: u32) -> u16 {
+        match self.unit.read(offset) {
+            Answer::Value(value) => value,
+            other => panic!("{offset:x}: {other:?}"),
+        }
+    }
+
+    fn load(&mut self, slot: u16, cam: u32, ram: u32) {
+        let control = self.get(CONTROL);
+        let lock = self.get(LOCK);
+        self.done(CONTROL, control & !4);
+        self.done(LOCK, lock & 0xFC00 | slot << 4);
+        self.done(CAM_HIGH, high(cam));
+        self.done(CAM_LOW, low(cam));
+        self.done(RAM_HIGH, high(ram));
+        self.done(RAM_LOW, low(ram));
+        self.done(LOAD, 1);
+        self.done(LOCK, lock);
+        self.done(CONTROL, control);
+    }
+
+    fn slot(&self, slot: usize) -> (u32, u32) {
+        self.unit.image().slots[slot]
+    }
+}
+
+fn refused(number: u32) -> impl Fn(Answer) {
+    move |answer| assert_eq!(answer.number(), number, "{answer:?}")
+}
+
+// "The unit", "The walk" and the bench sheet.
+
+#[test]
+fn a_fresh_device_is_all_zero() {
+    let image = Unit::fresh().image();
+    assert_eq!(image, Image::default());
+    assert!(image.in_range());
+    for offset in (0..=0x50).step_by(4).filter(|&offset| offset != ACKNOWLEDGE) {
+        assert_eq!(Unit::fresh().read(offset), Answer::Value(0));
+    }
+}
+
+#[test]
+fn off_is_virtual_and_unchecked() {
+    let mut bench = Bench::list_a();
+    bench.done(CONTROL, 5);
+    let bill = bench.books.bill;
+    assert_eq!(bench.write_at(0xFF_FFFF), Answer::Physical(0xFF_FFFF));
+    assert_eq!(bench.books.bill, bill);
+    assert_eq!(bench.books.meters, Meters { fresh: 1, retries: 0, words: 0 });
+}
+
+#[test]
+fn a_walk_fills_slot_0() {
+    let mut bench = Bench::list_a();
+    assert_eq!(bench.read_at(0x01_2345), Answer::Physical(0x1002_2345));
+    assert_eq!(bench.slot(0), (0x0000_0405, 0x1002_0300));
+    assert_eq!(bench.books.meters, Meters { fresh: 1, retries: 0, words: 2 });
+    // First row 80000 hex (word 0), then the word at 20000448, in row 80001.
+    assert_eq!(bench.books.bill, Bill { total: 2.0, misses: 0.125, rows: [0x8_0001, NO_ROW] });
+    assert_eq!(bench.write_at(0x01_FFFF), Answer::Physical(0x1002_FFFF));
+    assert_eq!(bench.books.meters, Meters { fresh: 2, retries: 0, words: 2 });
+    assert_eq!(bench.books.bill.misses, 0.125 - 0.015625);
+    assert_eq!(bench.get(LOCK), 1 << 4);
+}
+
+#[test]
+fn a_permission_fault_leaves_the_slot_filled() {
+    let mut bench = Bench::list_a();
+    assert_eq!(bench.write_at(0x3A_BCDE), Answer::Faulted(Fault::Permission));
+    // Section: tag 300000, type 0, valid; access 2.
+    assert_eq!(bench.slot(0), (0x0000_C004, 0x1120_0200));
+    assert_eq!(bench.get(STATUS), 4);
+    assert_eq!(bench.get(FAULT_HIGH), 0x3A);
+    assert_eq!(bench.get(FAULT_LOW), 0xBC80);
+    refused(2)(bench.read_at(0x01_0000));
+    refused(1)(bench.read_at(0x100_0000));
+    assert_eq!(bench.unit.drop_fault(), Answer::Done);
+    refused(7)(bench.unit.drop_fault());
+    assert_eq!((bench.get(STATUS), bench.get(FAULT_HIGH), bench.get(FAULT_LOW)), (0, 0, 0));
+    assert_eq!(bench.read_at(0x3A_BCDE), Answer::Physical(0x112A_BCDE));
+    assert_eq!(bench.books.meters.words, 1);
+}
+
+#[test]
+fn a_translation_fault_is_not_cached() {
+    let mut bench = Bench::list_a();
+    assert_eq!(bench.read_at(0x50_0800), Answer::Faulted(Fault::Translation));
+    assert_eq!((bench.get(LOCK), bench.slot(0)), (0, (0, 0)));
+    assert_eq!(bench.get(STATUS), 1);
+    assert_eq!(bench.books.meters.words, 2);
+    bench.unit.drop_fault();
+    assert_eq!(bench.read_at(0xFF_FFFF), Answer::Faulted(Fault::Translation));
+    assert_eq!(bench.books.meters.words, 3);
+}
+
+#[test]
+fn the_fill_goes_to_the_larger_of_victim_and_lock_base() {
+    let mut bench = Bench::list_a();
+    bench.done(LOCK, 31 << 10);
+    bench.read_at(0x01_0000);
+    assert_eq!(bench.slot(31), (0x0000_0405, 0x1002_0300));
+    assert_eq!(bench.get(LOCK), 31 << 10 | 31 << 4);
+    bench.done(LOCK, 4 << 10 | 31 << 4);
+    bench.read_at(0x30_0000);
+    assert_eq!(bench.slot(31), (0x0000_C004, 0x1120_0200));
+    assert_eq!(bench.get(LOCK), 4 << 10 | 4 << 4);
+    bench.done(LOCK, 4 << 10 | 3 << 4);
+    bench.read_at(0x50_07FF);
+    // Tiny page 500400: page number 1401 hex, so 14010 + V + type 3.
+    assert_eq!(bench.slot(4), (0x0001_4017, 0x1000_0F00));
+    assert_eq!(bench.get(LOCK), 4 << 10 | 5 << 4);
+    assert_eq!(bench.slot(3), (0, 0));
+}
+
+#[test]
+fn the_lowest_slot_that_matches_wins() {
+    let mut bench = Bench::list_a();
+    // Slot 9: section 000000 with odd tag and frame bits; slot 4: tiny page
+    // 012000, not valid; slot 7: small page 012000, no access.
+    bench.load(9, 0x0000_FFF4 & 0x3FF4, 0x700F_FF00);
+    assert_eq!(bench.write_at(0x01_2345), Answer::Physical(0x7001_2345));
+    bench.load(4, 0x0000_0483, 0x5000_0300);
+    assert_eq!(bench.write_at(0x01_2345), Answer::Physical(0x7001_2345));
+    bench.load(7, 0x0000_0486, 0x6000_0100);
+    assert_eq!(bench.read_at(0x01_2345), Answer::Faulted(Fault::Permission));
+    assert_eq!(bench.books.meters.words, 0);
+    assert_eq!(bench.books.bill.misses, 0.0);
+}
+
+#[test]
+fn no_match_without_walking_is_a_miss() {
+    let mut bench = Bench::list_a();
+    bench.done(CONTROL, 3);
+    assert_eq!(bench.read_at(0x01_2345), Answer::Faulted(Fault::Miss));
+    assert_eq!(bench.get(STATUS), 2);
+    assert_eq!(bench.books.bill.misses, 0.125);
+    assert_eq!(bench.books.meters, Meters { fresh: 1, retries: 0, words: 0 });
+}
+
+// "Registers".
+
+#[test]
+fn register_layouts() {
+    let mut bench = Bench::list_a();
+    let layouts = [
+        (CONTROL, 0x0027),
+        (BASE_HIGH, 0xFFFF),
+        (BASE_LOW, 0xFF80),
+        (CAM_HIGH, 0x0003),
+        (CAM_LOW, 0xFFFF),
+        (RAM_HIGH, 0xFFFF),
+        (RAM_LOW, 0xFF00),
+    ];
+    for (offset, bits) in layouts {
+        bench.done(offset, 0xFFFF);
+        assert_eq!(bench.get(offset), bits);
+    }
+    for (offset, bits) in layouts {
+        assert_eq!(bench.get(offset), bits);
+    }
+    bench.done(LOCK, 0x7DFF);
+    assert_eq!(bench.get(LOCK), 0x7DF0);
+    for bad in [0x8000, 0x0200, 0xFFFF, 0x81F0] {
+        refused(8)(bench.set(LOCK, bad));
+        assert_eq!(bench.get(LOCK), 0x7DF0);
+    }
+}
+
+#[test]
+fn offsets_and_directions_of_table_3() {
+    let mut bench = Bench::list_a();
+    for offset in [0x54, 0x58, 0x100, 1, 2, 3, 0x51, 0xFFFF_FFFC, u32::MAX] {
+        refused(5)(bench.set(offset, 0));
+        refused(5)(bench.unit.read(offset));
+    }
+    for offset in [0x04, 0x0C, 0x10, 0x14, 0x44, 0x48, 0x4C, 0x50] {
+        refused(6)(bench.set(offset, 0));
+    }
+    refused(6)(bench.unit.read(ACKNOWLEDGE));
+}
+
+#[test]
+fn control_with_bit_0_clear_makes_the_device_fresh() {
+    let mut bench = Bench::list_a();
+    bench.read_at(0x01_0000);
+    bench.write_at(0x30_0000);
+    let books = bench.books;
+    bench.done(CONTROL, 0xFFFE);
+    assert_eq!(bench.unit.image(), Image::default());
+    assert_eq!(bench.books, books);
+}
+
+#[test]
+fn load_and_copy_use_the_victim() {
+    let mut bench = Bench::list_a();
+    for value in [1, 2] {
+        refused(7)(bench.set(LOAD, value));
+    }
+    for value in [3, 0xFFFF] {
+        refused(8)(bench.set(LOAD, value));
+    }
+    bench.done(LOAD, 0xFFFC);
+    bench.done(CONTROL, 3);
+    // Victim 2 below lock base 5.
+    bench.done(LOCK, 5 << 10 | 2 << 4);
+    bench.done(CAM_HIGH, 2);
+    bench.done(CAM_LOW, 0x1238);
+    bench.done(RAM_HIGH, 0xABCD);
+    bench.done(RAM_LOW, 0xEF00);
+    bench.done(LOAD, 1);
+    assert_eq!(bench.slot(2), (0x0002_1238, 0xABCD_EF00));
+    bench.done(CAM_LOW, 0);
+    bench.done(LOAD, 2);
+    let read: Vec<u16> =
+        (READ_CAM_HIGH..=READ_RAM_LOW).step_by(4).map(|at| bench.get(at)).collect();
+    assert_eq!(read, [2, 0x1238, 0xABCD, 0xEF00]);
+    assert_eq!(bench.get(LOCK), 5 << 10 | 2 << 4);
+    assert_eq!(bench.get(LOAD), 0);
+    refused(8)(bench.set(LOAD, 3));
+}
+
+#[test]
+fn global_flush_goes_by_p_alone() {
+    let mut bench = Bench::list_a();
+    bench.load(0, 0x0000_0405, 0);
+    bench.load(1, 0x0000_080D, 0);
+    bench.load(20, 0x0000_0C0E, 0);
+    bench.load(21, 0x0000_1006, 0);
+    bench.done(LOCK, 10 << 10 | 12 << 4);
+    bench.done(GLOBAL_FLUSH, 0xFFFE);
+    assert_eq!(bench.slot(0).0, 0x405);
+    bench.done(GLOBAL_FLUSH, 1);
+    let cams = [0, 1, 20, 21].map(|slot| bench.slot(slot).0);
+    assert_eq!(cams, [0x401, 0x80D, 0xC0E, 0x1002]);
+    assert_eq!(bench.get(GLOBAL_FLUSH), 0);
+}
+
+#[test]
+fn entry_flush_goes_by_each_slots_own_type() {
+    let mut bench = Bench::list_a();
+    // Section 000000, large page 010000 preserved, small page 012000, tiny
+    // pages 012000 and 012400.
+    let cams = [0x0004, 0x040D, 0x0486, 0x0487, 0x0497];
+    for (slot, cam) in cams.into_iter().enumerate() {
+        bench.load(slot as u16, cam, 0);
+    }
+    // The CAM's own type, P and V play no part.
+    bench.done(CAM_HIGH, 0);
+    bench.done(CAM_LOW, 0x0480);
+    bench.done(ENTRY_FLUSH, 2);
+    assert_eq!([0, 1, 2, 3, 4].map(|slot| bench.slot(slot).0), cams);
+    bench.done(ENTRY_FLUSH, 1);
+    let after = [0, 1, 2, 3, 4].map(|slot| bench.slot(slot).0);
+    assert_eq!(after, [0x0000, 0x0409, 0x0482, 0x0483, 0x0497]);
+}
+
+#[test]
+fn prefetch() {
+    let mut bench = Bench::list_a();
+    refused(8)(bench.set(PREFETCH, 0x4000));
+    bench.done(PREFETCH, 0x8000 | 0x0048);
+    assert_eq!(bench.get(PREFETCH), 0x0048);
+    assert_eq!(bench.slot(0), (0x0000_0405, 0x1002_0300));
+    assert_eq!(bench.books.meters, Meters { fresh: 0, retries: 0, words: 2 });
+    assert_eq!((bench.books.bill.total, bench.books.bill.misses), (2.0, 0.0));
+    // On a match: no effect but the register.
+    bench.done(PREFETCH, 0x0049);
+    assert_eq!((bench.get(PREFETCH), bench.books.meters.words), (0x49, 2));
+    // A fault in it is pending as prefetch, and the register keeps the write.
+    assert_eq!(bench.set(PREFETCH, 0x1402), Answer::Faulted(Fault::Prefetch));
+    assert_eq!((bench.get(PREFETCH), bench.get(STATUS)), (0x1402, 8));
+    assert_eq!((bench.get(FAULT_HIGH), bench.get(FAULT_LOW)), (0x50, 0x0800));
+    let pending = Pending { fault: Fault::Prefetch, access: Access::Read, address: 0x50_0800 };
+    assert_eq!(bench.unit.pending, Some(pending));
+    assert_eq!(bench.books.meters, Meters { fresh: 0, retries: 0, words: 4 });
+    refused(2)(bench.set(PREFETCH, 0x0048));
+    refused(8)(bench.set(PREFETCH, 0x4048));
+    // It is only dropped, with no retry and no meter.
+    bench.done(ACKNOWLEDGE, 1);
+    assert_eq!(bench.unit.pending, None);
+    assert_eq!(bench.books.meters, Meters { fresh: 0, retries: 0, words: 4 });
+    for control in [1, 3, 5] {
+        bench.done(CONTROL, control);
+        refused(7)(bench.set(PREFETCH, 0x0048));
+    }
+    assert_eq!(bench.get(PREFETCH), 0x1402);
+}
+
+#[test]
+fn prefetch_checks_no_access() {
+    let mut bench = Bench::list_a();
+    // A section word with no access at all.
+    bench.memory[16..20].copy_from_slice(&0x7000_0002_u32.to_le_bytes());
+    bench.done(PREFETCH, 0x1000);
+    assert_eq!(bench.slot(0), (0x0001_0004, 0x7000_0000));
+    assert_eq!(bench.read_at(0x40_0000), Answer::Faulted(Fault::Permission));
+}
+
+#[test]
+fn acknowledge() {
+    let mut bench = Bench::list_a();
+    refused(7)(bench.set(ACKNOWLEDGE, 1));
+    bench.done(ACKNOWLEDGE, 0xFFFE);
+    bench.write_at(0x3A_BCDE);
+    bench.done(ACKNOWLEDGE, 0);
+    assert_eq!(bench.books.meters, Meters { fresh: 1, retries: 0, words: 1 });
+    // The fault comes again and is pending anew.
+    assert_eq!(bench.set(ACKNOWLEDGE, 1), Answer::Faulted(Fault::Permission));
+    assert_eq!(bench.books.meters, Meters { fresh: 1, retries: 1, words: 1 });
+    bench.load(0, 0x0000_C004, 0x1120_0300);
+    assert_eq!(bench.set(ACKNOWLEDGE, 1), Answer::Physical(0x112A_BCDE));
+    assert_eq!(bench.books.meters, Meters { fresh: 1, retries: 2, words: 1 });
+    assert_eq!(bench.unit.pending, None);
+    refused(7)(bench.set(ACKNOWLEDGE, 1));
+}
+
+#[test]
+fn acknowledge_goes_by_the_state_as_it_is_now() {
+    let mut bench = Bench::list_a();
+    bench.write_at(0x3A_BCDE);
+    let misses = bench.books.bill.misses;
+    // Flushed and without walking: the permission fault has become a miss.
+    bench.done(GLOBAL_FLUSH, 1);
+    bench.done(CONTROL, 3);
+    assert_eq!(bench.set(ACKNOWLEDGE, 1), Answer::Faulted(Fault::Miss));
+    assert_eq!(bench.get(STATUS), 2);
+    assert_eq!(bench.books.bill.misses, misses + (1.0 - misses) * 0.125);
+    // Off: the virtual address, with no smoothing.
+    bench.done(CONTROL, 1);
+    let misses = bench.books.bill.misses;
+    assert_eq!(bench.set(ACKNOWLEDGE, 1), Answer::Physical(0x3A_BCDE));
+    assert_eq!(bench.books.bill.misses, misses);
+    assert_eq!(bench.books.meters.retries, 2);
+}
+
+// "Meters and the walk bill".
+
+#[test]
+fn rows_and_their_prices() {
+    let mut bench = Bench::list_a();
+    bench.price = Price::Row { same: 1.5, new: 4.25 };
+    bench.read_at(0x01_0000);
+    assert_eq!(bench.books.bill.total, 8.5);
+    bench.done(GLOBAL_FLUSH, 1);
+    bench.read_at(0x30_0000);
+    assert_eq!(bench.books.bill.total, 12.75);
+    bench.read_at(0xF0_0000);
+    assert_eq!(bench.books.bill.total, 14.25);
+    assert_eq!(bench.books.bill.rows, [0x8_0000, NO_ROW]);
+}
+
+#[test]
+fn shift_reports() {
+    let mut bench =
+        Bench::with(&[record(0xFF_FC00, 0, 3, 2), record(0x00_0000, 0xFFF0_0000, 0, 3)]);
+    bench.done(CONTROL, 1);
+    let before = (bench.unit.image(), bench.books);
+    let report = |bench: &mut Bench, address| {
+        bench.go(|unit, lent, _| unit.shift_report(&lent.memories, address))
+    };
+    assert_eq!(report(&mut bench, 0xFF_FFFF), Answer::Distance(-16_776_192));
+    assert_eq!(report(&mut bench, 0x0F_FFFF), Answer::Distance(0xFFF0_0000));
+    assert_eq!(report(&mut bench, 0xFF_0000), Answer::Faulted(Fault::Translation));
+    refused(1)(report(&mut bench, 0x100_0000));
+    assert_eq!((bench.unit.image(), bench.books), before);
+    bench.done(BASE_HIGH, 0x3000);
+    refused(3)(report(&mut bench, 0));
+}
+
+// "When the unit says no".
+
+/// Memories that share an address, and a price out of its range.
+fn bad_lent(bytes: &[u8], bad_memory: bool, bad_price: bool) -> Lent<'_> {
+    let price = Price::Flat(if bad_price { f64::NAN } else { 1.0 });
+    let external_base = if bad_memory { BASE } else { 0x4000_0000 };
+    Lent {
+        memories: Memories::new(bytes, BASE, bytes, external_base),
+        prices: Prices::new(Price::Flat(1.0), price),
+    }
+}
+
+#[test]
+fn order_of_a_request() {
+    let bench = Bench::list_a();
+    let mut unit = bench.unit.clone();
+    let mut books = Books::default();
+    let bytes = &bench.memory[..64];
+    let mut go = |bad_memory, bad_price, address| {
+        let lent = bad_lent(bytes, bad_memory, bad_price);
+        unit.request(&lent, &mut books, address, Access::Read)
+    };
+    refused(1)(go(true, true, 0x100_0000));
+    refused(4)(go(true, true, 0));
+    refused(9)(go(false, true, 0));
+    refused(3)(go(false, false, 0));
+    refused(21)(go(false, false, 0xFF_0000));
+    refused(1)(go(true, true, 0x100_0000));
+    refused(4)(go(true, true, 0));
+    refused(9)(go(false, true, 0));
+    refused(2)(go(false, false, 0));
+    assert_eq!(books.meters, Meters { fresh: 1, retries: 0, words: 1 });
+}
+
+#[test]
+fn order_of_a_register_write() {
+    let bench = Bench::list_a();
+    let mut unit = bench.unit.clone();
+    let mut books = Books::default();
+    let bytes = &bench.memory[..64];
+    let mut go = |bad_memory, bad_price, offset, value| {
+        let lent = bad_lent(bytes, bad_memory, bad_price);
+        unit.write(&lent, &mut books, offset, value)
+    };
+    refused(5)(go(true, true, 0x02, 0x4000));
+    refused(6)(go(true, true, 0x04, 0));
+    refused(4)(go(true, true, PREFETCH, 0x4000));
+    refused(9)(go(false, true, PREFETCH, 0x4000));
+    refused(8)(go(false, false, PREFETCH, 0x4000));
+    refused(3)(go(false, false, PREFETCH, 0));
+    refused(4)(go(true, true, ACKNOWLEDGE, 0));
+    refused(9)(go(false, true, ACKNOWLEDGE, 0));
+    refused(7)(go(false, false, ACKNOWLEDGE, 1));
+    // Never at another register.
+    for offset in [CONTROL, BASE_HIGH, BASE_LOW, LOCK, CAM_HIGH, CAM_LOW, RAM_HIGH, RAM_LOW] {
+        let value = if offset == CONTROL { 7 } else { 0 };
+        refused(0)(go(true, true, offset, value));
+    }
+    refused(8)(go(true, true, LOAD, 3));
+    refused(7)(go(true, true, LOAD, 2));
+    refused(0)(go(true, true, GLOBAL_FLUSH, 1));
+    refused(0)(go(true, true, ENTRY_FLUSH, 1));
+}
+
+#[test]
+fn bill_figures_are_tried_too() {
+    for bad in [f64::NAN, f64::INFINITY, f64::NEG_INFINITY] {
+        for smoothed in [false, true] {
+            let mut bench = Bench::list_a();
+            let bill = &mut bench.books.bill;
+            *(if smoothed { &mut bill.misses } else { &mut bill.total }) = bad;
+            refused(9)(bench.read_at(0));
+            refused(9)(bench.set(PREFETCH, 0));
+            refused(9)(bench.set(ACKNOWLEDGE, 0));
+            bench.done(CONTROL, 5);
+            refused(9)(bench.read_at(0));
+            assert_eq!(bench.books.meters, Meters::default());
+        }
+    }
+}
+
+#[test]
+fn a_refusal_3_after_the_first_word_changes_nothing() {
+    let mut bench = Bench::list_a();
+    bench.memory[0..4].copy_from_slice(&0x4000_0001_u32.to_le_bytes());
+    let before = (bench.unit.image(), bench.books);
+    refused(3)(bench.read_at(0x01_0000));
+    refused(3)(bench.set(PREFETCH, 0x40));
+    assert_eq!((bench.unit.image(), bench.books), before);
+    // Nor does one at a retry.
+    bench.read_at(0xFF_0000);
+    bench.done(BASE_HIGH, 0x4000);
+    let before = (bench.unit.image(), bench.books);
+    refused(3)(bench.set(ACKNOWLEDGE, 1));
+    assert_eq!((bench.unit.image(), bench.books), before);
+}
+
+#[test]
+fn ranges_of_a_handed_in_device() {
+    let good = |change: &dyn Fn(&mut Image)| {
+        let mut image = Image::default();
+        change(&mut image);
+        image.in_range()
+    };
+    assert!(good(&|image| image.control = 0x27));
+    assert!(good(&|image| image.control = 2));
+    for bit in [3, 4, 6, 7, 15] {
+        assert!(!good(&|image| image.control = 1 << bit));
+    }
+    assert!(good(&|image| image.base = 0xFFFF_FF80));
+    assert!(!good(&|image| image.base = 0x40));
+    assert!(good(&|image| image.prefetch = 0x3FFF));
+    assert!(!good(&|image| image.prefetch = 0x4000));
+    assert!(good(&|image| image.lock_base = 31));
+    assert!(!good(&|image| image.lock_base = 32));
+    assert!(good(&|image| image.victim = 31));
+    assert!(!good(&|image| image.victim = 32));
+    assert!(!good(&|image| image.victim = 256));
+    assert!(good(&|image| image.cam = 0x3_FFFF));
+    assert!(!good(&|image| image.cam = 0x4_0000));
+    assert!(good(&|image| image.ram = 0xFFFF_FF00));
+    assert!(!good(&|image| image.ram = 0x80));
+    assert!(!good(&|image| image.read_cam = 0x4_0000));
+    assert!(!good(&|image| image.read_ram = 1));
+    assert!(good(&|image| image.slots[31] = (0x3_FFFF, 0xFFFF_FF00)));
+    assert!(!good(&|image| image.slots[31].0 = 0x8000_0000));
+    assert!(!good(&|image| image.slots[0].1 = 0x80));
+    let pending =
+        |address| Some(Pending { fault: Fault::Prefetch, access: Access::Write, address });
+    assert!(good(&|image| image.pending = pending(0xFF_FFFF)));
+    assert!(!good(&|image| image.pending = pending(0x100_0000)));
+}
+
+#[test]
+fn registers_are_in_the_order_of_table_3() {
+    for n in 0..21 {
+        assert_eq!(Register::at(4 * n).map(|register| register as u32), Ok(n));
+    }
+    assert_eq!(Register::at(84), Err(Refusal::Offset));
+}
+
+/// All slots at once against one slot after the other, by the paper's words.
+#[test]
+fn matching_is_as_defined() {
+    let mut dice = crate::dice::Dice::new(0x3A7C);
+    for _ in 0..2_000 {
+        let mut slots = Slots::FRESH;
+        let near = dice.below(1 << 14);
+        for slot in 0..SLOTS {
+            let tag = near ^ (1 << dice.below(14)) ^ (1 << dice.below(14));
+            slots.set(slot, tag << 4 | dice.below(16), dice.word() & RAM_BITS);
+            if dice.once_in(8) {
+                slots.clear_valid(slot);
+            }
+        }
+        for _ in 0..32 {
+            let number = near ^ dice.pick(&[0, 1, 2, 4, 0x40, 0x400, 0x2000]);
+            let by_one = |slot: usize| {
+                let cam = slots.cams[slot];
+                let address_bits = [20, 16, 12, 10][(cam & 3) as usize];
+                cam & 4 != 0 && cam >> 4 << 10 >> address_bits == number << 10 >> address_bits
+            };
+            let mut matching = slots.matching(number as u16);
+            for slot in (0..SLOTS).filter(|&slot| by_one(slot)) {
+                assert_eq!(Slots::lowest(matching), Some(slot));
+                matching &= matching - 1;
+            }
+            assert_eq!(Slots::lowest(matching), None);
+        }
+    }
+}

@@ -1,0 +1,182 @@
+//! "The walk": from the base and a virtual address to a page.
+
+use crate::memory::{Memories, Role};
+
+/// The four page types, by the number that a slot keeps.
+#[derive(Clone, Copy, PartialEq, Eq, Debug)]
+#[repr(u8)]
+pub enum Kind {
+    Section = 0,
+    Large = 1,
+    Small = 2,
+    Tiny = 3,
+}
+
+/// The address bits within a page, by type: the low 20, 16, 12 or 10.
+pub const WITHIN: [u32; 4] = [(1 << 20) - 1, (1 << 16) - 1, (1 << 12) - 1, (1 << 10) - 1];
+
+impl Kind {
+    #[inline]
+    pub const fn from_bits(bits: u32) -> Kind {
+        match bits & 3 {
+            0 => Kind::Section,
+            1 => Kind::Large,
+            2 => Kind::Small,
+            _ => Kind::Tiny,
+        }
+    }
+
+    #[inline]
+    pub const fn within(self) -> u32 {
+        WITHIN[self as usize]
+    }
+}
+
+/// A page that a walk found. Frame bits below the page size are zero.
+#[derive(Clone, Copy, PartialEq, Eq, Debug)]
+pub struct Page {
+    pub kind: Kind,
+    pub frame: u32,
+    pub access: u8,
+}
+
+impl Page {
+    /// The page's upper bits and the address's lower ones.
+    #[inline]
+    pub const fn physical(self, address: u32) -> u32 {
+        self.frame | address & self.kind.within()
+    }
+}
+
+/// A descriptor word that was read: where.
+#[derive(Clone, Copy, PartialEq, Eq, Debug)]
+pub struct Read {
+    pub role: Role,
+    pub physical: u32,
+}
+
+/// What a walk read, in order, and what it found: no page is a translation
+/// fault.
+#[derive(Clone, Copy, PartialEq, Eq, Debug)]
+pub struct Walk {
+    pub first: Read,
+    pub second: Option<Read>,
+    pub page: Option<Page>,
+}
+
+/// A walk for a virtual address below 2^24, from a base that is a multiple of
+/// 128. `None` where a descriptor it needs is in neither memory (refusal 3).
+#[inline]
+pub fn walk(memories: &Memories, base: u32, address: u32) -> Option<Walk> {
+    // First level: base + 4 x bits 23:20.
+    let at = base + (address >> 20) * 4;
+    let (role, word) = memories.word(at)?;
+    let first = Read { role, physical: at };
+    match word & 3 {
+        0 => Some(Walk { first, second: None, page: None }),
+        // A coarse table holds large and small pages; its tiny word is a fault.
+        1 => {
+            let at = (word & 0xFFFF_FC00) + (address >> 12 & 0xFF) * 4;
+            let (role, word) = memories.word(at)?;
+            let page = match word & 3 {
+                1 => Some(second_level(Kind::Large, word)),
+                2 => Some(second_level(Kind::Small, word)),
+                _ => None,
+            };
+            Some(Walk { first, second: Some(Read { role, physical: at }), page })
+        }
+        // A section: base 31:20, access 11:10.
+        2 => {
+            let frame = word & 0xFFF0_0000;
+            let page = Page { kind: Kind::Section, frame, access: (word >> 10 & 3) as u8 };
+            Some(Walk { first, second: None, page: Some(page) })
+        }
+        // A fine table holds tiny pages; its large or small word is a fault (house).
+        _ => {
+            let at = (word & 0xFFFF_F000) + (address >> 10 & 0x3FF) * 4;
+            let (role, word) = memories.word(at)?;
+            let page = (word & 3 == 3).then(|| second_level(Kind::Tiny, word));
+            Some(Walk { first, second: Some(Read { role, physical: at }), page })
+        }
+    }
+}
+
+/// The page of a second-level word (Table 2): access in 5:4.
+#[inline]
+fn second_level(kind: Kind, word: u32) -> Page {
+    Page { kind, frame: word & !kind.within(), access: (word >> 4 & 3) as u8 }
+}
+
+#[cfg(test)]
+mod tests {
+    use super::*;
+
+    fn words(words: &[(usize, u32)], length: usize) -> Vec<u8> {
+        let mut bytes = vec![0; length];
+        for &(at, word) in words {
+            bytes[at..at + 4].copy_from_slice(&word.to_le_bytes());
+        }
+        bytes
+    }
+
+    fn at(role: Role, physical: u32) -> Read {
+        Read { role, physical }
+    }
+
+    #[test]
+    fn sections_take_access_from_11_10() {
+        // Bits 5:4 say "both", 11:10 say "read"; bits 19:12 and 9:2 are ignored.
+        let on = words(&[(12, 0x112F_FBFE)], 64);
+        let memories = Memories::new(&on, 0x80, &[], 0);
+        let walk = walk(&memories, 0x80, 0x3A_BCDE).unwrap();
+        assert_eq!(walk.first, at(Role::OnChip, 0x8C));
+        assert_eq!(walk.second, None);
+        let page = walk.page.unwrap();
+        assert_eq!(page, Page { kind: Kind::Section, frame: 0x1120_0000, access: 2 });
+        assert_eq!(page.physical(0x3A_BCDE), 0x112A_BCDE);
+    }
+
+    #[test]
+    fn tables_of_both_kinds() {
+        // Coarse table at 400, fine at 1000, of the external memory.
+        let on = words(&[(0, 0x1000_07FD), (4, 0x1000_1FFF)], 64);
+        let external = words(
+            &[
+                (0x400, 0xABCD_FFF1 & !0x30 | 0x20),
+                (0x404, 0xABCD_EFFE),
+                (0x408, 0xABCD_EFFF),
+                (0x40C, 0xABCD_EFFC),
+                (0x1000, 0xABCD_EFFF),
+                (0x1004, 0xABCD_EFFD),
+                (0x1008, 0xABCD_EFFE),
+                (0x1FFC, 0xABCD_EFCF),
+            ],
+            0x2000,
+        );
+        let memories = Memories::new(&on, 0x2000_0000, &external, 0x1000_0000);
+        let go = |address| walk(&memories, 0x2000_0000, address).unwrap();
+        let page = |kind, frame, access| Some(Page { kind, frame, access });
+        assert_eq!(go(0x000_FFF).page, page(Kind::Large, 0xABCD_0000, 2));
+        assert_eq!(go(0x001_000).page, page(Kind::Small, 0xABCD_E000, 3));
+        assert_eq!(go(0x002_000).page, None);
+        assert_eq!(go(0x003_000).page, None);
+        assert_eq!(go(0x100_000).page, page(Kind::Tiny, 0xABCD_EC00, 3));
+        assert_eq!(go(0x100_400).page, None);
+        assert_eq!(go(0x100_800).page, None);
+        assert_eq!(go(0x1FF_C00).page, page(Kind::Tiny, 0xABCD_EC00, 0));
+        assert_eq!(go(0x002_000).first, at(Role::OnChip, 0x2000_0000));
+        assert_eq!(go(0x002_000).second, Some(at(Role::External, 0x1000_0408)));
+        assert_eq!(go(0x1FF_C00).second, Some(at(Role::External, 0x1000_1FFC)));
+        assert_eq!(go(0x200_000).second, None);
+        assert_eq!(go(0x200_000).page, None);
+    }
+
+    #[test]
+    fn words_in_neither_memory() {
+        let on = words(&[(0, 0x1000_0001)], 64);
+        let memories = Memories::new(&on, 0x2000_0000, &[], 0);
+        assert_eq!(walk(&memories, 0x2000_0000, 0), None);
+        assert_eq!(walk(&memories, 0x2000_0080, 0), None);
+        assert!(walk(&memories, 0x2000_0000, 0xF0_0000).is_some());
+    }
+}

@@ -1,0 +1,714 @@
+//! The second program against the proved implementation, through the byte
+//! boundary: answers, the whole state, and every byte of the buffers.
+//!
+//! NX_LONG multiplies the number of cases, NX_SEED moves the seeds. Without the
+//! archive these tests fail; NX_WITHOUT_NATIVE=1 compares the second program
+//! with itself, which tries the tests and their coverage.
+
+mod common;
+
+use common::worlds::{self, Caller, World};
+use common::*;
+use second::boundary::{Program, Second, ANSWER, CALL, STATE};
+use second::dice::Dice;
+use std::collections::BTreeMap;
+use std::fmt::Write as _;
+
+// ---------------------------------------------------------------------------
+// Coverage
+
+/// How often something was seen, by name.
+#[derive(Default)]
+struct Coverage(BTreeMap<String, u64>);
+
+impl Coverage {
+    fn see(&mut self, name: impl AsRef<str>) {
+        match self.0.get_mut(name.as_ref()) {
+            Some(count) => *count += 1,
+            None => {
+                self.0.insert(name.as_ref().into(), 1);
+            }
+        }
+    }
+
+    fn see_if(&mut self, seen: bool, name: &str) {
+        if seen {
+            self.see(name);
+        }
+    }
+
+    fn count(&self, name: &str) -> u64 {
+        self.0.get(name).copied().unwrap_or(0)
+    }
+
+    /// Prints all counts, and fails where one of these is below `least`.
+    fn demand(&self, least: u64, names: &[String]) {
+        let mut table = String::new();
+        for (name, count) in &self.0 {
+            writeln!(table, "  {count:>9}  {name}").unwrap();
+        }
+        println!("{table}");
+        let short: Vec<_> = names.iter().filter(|name| self.count(name) < least).collect();
+        assert!(short.is_empty(), "seen fewer than {least} times: {short:?}");
+    }
+}
+
+/// What one call was, seen from its answer and the states around it.
+fn see_step(seen: &mut Coverage, call: &[u8], answer: (u32, i64), before: &[u8], after: &[u8]) {
+    let (number, value) = answer;
+    let (old, new) = (View(before), View(after));
+    let words = new.words().wrapping_sub(old.words());
+    seen.see(format!("answer {number:03}"));
+    let kind = ["", "write", "read", "request", "drop", "shift report"][call[0] as usize];
+    seen.see(format!("{kind} answered {number:03}"));
+    let slots = 0..32;
+    let filled = (0..32).find(|&slot| old.slot(slot) != new.slot(slot));
+    if matches!(call[0], 1 | 2) && call[1].is_multiple_of(4) && call[1] <= 0x50 {
+        let how = if matches!(number, 6 | 8) { " refused" } else { "" };
+        seen.see(format!("{kind} of {:02x}{how}", call[1]));
+    }
+    let attempt = call[0] == 3 || call[0] == 1 && call[1] == ACKNOWLEDGE;
+    let retry = call[0] == 1 && call[1] == ACKNOWLEDGE;
+    if attempt && matches!(number, 21 | 22 | 23 | 100) {
+        seen.see_if(number == 100 && old.on() && words == 0, "hit");
+        seen.see_if(number == 100 && words > 0, "miss, walked and found");
+        seen.see_if(number == 100 && words == 1, "section found");
+        seen.see_if(number == 100 && words == 2, "page of a table found");
+        seen.see_if(number == 21 && words == 1, "fault at the first level");
+        seen.see_if(number == 21 && words == 2, "fault at the second level");
+        seen.see_if(number == 23 && words == 0, "permission fault on a match");
+        seen.see_if(number == 23 && words > 0, "permission fault after a walk");
+        seen.see_if(!old.on(), "attempt while off");
+        seen.see_if(retry && number == 100, "retry got an address");
+        seen.see_if(retry && number != 100, "retry got a fault");
+        seen.see_if(retry && !old.on(), "retry while off");
+        let came = number.wrapping_sub(21);
+        seen.see_if(
+            retry && number != 100 && old.pending().0 != 1 << came,
+            "retry got another fault",
+        );
+        seen.see_if(number == 100 && value > 0x7FFF_FFFF, "address with bit 31");
+        let meter = if retry { old.retries() } else { old.fresh() };
+        seen.see_if(meter == u32::MAX, "attempt meter at its stop");
+        seen.see_if(words > 0 && old.words() > u32::MAX - 2, "words meter at its stop");
+        seen.see_if(old.misses() < 0.0, "smoothing from below zero");
+        for role in 0..2 {
+            seen.see_if(words > 0 && old.row(role) != new.row(role), "a row moved");
+            seen.see_if(words > 0 && old.row(role) == u32::MAX, "no row before");
+        }
+    }
+    if call[0] == 1 && call[1] == PREFETCH {
+        seen.see_if(number == 0 && words == 0, "prefetch on a match");
+        seen.see_if(number == 0 && words > 0, "prefetch filled");
+        seen.see_if(number == 24, "prefetch fault");
+    }
+    if retry && number == 0 {
+        seen.see_if(old.pending().0 == 8 && new.pending().0 == 0, "pending prefetch dropped");
+        seen.see_if(call[8] & 1 == 0, "acknowledge with bit 0 clear");
+    }
+    if words > 0 && old.words() <= u32::MAX - 2 {
+        if let Some(slot) = filled {
+            seen.see_if(slot == 31, "fill of slot 31");
+            seen.see_if(old.victim() < old.lock_base(), "fill with the victim below the base");
+            seen.see_if(slot == 31 && new.victim() == old.lock_base(), "victim back to the base");
+            let [_, low, _, _] = new.slot(slot);
+            seen.see(format!("fill of type {}", low & 3));
+        }
+    }
+    if call[0] == 1 && call[1] == GLOBAL_FLUSH && call[8] & 1 != 0 {
+        let valid = |view: &View, slot| view.slot(slot)[1] & 4 != 0;
+        let locked = usize::from(old.lock_base());
+        for slot in slots.clone() {
+            let kept = valid(&new, slot);
+            seen.see_if(valid(&old, slot) && !kept && slot < locked, "locked slot flushed");
+            seen.see_if(valid(&old, slot) && kept && slot >= locked, "unlocked slot preserved");
+        }
+    }
+    if call[0] == 1 && call[1] == ENTRY_FLUSH && call[8] & 1 != 0 {
+        let cleared = slots.filter(|&slot| old.slot(slot) != new.slot(slot)).count();
+        seen.see_if(cleared == 1, "entry flush of one slot");
+        seen.see_if(cleared > 1, "entry flush of more slots");
+    }
+    seen.see_if(call[0] == 1 && call[1] == CONTROL && call[8] & 1 == 0 && number == 0, "reset");
+    seen.see_if(call[0] == 1 && call[1] == LOAD && call[8] & 3 == 1 && number == 0, "load");
+    seen.see_if(call[0] == 1 && call[1] == LOAD && call[8] & 3 == 2 && number == 0, "copy");
+    seen.see_if(number == 102 && value < 0, "distance below zero");
+    seen.see_if(number == 102 && value > 0, "distance above zero");
+    seen.see_if(number == 3 && old.pending().0 != 0 && retry, "retry refused 3");
+}
+
+// ---------------------------------------------------------------------------
+// One step of both programs
+
+/// Where both programs write: so much room, with this byte in it before.
+#[derive(Default)]
+struct Buffers {
+    room: usize,
+    dirt: u8,
+    out: Vec<u8>,
+    other: Vec<u8>,
+}
+
+/// Everything that a list from a state is run with.
+struct Step<'a> {
+    lending: Lending<'a>,
+    state: &'a [u8],
+    bill: (f64, f64),
+    calls: &'a [u8],
+}
+
+impl Step<'_> {
+    /// Runs both programs on buffers with the same bytes in them, and compares
+    /// what they answer and every byte of the buffers.
+    fn compare(&self, rival: &dyn Program, buffers: &mut Buffers, place: &str) -> u64 {
+        let Buffers { room, dirt, out, other } = buffers;
+        for buffer in [&mut *out, &mut *other] {
+            buffer.clear();
+            buffer.resize(*room, *dirt);
+        }
+        let first = self.lending.from(&Second, self.state, self.bill, self.calls, out);
+        let second = self.lending.from(rival, self.state, self.bill, self.calls, other);
+        if first != second || out != other {
+            panic!("{}", self.difference(rival, place, first, second, out, other));
+        }
+        first
+    }
+
+    fn difference(
+        &self,
+        rival: &dyn Program,
+        place: &str,
+        first: u64,
+        second: u64,
+        out: &[u8],
+        other: &[u8],
+    ) -> String {
+        let mut text = format!("{place}: second and {} differ\n", rival.name());
+        writeln!(text, "written: {first} and {second}").unwrap();
+        for (index, call) in self.calls.chunks(CALL).enumerate() {
+            if call.len() == CALL {
+                writeln!(text, "call {index}: {}", describe(call)).unwrap();
+            } else {
+                writeln!(text, "call {index}: {call:02x?}").unwrap();
+            }
+            let at = index * ANSWER;
+            if out.len() >= at + ANSWER {
+                writeln!(text, "  second {}", hex(&out[at..at + ANSWER])).unwrap();
+                writeln!(text, "  other  {}", hex(&other[at..at + ANSWER])).unwrap();
+            }
+        }
+        let state_at = self.calls.len() / CALL * ANSWER;
+        for at in (0..out.len()).filter(|&at| out[at] != other[at]) {
+            let where_ = at as i64 - state_at as i64;
+            writeln!(text, "  byte {at} (state {where_}): {:02x} {:02x}", out[at], other[at])
+                .unwrap();
+        }
+        let lending = &self.lending;
+        writeln!(text, "state {}", hex(self.state)).unwrap();
+        writeln!(text, "bill {:x?}", [self.bill.0.to_bits(), self.bill.1.to_bits()]).unwrap();
+        writeln!(text, "on-chip {:x} + {:x}", lending.on_base, lending.on.len()).unwrap();
+        writeln!(text, "external {:x} + {:x}", lending.external_base, lending.external.len())
+            .unwrap();
+        writeln!(text, "prices {:?} {:?}", lending.on_price, lending.external_price).unwrap();
+        text
+    }
+}
+
+/// The bill of a state.
+fn bill_of(state: &[u8]) -> (f64, f64) {
+    (View(state).total(), View(state).misses())
+}
+
+// ---------------------------------------------------------------------------
+// The tests
+
+#[test]
+fn sheet() {
+    let _turn = turn();
+    let rival = rival();
+    for (name, row) in rows::ROWS {
+        println!("{name}");
+        row(&*rival);
+    }
+}
+
+/// Sessions, one call at a time: after each the answer and the whole state are
+/// compared. Memories, prices, bill and state may be exchanged at any call.
+#[test]
+fn sessions() {
+    let _turn = turn();
+    let rival = rival();
+    let mut seen = Coverage::default();
+    let too_long = worlds::too_long();
+    let mut buffers = Buffers::default();
+    let mut calls_made = 0_u64;
+    for session in 0..4_000 * long() {
+        let mut dice = Dice::new(seed(0x5E55_0000_0000 + u64::from(session)));
+        let world = World::new(&mut dice);
+        let quotes = (worlds::good_quote(&mut dice), worlds::good_quote(&mut dice));
+        // How often something is exchanged, once in so many calls.
+        let rarely = dice.pick(&[8, 20, 60]);
+        let mut caller = Caller::new();
+        let mut state: Vec<u8> = worlds::fresh_state().into();
+        if dice.once_in(2) {
+            for _ in 0..8 {
+                worlds::stir(&mut dice, &mut state, &world);
+            }
+        }
+        if dice.once_in(2) {
+            put_word(&mut state, 4, world.tables);
+            put_half(&mut state, 2, 7);
+        }
+        for index in 0..100 {
+            let mut lending = world.lending(quotes.0, quotes.1);
+            if dice.once_in(rarely) {
+                worlds::bend(&mut dice, &mut lending, &too_long);
+            }
+            if dice.once_in(rarely) {
+                let quote = if dice.once_in(2) {
+                    worlds::bad_quote(&mut dice)
+                } else {
+                    worlds::good_quote(&mut dice)
+                };
+                if dice.once_in(2) {
+                    lending.on_price = quote;
+                } else {
+                    lending.external_price = quote;
+                }
+            }
+            if dice.once_in(2 * rarely) {
+                worlds::stir(&mut dice, &mut state, &world);
+            }
+            let mut call = caller.next(&mut dice, &world, View(&state)).to_vec();
+            let mut bill = bill_of(&state);
+            let mut given = state.clone();
+            // Exchanged for this call only.
+            let mut passing = false;
+            if dice.once_in(2 * rarely) {
+                if dice.once_in(2) {
+                    bill.0 = worlds::bill_figure(&mut dice);
+                } else {
+                    bill.1 = worlds::bill_figure(&mut dice);
+                }
+                passing = !(bill.0.is_finite() && bill.1.is_finite());
+                // The state's own bytes for the bill are not looked at.
+                dice.fill(&mut given[304..320]);
+            }
+            if dice.once_in(3 * rarely) {
+                worlds::break_range(&mut dice, &mut given);
+                seen.see("device out of range");
+                passing = true;
+            }
+            if dice.once_in(6 * rarely) {
+                worlds::spoil_call(&mut dice, &mut call);
+                seen.see("list not as said");
+            }
+            if dice.once_in(40) {
+                // A few calls at once.
+                for _ in 0..1 + dice.below(4) {
+                    call.extend(worlds::any_call(&mut dice, &world));
+                }
+            }
+            let need = call.len() / CALL * ANSWER + STATE;
+            buffers.room = need + dice.pick(&[0, 0, 0, 0, 1, 7, 64]);
+            buffers.dirt = dice.word() as u8;
+            let step = Step { lending, state: &given, bill, calls: &call };
+            let place = format!("session {session}, step {index}");
+            let written = step.compare(&*rival, &mut buffers, &place) as usize;
+            let Buffers { out, dirt, .. } = &buffers;
+            calls_made += 1;
+            if written == 0 {
+                seen.see("answered 0");
+                assert!(out.iter().all(|byte| byte == dirt), "{place}: written though refused");
+                continue;
+            }
+            assert_eq!(written, need);
+            assert!(out[need..].iter().all(|byte| byte == dirt));
+            let after = &out[need - STATE..need];
+            if call.len() == CALL {
+                // As it was handed in, to see what has changed.
+                given[304..312].copy_from_slice(&bill.0.to_bits().to_le_bytes());
+                given[312..320].copy_from_slice(&bill.1.to_bits().to_le_bytes());
+                see_step(&mut seen, &call, answer(out, 0), &given, after);
+            } else {
+                seen.see("a few calls at once");
+            }
+            if !passing {
+                state.clear();
+                state.extend_from_slice(after);
+            }
+        }
+    }
+    println!("{calls_made} calls, one at a time");
+    assert!(calls_made >= 200_000 * u64::from(long()));
+
+    let mut names: Vec<String> = Vec::new();
+    names.extend((1..=9).map(|number| format!("answer {number:03}")));
+    names.extend((21..=24).map(|number| format!("answer {number:03}")));
+    names.extend([0, 100, 101, 102].map(|number| format!("answer {number:03}")));
+    for offset in (0..=0x50_u8).step_by(4) {
+        let read_only = [0x04, 0x0C, 0x10, 0x14, 0x44, 0x48, 0x4C, 0x50].contains(&offset);
+        let how = if read_only { " refused" } else { "" };
+        names.push(format!("write of {offset:02x}{how}"));
+        let how = if offset == ACKNOWLEDGE { " refused" } else { "" };
+        names.push(format!("read of {offset:02x}{how}"));
+    }
+    for number in [1, 2, 3, 4, 8, 9, 21, 22, 23, 100] {
+        names.push(format!("request answered {number:03}"));
+    }
+    for number in [0, 2, 3, 4, 5, 6, 7, 8, 9, 21, 22, 23, 24, 100] {
+        names.push(format!("write answered {number:03}"));
+    }
+    for number in [5, 6, 8, 101] {
+        names.push(format!("read answered {number:03}"));
+    }
+    for number in [0, 7, 8] {
+        names.push(format!("drop answered {number:03}"));
+    }
+    for number in [1, 3, 4, 8, 21, 102] {
+        names.push(format!("shift report answered {number:03}"));
+    }
+    names.extend((0..4).map(|kind| format!("fill of type {kind}")));
+    names.extend(
+        [
+            "hit",
+            "miss, walked and found",
+            "section found",
+            "page of a table found",
+            "fault at the first level",
+            "fault at the second level",
+            "permission fault on a match",
+            "permission fault after a walk",
+            "attempt while off",
+            "retry got an address",
+            "retry got a fault",
+            "retry got another fault",
+            "retry while off",
+            "retry refused 3",
+            "address with bit 31",
+            "attempt meter at its stop",
+            "words meter at its stop",
+            "smoothing from below zero",
+            "a row moved",
+            "no row before",
+            "prefetch on a match",
+            "prefetch filled",
+            "prefetch fault",
+            "pending prefetch dropped",
+            "acknowledge with bit 0 clear",
+            "fill of slot 31",
+            "fill with the victim below the base",
+            "victim back to the base",
+            "locked slot flushed",
+            "unlocked slot preserved",
+            "entry flush of one slot",
+            "entry flush of more slots",
+            "reset",
+            "load",
+            "copy",
+            "distance below zero",
+            "distance above zero",
+            "device out of range",
+            "list not as said",
+            "answered 0",
+            "a few calls at once",
+        ]
+        .map(String::from),
+    );
+    seen.demand(20, &names);
+}
+
+/// Whole lists through run, their prefixes, and the same list one call at a
+/// time through from: all agree.
+#[test]
+fn whole_lists() {
+    let _turn = turn();
+    let rival = rival();
+    let mut calls_made = 0;
+    let mut numbers = BTreeMap::new();
+    for round in 0..400 * long() {
+        let mut dice = Dice::new(seed(0x1157_0000_0000 + u64::from(round)));
+        let world = World::new(&mut dice);
+        let lending = world.lending(worlds::good_quote(&mut dice), worlds::good_quote(&mut dice));
+        let mut caller = Caller::new();
+        let mut list: Vec<u8> = Vec::new();
+        let mut states = vec![worlds::fresh_state().to_vec()];
+        let mut answers: Vec<u8> = Vec::new();
+        let mut out = [0; ANSWER + STATE];
+        for _ in 0..1 + dice.below(300) {
+            let state = &states[states.len() - 1];
+            let call = caller.next(&mut dice, &world, View(state));
+            let written = lending.from(&*rival, state, bill_of(state), &call, &mut out);
+            assert_eq!(written, out.len() as u64);
+            *numbers.entry(answer(&out, 0).0).or_insert(0) += 1;
+            answers.extend_from_slice(&out[..ANSWER]);
+            states.push(out[ANSWER..].to_vec());
+            list.extend(call);
+        }
+        let count = states.len() - 1;
+        calls_made += count;
+        let prefixes = (0..4).map(|_| dice.below(count as u32 + 1) as usize);
+        for length in prefixes.chain([0, count]) {
+            let expected = [&answers[..length * ANSWER], &states[length]].concat();
+            for program in [&Second as &dyn Program, &*rival] {
+                let mut out = vec![0x3C; expected.len() + 5];
+                let written = lending.run(program, &list[..length * CALL], &mut out);
+                let place = format!("list {round}, {length} calls, {}", program.name());
+                assert_eq!(written, expected.len() as u64, "{place}");
+                let (written, rest) = out.split_at(expected.len());
+                for (index, call) in list[..length * CALL].chunks(CALL).enumerate() {
+                    let at = index * ANSWER..(index + 1) * ANSWER;
+                    let (got, expected) = (&written[at.clone()], &expected[at]);
+                    assert_eq!(got, expected, "{place}: call {index}, {}", describe(call));
+                }
+                assert!(written == expected, "{place}: the states differ");
+                assert_eq!(rest, [0x3C; 5], "{place}");
+            }
+        }
+    }
+    println!("{calls_made} calls in lists; answers {numbers:?}");
+    assert!(calls_made as u64 >= 20_000 * u64::from(long()));
+}
+
+/// Lists, prices, buffers and states that are not as said: 0, and `out` unchanged.
+#[test]
+fn not_as_said() {
+    let _turn = turn();
+    let rival = rival();
+    let good = [write(CONTROL, 7), request(1, 0x12_3456), drop_fault(), shift(0), read(0)].concat();
+    let fresh = worlds::fresh_state();
+    let lending = Lending::plain(&[], 0);
+    let check = |lending: &Lending, state: &[u8], calls: &[u8], room: usize, zero: bool| {
+        for program in [&Second as &dyn Program, &*rival] {
+            let name = program.name();
+            let mut out = vec![0xC3; room];
+            let written = lending.from(program, state, (0.0, 0.0), calls, &mut out);
+            assert_eq!(written == 0, zero, "{name}: {}", hex(calls));
+            assert_eq!(out.iter().all(|&byte| byte == 0xC3), zero, "{name}");
+            if state == fresh {
+                let mut out = vec![0xC3; room];
+                let written = lending.run(program, calls, &mut out);
+                assert_eq!(written == 0, zero, "{name}: {}", hex(calls));
+                assert_eq!(out.iter().all(|&byte| byte == 0xC3), zero, "{name}");
+            }
+        }
+    };
+    let room = 5 * ANSWER + STATE;
+    check(&lending, &fresh, &good, room, false);
+    check(&lending, &fresh, &good, room + 100, false);
+    check(&lending, &fresh, &[], STATE, false);
+    for short in [0, 1, STATE, room - ANSWER, room - 1] {
+        check(&lending, &fresh, &good, short, true);
+    }
+    check(&lending, &fresh, &[], STATE - 1, true);
+    for length in (0..good.len()).filter(|length| length % CALL != 0) {
+        check(&lending, &fresh, &good[..length], room, true);
+    }
+    // Kinds, the two zero bytes and the value of each call; access of a request.
+    for at in 0..good.len() {
+        let bytes: &[u8] = match at % CALL {
+            0 => &[0, 6, 7, 16, 128, 255],
+            1 if at / CALL == 1 => &[2, 3, 128, 255],
+            2 | 3 | 10 | 11 => &[1, 2, 128, 255],
+            _ => continue,
+        };
+        for &byte in bytes {
+            let mut bad = good.clone();
+            bad[at] = byte;
+            check(&lending, &fresh, &bad, room, true);
+        }
+    }
+    for kind in [2, 3, 256, u32::MAX] {
+        let bad = Lending { on_price: (kind, 1.0, 1.0), ..lending };
+        check(&bad, &fresh, &good, room, true);
+        let bad = Lending { external_price: (kind, 1.0, 1.0), ..lending };
+        check(&bad, &fresh, &good, room, true);
+    }
+    for length in [0, 1, 327, 329, 656] {
+        check(&lending, &vec![0; length], &good, room, true);
+    }
+    for status in 0..=255 {
+        let mut state = fresh;
+        state[284] = status;
+        check(&lending, &state, &good, room, ![0, 1, 2, 4, 8].contains(&status));
+        for access in [2, 3, 128, 255] {
+            state[285] = access;
+            check(&lending, &state, &good, room, true);
+        }
+    }
+}
+
+/// Fields that a call does not have are zero: the address of a write, a read
+/// or a drop, the second byte of a drop or a shift report, the value of all
+/// but a write. Where one is not, the list is not as said.
+#[test]
+fn unused_fields() {
+    let _turn = turn();
+    let rival = rival();
+    let plain =
+        [write(CONTROL, 7), request(1, 0x12_3456), drop_fault(), shift(0), read(0)].concat();
+    let lending = Lending::plain(&[0; 64], 0);
+    for program in [&Second as &dyn Program, &*rival] {
+        for at in 0..plain.len() {
+            let field = (plain[at / CALL * CALL], at % CALL);
+            if matches!(field, (1 | 2 | 4, 4..=7) | (4 | 5, 1) | (2..=5, 8 | 9)) {
+                let mut other = plain.clone();
+                other[at] = 0xFF;
+                let mut out = vec![0xC3; 5 * ANSWER + STATE];
+                assert_eq!(lending.run(program, &other, &mut out), 0, "{} at byte {at}", program.name());
+                assert!(out.iter().all(|&byte| byte == 0xC3), "{} at byte {at}", program.name());
+            }
+        }
+    }
+}
+
+/// Every offset that a call can carry, in a few states, written and read.
+#[test]
+fn every_offset() {
+    let _turn = turn();
+    let rival = rival();
+    let mut dice = Dice::new(seed(0x0FF5));
+    let mut buffers = Buffers::default();
+    for round in 0..8 * long() {
+        let world = World::new(&mut dice);
+        let lending = world.lending((0, 1.0, 0.0), (1, 2.0, 3.0));
+        let mut state: Vec<u8> = worlds::fresh_state().into();
+        for _ in 0..round {
+            worlds::stir(&mut dice, &mut state, &world);
+        }
+        for offset in 0..=255 {
+            let values = [0, 1, 2, 3, 4, 7, 0x4000, 0x8000, 0xFFFF, dice.word() as u16];
+            let calls = values.map(|value| write(offset, value));
+            for call in calls.into_iter().chain([read(offset)]) {
+                let bill = bill_of(&state);
+                let step = Step { lending, state: &state, bill, calls: &call };
+                let place = format!("offset {offset:02x}, round {round}");
+                buffers.room = ANSWER + STATE;
+                step.compare(&*rival, &mut buffers, &place);
+            }
+        }
+    }
+}
+
+/// The four bytes at any address.
+#[test]
+fn fetches() {
+    let _turn = turn();
+    let rival = rival();
+    let too_long = worlds::too_long();
+    let mut seen = Coverage::default();
+    for round in 0..2_000 * long() {
+        let mut dice = Dice::new(seed(0xFE7C_0000_0000 + u64::from(round)));
+        let world = World::new(&mut dice);
+        let mut lending = world.lending((0, 0.0, 0.0), (0, 0.0, 0.0));
+        if dice.once_in(2) {
+            worlds::bend(&mut dice, &mut lending, &too_long);
+        }
+        for _ in 0..16 {
+            let (base, length) = if dice.once_in(2) {
+                (lending.on_base, lending.on.len())
+            } else {
+                (lending.external_base, lending.external.len())
+            };
+            let address = match dice.below(4) {
+                0 => base.wrapping_add(dice.below(16)).wrapping_sub(8),
+                1 => base.wrapping_add(length as u32).wrapping_add(dice.below(16)).wrapping_sub(8),
+                2 => base.wrapping_add(dice.below(length as u32 + 1)),
+                _ => dice.pick(&[0, 1, 3, 0xFFFF_FFFC, 0xFFFF_FFFD, u32::MAX]),
+            };
+            let expected = lending.fetch(&Second, address);
+            assert_eq!(lending.fetch(&*rival, address), expected, "{address:x}, round {round}");
+            seen.see(["nowhere", "on-chip", "external"][(expected >> 60) as usize]);
+            seen.see_if(expected != 0 && address % 4 != 0, "unaligned");
+        }
+    }
+    seen.demand(1_000, &["nowhere", "on-chip", "external", "unaligned"].map(String::from));
+}
+
+/// Builds: answers and every byte of a memory that had other bytes in it.
+#[test]
+fn builds() {
+    let _turn = turn();
+    let rival = rival();
+    let mut seen = Coverage::default();
+    let rounds = 24_000 * long();
+    for round in 0..rounds {
+        let mut dice = Dice::new(seed(0xB111_0000_0000 + u64::from(round)));
+        let most = match dice.below(20) {
+            0 => 256,
+            1 => 100,
+            2 => 0,
+            _ => 1 + dice.below(24),
+        };
+        let mut records = lists::bytes(&lists::good(&mut dice, most));
+        for _ in 0..dice.pick(&[0, 0, 0, 0, 1, 1, 1, 2, 3]) {
+            lists::spoil(&mut dice, &mut records);
+        }
+        // The length that the image would have, if it has one.
+        let mut scratch = [0; 131_072];
+        let need = second::builder::build(&records, 0, &mut scratch).unwrap_or(64);
+        let length = match dice.below(24) {
+            0 => dice.pick(&[0, 4, 60, 64, 68]),
+            1 | 2 => need - 4,
+            3 | 4 => need,
+            5 => need + 1 + dice.below(8) as usize,
+            6 => 65_536,
+            7 => dice.pick(&[131_068, 131_072, 131_076, 131_080, 131_073]),
+            8 => 4 * dice.below(3_000) as usize,
+            _ => need + 4 * dice.below(100) as usize,
+        };
+        let base = match dice.below(16) {
+            0 => dice.word(),
+            1 => dice.word() & !3,
+            2 => dice.word() & !0x3FF,
+            3 => 0xFFFF_F000,
+            4 => (length as u32).wrapping_neg() & !0xFFF,
+            5 => ((length as u32).wrapping_neg() & !0xFFF).wrapping_sub(0x1000),
+            6 => 0,
+            _ => dice.word() & 0xFFFE_0000,
+        };
+        let mut memory = vec![0; length];
+        dice.fill(&mut memory);
+        let before = memory.clone();
+        let mut other = memory.clone();
+        let expected = Second.build(&records, base, &mut memory);
+        let got = rival.build(&records, base, &mut other);
+        let place =
+            || format!("build {round}: base {base:x}, room {length}, records {}", hex(&records));
+        assert_eq!(got, expected, "{}: {got:x} {expected:x}", place());
+        if memory != other {
+            let at = (0..length).find(|&at| memory[at] != other[at]).expect("they differ");
+            let (ours, theirs) = (memory[at], other[at]);
+            panic!("{}: byte {at:x} is {theirs:02x}, not {ours:02x}", place());
+        }
+        if expected >> 63 == 0 {
+            let image = expected as usize;
+            seen.see("built");
+            seen.see_if(image == length, "built with no room left");
+            seen.see_if(image == 64, "built with no second level");
+            seen.see_if(image > 65_536, "built past 65,536 bytes");
+            seen.see_if(records.len() == 256 * 12, "built with 256 records");
+            assert!(memory[image..] == before[image..], "{}: later bytes stay", place());
+        } else {
+            seen.see(format!("refused {:02}", expected >> 32 & 0xFF));
+            seen.see_if(expected as u32 == 256, "refused at 256");
+            seen.see_if(expected as u32 > 0, "refused past the first");
+            assert!(memory == before, "{}: written though refused", place());
+        }
+    }
+    println!("{rounds} builds");
+    let names = [
+        "refused 04",
+        "refused 10",
+        "refused 11",
+        "refused 12",
+        "refused at 256",
+        "refused past the first",
+        "built",
+        "built with no room left",
+        "built with no second level",
+        "built past 65,536 bytes",
+        "built with 256 records",
+    ];
+    seen.demand(20, &names.map(String::from));
+}
