@@ -1,5 +1,2 @@
-pub mod Loops
-pub mod Searches
 pub mod Ranges
 pub mod Fills
-pub mod Flushes

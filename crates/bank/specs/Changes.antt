@@ -1,11 +1,10 @@
 -- What changes the slots: fill, load, flushes, lock (01, "The walk", "Registers").
-use Rattle.page.specs.Ground.{ℕ, _+_, List, map, ltb, getD, set}
+use Rattle.page.specs.Ground.{ℕ, _+_, List, ltb, getD, set}
 use Rattle.page.specs.Pick.{pick}
-use Rattle.page.specs.Words.{wordFlushed, wordFlushedAt}
 use Rattle.page.specs.declared.VirtualAddress.{VirtualAddress}
 use Rattle.page.specs.declared.Words.{Words}
+use Rattle.lanes.specs.Lanes.{slots, flushedAll, flushedEntry}
 use Rattle.bank.specs.declared.Bank.{Bank}
-use Rattle.bank.specs.Slots.{slots}
 use Rattle.bank.specs.declared.Fill.{Fill}
 use Rattle.bank.specs.declared.Fill.the-variants.{Nothing, Slot}
 
@@ -46,13 +45,7 @@ loaded b w = storedAt b (b .victim) w
 abbrev pub copied : Bank → Words
 copied b = record { cam = getD (b .cam) (b .victim) 0; ram = getD (b .ram) (b .victim) 0 }
 
--- a global flush drops each slot that is not preserved, an entry flush each that matches
-unfoldable pub flushedAll : List ℕ → List ℕ
-flushedAll cam = map wordFlushed cam
-
-unfoldable pub flushedEntry : VirtualAddress → List ℕ → List ℕ
-flushedEntry va cam = map (wordFlushedAt va) cam
-
+-- a flush is of the CAM lane
 abbrev pub bankFlushed : Bank → Bank
 bankFlushed b = withCams b (flushedAll (b .cam))
 

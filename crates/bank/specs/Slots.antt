@@ -1,17 +1,11 @@
--- The slots: the search, and what is in range (01, "The unit").
-use Rattle.page.specs.Ground.{ℕ, zero, suc, _+_, _%_, _^_, Bool, true, false, List, eqb, ltb, getD, replicate}
-use Rattle.page.specs.Pick.{pick, _and_}
-use Rattle.page.specs.Words.{wordMatches}
-use Rattle.page.specs.declared.VirtualAddress.{VirtualAddress}
+-- The slots, and what is in range (01, "The unit").
+use Rattle.page.specs.Ground.{ℕ, Bool, ltb, getD, replicate}
+use Rattle.page.specs.Pick.{_and_}
 use Rattle.page.specs.declared.Words.{Words}
+use Rattle.lanes.specs.Lanes.{slots, camLimit, camsOk, ramsOk}
 use Rattle.bank.specs.declared.Bank.{Bank}
-use Rattle.bank.specs.declared.Matched.{Matched}
-use Rattle.bank.specs.declared.Matched.the-variants.{At, Nothing}
 
--- how many slots there are
-abbrev pub slots : ℕ
-slots = 32
-
+-- every slot empty, nothing locked
 abbrev pub freshBank : Bank
 freshBank = record { cam = replicate slots 0; ram = replicate slots 0; lock = 0; victim = 0 }
 
@@ -19,36 +13,6 @@ freshBank = record { cam = replicate slots 0; ram = replicate slots 0; lock = 0;
 abbrev pub slotAt : Bank → ℕ → Words
 slotAt b j = record { cam = getD (b .cam) j 0; ram = getD (b .ram) j 0 }
 
--- the first of the n slots from i that matches
-unfoldable pub lookedFrom : ℕ → ℕ → List ℕ → VirtualAddress → Matched
-lookedFrom zero i cam va = Nothing
-lookedFrom (suc n) i cam va = pick (wordMatches (getD cam i 0) va) (At i) (lookedFrom n (i + 1) cam va)
-
--- the slots are looked at lowest first
-abbrev pub lookedUp : List ℕ → VirtualAddress → Matched
-lookedUp cam va = lookedFrom slots 0 cam va
-
--- each of the n words from i passes a test
-unfoldable pub allFrom : (ℕ → Bool) → ℕ → ℕ → List ℕ → Bool
-allFrom p zero i lane = true
-allFrom p (suc n) i lane = p (getD lane i 0) and allFrom p n (i + 1) lane
-
--- a CAM word has 14 tag bits, P, V and two type bits
-abbrev pub camLimit : ℕ
-camLimit = 2 ^ 18
-
-abbrev pub camOk : ℕ → ℕ → Bool
-camOk limit w = ltb w limit
-
--- a RAM word has 32 bits and nothing below its access bits
-abbrev pub ramOk : ℕ → Bool
-ramOk w = ltb w (2 ^ 32) and eqb (w % 256) 0
-
-abbrev pub camsOk : ℕ → List ℕ → Bool
-camsOk limit cam = allFrom (camOk limit) slots 0 cam
-
-abbrev pub ramsOk : List ℕ → Bool
-ramsOk ram = allFrom ramOk slots 0 ram
-
+-- lock base, victim and every slot are in range
 unfoldable pub bankOk : Bank → Bool
 bankOk b = ltb (b .lock) slots and ltb (b .victim) slots and camsOk camLimit (b .cam) and ramsOk (b .ram)

@@ -1,16 +1,11 @@
 // The slots as two lanes of register words, with the lock base and the victim.
+use lanes::CAM_LIMIT;
+use lanes::SLOTS;
 use page::VirtualAddress;
 use page::Words;
 ghost use mathlib.Core.Path.{_≡_};
-ghost use lib.ListN.{getD, set};
-ghost use Rattle.bank.specs.Slots.{lookedUp, ramOk, camsOk, ramsOk, bankOk, freshBank};
-ghost use Rattle.bank.specs.Changes.{nextSlot, nextVictim, storedAt, filled, entryFilled, loaded, copied, lockedAt, flushedAll, flushedEntry, bankFlushed, bankFlushedAt};
-
-// How many slots there are.
-pub const SLOTS: usize = 32;
-
-// A CAM word in range is below this.
-pub const CAM_LIMIT: u32 = 262144;
+ghost use Rattle.bank.specs.Slots.{bankOk, freshBank};
+ghost use Rattle.bank.specs.Changes.{nextSlot, nextVictim, storedAt, filled, entryFilled, loaded, copied, lockedAt, bankFlushed, bankFlushedAt};
 
 pub struct Bank {
     pub cam: [u32; SLOTS],
@@ -19,94 +14,10 @@ pub struct Bank {
     pub victim: u8,
 }
 
-// The slot that matches an address.
-pub enum Matched {
-    At(usize),
-    Nothing,
-}
-
 // What a call puts into the slots.
 pub enum Fill {
     Nothing,
     Slot(Words),
-}
-
-// The lowest slot that matches.
-pub fn lookup(cam: &[u32; SLOTS], va: VirtualAddress) -> Matched
-    ensures { λ r. ⌜ r ≡ lookedUp (now (cam .entry)) va ⌝ }
-{
-    let mut i: usize = 0;
-    while i < SLOTS {
-        let w = cam[i];
-        if page::matches(w, va) {
-            return Matched::At(i);
-        }
-        i += 1;
-    }
-    Matched::Nothing
-}
-
-// The CAM lane after a global flush.
-fn flush_all(cam: [u32; SLOTS]) -> [u32; SLOTS]
-    ensures { λ r. ⌜ r ≡ flushedAll cam ⌝ }
-{
-    let mut out = cam;
-    let mut i: usize = 0;
-    while i < SLOTS {
-        let w = out[i];
-        out[i] = page::flushed(w);
-        i += 1;
-    }
-    out
-}
-
-// The CAM lane after an entry flush at an address.
-fn flush_entry(cam: [u32; SLOTS], va: VirtualAddress) -> [u32; SLOTS]
-    ensures { λ r. ⌜ r ≡ flushedEntry va cam ⌝ }
-{
-    let mut out = cam;
-    let mut i: usize = 0;
-    while i < SLOTS {
-        let w = out[i];
-        out[i] = page::flushed_at(va, w);
-        i += 1;
-    }
-    out
-}
-
-// Whether each CAM word lies below a limit.
-fn cams_ok(cam: &[u32; SLOTS], limit: u32) -> bool
-    ensures { λ r. ⌜ r ≡ camsOk limit (now (cam .entry)) ⌝ }
-{
-    let mut ok = true;
-    let mut i: usize = 0;
-    while i < SLOTS {
-        let q = cam[i] < limit;
-        ok = ok & q;
-        i += 1;
-    }
-    ok
-}
-
-// Whether a RAM word has only its layout's bits.
-fn ram_ok(w: u32) -> bool
-    ensures { λ r. ⌜ r ≡ ramOk w ⌝ }
-{
-    w % 256 == 0
-}
-
-// Whether each RAM word has only its layout's bits.
-fn rams_ok(ram: &[u32; SLOTS]) -> bool
-    ensures { λ r. ⌜ r ≡ ramsOk (now (ram .entry)) ⌝ }
-{
-    let mut ok = true;
-    let mut i: usize = 0;
-    while i < SLOTS {
-        let q = ram_ok(ram[i]);
-        ok = ok & q;
-        i += 1;
-    }
-    ok
 }
 
 // The slot that the next fill takes.
@@ -125,30 +36,6 @@ fn next_victim(at: u8, lock: u8) -> u8
     } else {
         lock
     }
-}
-
-// A lane with one word set; all of it as it was where there is no such slot.
-fn store(lane: [u32; SLOTS], at: u8, word: u32) -> [u32; SLOTS]
-    ensures { λ r. ⌜ r ≡ set lane at word ⌝ }
-{
-    let i = at as usize;
-    if i < SLOTS {
-        let mut out = lane;
-        out[i] = word;
-        return out;
-    }
-    lane
-}
-
-// A lane's word; 0 where there is no such slot.
-pub fn word_at(lane: [u32; SLOTS], at: u8) -> u32
-    ensures { λ r. ⌜ r ≡ getD lane at 0 ⌝ }
-{
-    let i = at as usize;
-    if i < SLOTS {
-        return lane[i];
-    }
-    0
 }
 
 impl Bank {
@@ -174,10 +61,10 @@ impl Bank {
         if SLOTS <= self.victim as usize {
             return false;
         }
-        if !cams_ok(&self.cam, CAM_LIMIT) {
+        if !lanes::cams_ok(&self.cam, CAM_LIMIT) {
             return false;
         }
-        rams_ok(&self.ram)
+        lanes::rams_ok(&self.ram)
     }
 
     // The words in a slot; no change where there is no such slot.
@@ -187,8 +74,8 @@ impl Bank {
         let c = self.cam;
         let r = self.ram;
         Bank {
-            cam: store(c, at, words.cam),
-            ram: store(r, at, words.ram),
+            cam: lanes::store(c, at, words.cam),
+            ram: lanes::store(r, at, words.ram),
             lock: self.lock,
             victim: self.victim,
         }
@@ -229,8 +116,8 @@ impl Bank {
         let c = self.cam;
         let r = self.ram;
         Words {
-            cam: word_at(c, self.victim),
-            ram: word_at(r, self.victim),
+            cam: lanes::word_at(c, self.victim),
+            ram: lanes::word_at(r, self.victim),
         }
     }
 
@@ -249,7 +136,7 @@ impl Bank {
         ensures { λ r. ⌜ r ≡ bankFlushed self ⌝ }
     {
         let c = self.cam;
-        let f = flush_all(c);
+        let f = lanes::flush_all(c);
         let mut e = self;
         e.cam = f;
         e
@@ -260,7 +147,7 @@ impl Bank {
         ensures { λ r. ⌜ r ≡ bankFlushedAt self va ⌝ }
     {
         let c = self.cam;
-        let f = flush_entry(c, va);
+        let f = lanes::flush_entry(c, va);
         let mut e = self;
         e.cam = f;
         e

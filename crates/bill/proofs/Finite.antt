@@ -12,8 +12,8 @@ use lib.Ieee.Fits.{down-pos}
 use lib.Ieee.Exact.{HasValue, round-exact}
 use lib.Ieee.Scale.{finite}
 use borrow.Author.Tests.{le-ltb}
-use Rattle.bill.specs.Bill.{f0}
-use Rattle.bill.proofs.Values.{zero-is}
+use Rattle.prices.specs.Prices.{f0}
+use Rattle.prices.proofs.Values.{zero-is}
 
 none : (n c : ℕ) → 0 < c → n * c ≡ 0 → n ≡ 0
 none n c p h = go (eq-zero-or-pos n)

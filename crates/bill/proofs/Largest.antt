@@ -12,7 +12,7 @@ use lib.Ieee.{Float, nan, inf, fin, binary64, prec, low, emax, up, down, size, s
 use lib.Ieee.Fits.{down-pos, and-l, and-r, round-is}
 use lib.Ieee.Order.{round-mono}
 use lib.Ieee.Scale.{finite}
-use Rattle.bill.proofs.Range.{InRange}
+use Rattle.prices.proofs.Range.{InRange}
 
 -- the largest finite value, and a bound that still rounds to it
 pub most : ℕ

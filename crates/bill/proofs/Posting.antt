@@ -4,10 +4,10 @@ use mathlib.Core.Bool.{Bool}
 use mathlib.Core.List.{List, [], _∷_, _++_}
 use Prim.Native.Nat.{ℕ}
 use lib.Ieee.{Float, binary64, add}
-use borrow.Author.Tests.{eq-eqb, ne-eqb}
-use Rattle.page.proofs.Picks.{pick-yes, pick-no}
-use Rattle.bill.specs.Types.{Place, OnChip, External, Nowhere, Source, Row, Prices, At, Side, Bill}
-use Rattle.bill.specs.Bill.{rowOf, rowPrice, wordPrice, sideRead, placePosted, wordPosted, wordsPosted, attemptPosted, freshBill}
+use Rattle.bill.specs.Types.{Place, OnChip, External, Nowhere, Source, Row, Prices, At, Bill}
+use Rattle.prices.specs.Prices.{rowOf, wordPrice}
+use Rattle.prices.proofs.Rows.{first-row}
+use Rattle.bill.specs.Bill.{placePosted, wordPosted, wordsPosted, attemptPosted, freshBill}
 
 -- the words of two lists in one are the postings in order
 pub words-append : (p : Prices) (b : Bill) (xs ys : List Source) → wordsPosted p b (xs ++ ys) ≡ wordsPosted p (wordsPosted p b xs) ys
@@ -68,20 +68,9 @@ pub attempt-leaves : (b : Bill) (missed : Bool) → (attemptPosted b missed .tot
 unfolding attemptPosted
 attempt-leaves b missed = (refl, (refl, refl))
 
--- the first read of either memory is a new row; then the row last read is the same row, and any other is new
-module _ (same fresh : Float) where
-  pub first-onchip : (row : ℕ) → wordPrice (Row same fresh) (freshBill .onchip) row ≡ fresh
-  unfolding wordPrice rowPrice
-  first-onchip row = refl
+-- the first read of either memory is a new row
+pub first-onchip : (same fresh : Float) (row : ℕ) → wordPrice (Row same fresh) (freshBill .onchip) row ≡ fresh
+first-onchip = first-row
 
-  pub first-external : (row : ℕ) → wordPrice (Row same fresh) (freshBill .external) row ≡ fresh
-  unfolding wordPrice rowPrice
-  first-external row = refl
-
-  pub same-row : (side : Side) (row : ℕ) → wordPrice (Row same fresh) (sideRead side row) row ≡ same
-  unfolding wordPrice rowPrice
-  same-row side row = pick-yes _ _ _ (eq-eqb row row refl)
-
-  pub other-row : (side : Side) (last row : ℕ) → (last ≡ row → ⊥) → wordPrice (Row same fresh) (sideRead side last) row ≡ fresh
-  unfolding wordPrice rowPrice
-  other-row side last row n = pick-no _ _ _ (ne-eqb last row n)
+pub first-external : (same fresh : Float) (row : ℕ) → wordPrice (Row same fresh) (freshBill .external) row ≡ fresh
+first-external = first-row

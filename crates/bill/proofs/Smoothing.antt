@@ -11,8 +11,10 @@ use lib.Ieee.{Float, nan, inf, fin, binary64, prec, low, emax, up, down, odd, un
 use lib.Ieee.Fits.{down-pos, round-is, sub-fits, mul-fits, add-fits}
 use lib.Ieee.Positive.{num, den}
 use lib.Ieee.Scale.{finite}
-use Rattle.bill.specs.Bill.{f0, f⅛, outcomeOf, smoothed}
-use Rattle.bill.proofs.Values.{zero-is, one-is, eighth-is}
+use Rattle.prices.specs.Prices.{f0}
+use Rattle.prices.proofs.Values.{zero-is}
+use Rattle.bill.specs.Bill.{f⅛, outcomeOf, smoothed}
+use Rattle.bill.proofs.Values.{one-is, eighth-is}
 use Rattle.bill.proofs.Largest.{most, bound, within, inside, scaled, scaled-left, fits-most, round-finite, sum-finite}
 
 -- a sign, and that `round` gives the sign that it is handed

@@ -12,10 +12,11 @@ use Rattle.page.specs.Pick.{_and_}
 use Rattle.page.proofs.Picks.{and-yes, and-left, and-right}
 use Rattle.bill.specs.Types.{Place, OnChip, External, Nowhere, Source, Reads, Price, Prices, Side, Seen, Nothing, Match, NoMatch, Bill}
 use Rattle.memory.specs.Reads.{sources}
-use Rattle.bill.specs.Bill.{figureOk, priceOk, pricesOk, billOk, moneyOk, rowOf, wordPrice, placePosted, wordPosted, wordsPosted, readsPosted, attemptPosted, seenPosted, freshBill, Good}
-use Rattle.bill.proofs.Values.{zero-is}
-use Rattle.bill.proofs.Range.{in-range}
-use Rattle.bill.proofs.Figure.{charged-figure}
+use Rattle.prices.specs.Prices.{figureOk, priceOk, pricesOk, rowOf, wordPrice}
+use Rattle.prices.proofs.Values.{zero-is}
+use Rattle.prices.proofs.Range.{in-range}
+use Rattle.prices.proofs.Figure.{charged-figure}
+use Rattle.bill.specs.Bill.{billOk, moneyOk, placePosted, wordPosted, wordsPosted, readsPosted, attemptPosted, seenPosted, freshBill, Good}
 use Rattle.bill.proofs.Largest.{word-finite}
 use Rattle.bill.proofs.Smoothing.{smoothed-finite, smoothed-fits}
 

@@ -1,39 +1,19 @@
 -- The walk bill (01, "Meters and the walk bill", and refusal 9). Its figures are binary64 values, and its operations those of
 -- IEEE 754, in the order written here.
-use Rattle.page.specs.Ground.{ℕ, _/_, _≡_, Bool, true, false, List, [], _∷_, eqb}
-use Rattle.page.specs.Pick.{pick, _and_}
-use Rattle.bill.specs.Types.{Float, binary64, PhysicalAddress, Place, OnChip, External, Nowhere, Source, Reads, Price, Flat, Row, Prices, LastRow, Never, At, Side, Seen, Nothing, Match, NoMatch, Bill}
+use Rattle.page.specs.Ground.{ℕ, _≡_, Bool, true, false, List, [], _∷_}
+use Rattle.page.specs.Pick.{_and_}
+use Rattle.bill.specs.Types.{Float, binary64, Place, OnChip, External, Nowhere, Source, Reads, Prices, Seen, Nothing, Match, NoMatch, Bill}
 use Rattle.memory.specs.Reads.{sources}
-use lib.Ieee.{ofBits, add, sub, mul, le, fits}
+use Rattle.prices.specs.Prices.{f0, pricesOk, rowOf, wordPrice, sideRead, freshSide}
+use lib.Ieee.{ofBits, add, sub, mul, fits}
 pub use lib.Ieee.Scale.{finite}
 
--- 0, 1, 1/8 and 4,096 as bit patterns of an f64
-abbrev pub f0 : Float
-f0 = ofBits binary64 0x0000_0000_0000_0000
-
+-- 1 and 1/8 as bit patterns of an f64
 abbrev pub f1 : Float
 f1 = ofBits binary64 0x3ff0_0000_0000_0000
 
 abbrev pub f⅛ : Float
 f⅛ = ofBits binary64 0x3fc0_0000_0000_0000
-
-abbrev pub f4096 : Float
-f4096 = ofBits binary64 0x40b0_0000_0000_0000
-
--- a figure from 0 to 4,096, ends and minus zero allowed, NaN not
-unfoldable pub figureOk : Float → Bool
-figureOk x = le f0 x and le x f4096
-
--- a test passes at every figure of a price
-unfoldable pub every : (Float → Bool) → Price → Bool
-every test (Flat x) = test x
-every test (Row same fresh) = test same and test fresh
-
-abbrev pub priceOk : Price → Bool
-priceOk p = every figureOk p
-
-abbrev pub pricesOk : Prices → Bool
-pricesOk p = priceOk (p .onchip) and priceOk (p .external)
 
 -- neither figure is infinite or NaN
 abbrev pub billOk : Bill → Bool
@@ -42,27 +22,6 @@ billOk b = finite (b .total) and finite (b .misses)
 -- refusal 9 holds where this is false
 unfoldable pub moneyOk : Prices → Bill → Bool
 moneyOk p b = pricesOk p and billOk b
-
--- rows are this many bytes of physical address
-abbrev pub rowBytes : ℕ
-rowBytes = 1024
-
-abbrev pub rowOf : PhysicalAddress → ℕ
-rowOf a = a .0 / rowBytes
-
--- a row that is the memory's last one is the same row, and the first read is a new one
-unfoldable pub rowPrice : Float → Float → LastRow → ℕ → Float
-rowPrice same fresh Never row = fresh
-rowPrice same fresh (At last) row = pick (eqb last row) same fresh
-
--- a word's price, by what the bill keeps of its memory
-unfoldable pub wordPrice : Price → Side → ℕ → Float
-wordPrice (Flat x) side row = x
-wordPrice (Row same fresh) side row = rowPrice same fresh (side .last) row
-
--- what the bill keeps of a memory after a word more of it
-abbrev pub sideRead : Side → ℕ → Side
-sideRead side row = record { last = At row }
 
 -- a word of a row at its place: that memory's price on the total, and that memory's side read
 unfoldable pub placePosted : Prices → Bill → Place → ℕ → Bill
@@ -112,9 +71,6 @@ seenPosted b Match = attemptPosted b false
 seenPosted b NoMatch = attemptPosted b true
 
 -- all zero with no rows
-abbrev pub freshSide : Side
-freshSide = record { last = Never }
-
 abbrev pub freshBill : Bill
 freshBill = record { total = f0; misses = f0; onchip = freshSide; external = freshSide }
 

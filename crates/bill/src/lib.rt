@@ -2,35 +2,10 @@
 use memory::Place;
 use memory::Reads;
 use memory::Source;
-use page::PhysicalAddress;
+use prices::Prices;
+use prices::Side;
 ghost use mathlib.Core.Path.{_≡_};
-ghost use Rattle.bill.specs.Bill.{figureOk, priceOk, pricesOk, finite, billOk, moneyOk, rowOf, rowPrice, wordPrice, sideRead, wordPosted, readsPosted, outcomeOf, smoothed, attemptPosted, seenPosted, freshSide, freshBill};
-
-// Rows are this many bytes of physical address.
-pub const ROW_BYTES: u32 = 1024;
-
-// A memory's price for a word, in nanoseconds: always the same, or by whether the row is the last one read.
-pub enum Price {
-    Flat(f64),
-    Row { same: f64, fresh: f64 },
-}
-
-// The prices of the two memories.
-pub struct Prices {
-    pub onchip: Price,
-    pub external: Price,
-}
-
-// The row last read.
-pub enum LastRow {
-    Never,
-    At(u32),
-}
-
-// What the bill keeps of one memory.
-pub struct Side {
-    pub last: LastRow,
-}
+ghost use Rattle.bill.specs.Bill.{finite, billOk, moneyOk, wordPosted, readsPosted, outcomeOf, smoothed, attemptPosted, seenPosted, freshBill};
 
 // The running total in nanoseconds, the smoothed miss figure, and the two sides.
 pub struct Bill {
@@ -47,42 +22,6 @@ pub enum Seen {
     NoMatch,
 }
 
-// Whether a figure is from 0 to 4,096.
-pub fn figure_ok(x: f64) -> bool
-    ensures { λ r. ⌜ r ≡ figureOk x ⌝ }
-{
-    if 0.0 <= x { x <= 4096.0 } else { false }
-}
-
-// Whether every figure of a price is.
-pub fn price_ok(p: Price) -> bool
-    ensures { λ r. ⌜ r ≡ priceOk p ⌝ }
-{
-    match p {
-        Price::Flat(x) => figure_ok(x),
-        Price::Row { same, fresh } => {
-            if figure_ok(same) {
-                figure_ok(fresh)
-            } else {
-                false
-            }
-        }
-    }
-}
-
-// Whether both prices are.
-fn prices_ok(prices: Prices) -> bool
-    ensures { λ r. ⌜ r ≡ pricesOk prices ⌝ }
-{
-    let onchip = prices.onchip;
-    let external = prices.external;
-    if price_ok(onchip) {
-        price_ok(external)
-    } else {
-        false
-    }
-}
-
 // Whether a figure is neither infinite nor NaN.
 fn is_finite(x: f64) -> bool
     ensures { λ r. ⌜ r ≡ finite x ⌝ }
@@ -94,34 +33,10 @@ fn is_finite(x: f64) -> bool
 pub fn money_ok(prices: Prices, bill: Bill) -> bool
     ensures { λ r. ⌜ r ≡ moneyOk prices bill ⌝ }
 {
-    if prices_ok(prices) { bill.ok() } else { false }
-}
-
-// The row of an address.
-fn row_of(at: PhysicalAddress) -> u32
-    ensures { λ r. ⌜ r ≡ rowOf at ⌝ }
-{
-    at.0 / ROW_BYTES
-}
-
-// The price of a word by the row last read.
-fn row_price(same: f64, fresh: f64, last: LastRow, row: u32) -> f64
-    ensures { λ r. ⌜ r ≡ rowPrice same fresh last row ⌝ }
-{
-    match last {
-        LastRow::Never => fresh,
-        LastRow::At(k) => if k == row { same } else { fresh },
-    }
-}
-
-// The price of a word by what the bill keeps of its memory.
-fn word_price(p: Price, side: Side, row: u32) -> f64
-    ensures { λ r. ⌜ r ≡ wordPrice p side row ⌝ }
-{
-    let last = side.last;
-    match p {
-        Price::Flat(x) => x,
-        Price::Row { same, fresh } => row_price(same, fresh, last, row),
+    if prices::prices_ok(prices) {
+        bill.ok()
+    } else {
+        false
     }
 }
 
@@ -137,26 +52,6 @@ fn smooth(mean: f64, missed: bool) -> f64
     ensures { λ r. ⌜ r ≡ smoothed mean missed ⌝ }
 {
     mean + (outcome(missed) - mean) * 0.125
-}
-
-impl Side {
-    // Nothing was read yet.
-    pub fn fresh() -> Self
-        ensures { λ r. ⌜ r ≡ freshSide ⌝ }
-    {
-        Self {
-            last: LastRow::Never,
-        }
-    }
-
-    // A word of a row was read.
-    pub fn read(self, row: u32) -> Side
-        ensures { λ r. ⌜ r ≡ sideRead self row ⌝ }
-    {
-        Side {
-            last: LastRow::At(row),
-        }
-    }
 }
 
 impl Bill {
@@ -189,14 +84,14 @@ impl Bill {
     {
         let at = source.at;
         let place = source.place;
-        let row = row_of(at);
+        let row = prices::row_of(at);
         match place {
             Place::OnChip(_) => {
                 let side = self.onchip;
                 let other = self.external;
                 let price = prices.onchip;
                 Bill {
-                    total: self.total + word_price(price, side, row),
+                    total: self.total + prices::word_price(price, side, row),
                     misses: self.misses,
                     onchip: side.read(row),
                     external: other,
@@ -207,7 +102,7 @@ impl Bill {
                 let other = self.onchip;
                 let price = prices.external;
                 Bill {
-                    total: self.total + word_price(price, side, row),
+                    total: self.total + prices::word_price(price, side, row),
                     misses: self.misses,
                     onchip: other,
                     external: side.read(row),

@@ -1,27 +1,24 @@
 -- The builder's answer and what it leaves, case by case. Assumes nothing.
 use mathlib.Core.Path.{_≡_, refl, sym, ap, ap₂, _∙_}
 use mathlib.Core.Bool.{true, false, not}
-use mathlib.Core.List.{List, _++_}
-use Prim.Native.Nat.{ℕ, _+_, _*_, _-_, _/_, _%_, _^_, _≤_, _<_}
+use mathlib.Core.List.{List}
+use Prim.Native.Nat.{ℕ, _+_, _%_, _^_, _≤_, _<_}
 use native.Mathlib.Omega.{arith}
 use borrow.Author.Tests.{lt-ltb, le-ltb, ltb-false, eqb-true, not-false}
 use lib.Dec.{ltb}
-use lib.ListN.{length, drop}
+use lib.ListN.{length}
 use Rattle.page.proofs.Picks.{pick-yes, pick-no, pick-by, and-left, and-right}
 use Rattle.memory.proofs.Places.{ok-ends}
-use Rattle.records.specs.declared.Mapping.{Mapping}
-use Rattle.records.specs.declared.Checked.{Checked}
-use Rattle.records.specs.declared.Checked.the-variants as C
+use Rattle.lists.specs.declared.Checked.{Checked}
+use Rattle.lists.specs.declared.Checked.the-variants as C
 use Rattle.records.specs.Mappings.{mappings}
-use Rattle.records.specs.Checks.{megabytes, checked}
+use Rattle.page.specs.Words.{megabytes}
+use Rattle.lists.specs.Refusals.{checked}
+use Rattle.tables.specs.Tables.{imageLength}
+use Rattle.image.specs.Image.{image}
 use Rattle.builder.specs.declared.Built.{Built}
 use Rattle.builder.specs.declared.Built.the-variants.{Length, BadMemory, BadRecord, Overlap, TooLong}
-use Rattle.builder.specs.Tables.{tableEnd, imageLength}
-use Rattle.builder.specs.Image.{firstWord, inTables, imageWord, image}
-use Rattle.builder.specs.Build.{roomOk, afterCheck, lengthOr, answerOf, leaves, Outcome, outcome, buildOf, spliced}
-use Rattle.builder.proofs.Splices.{bytes-length, spliced-same, spliced-join}
-use Rattle.builder.proofs.Places.{end-4, end-first}
-use Rattle.builder.proofs.Filling.{behind}
+use Rattle.builder.specs.Build.{roomOk, afterCheck, lengthOr, answerOf, leaves, Outcome, outcome, buildOf}
 
 -- a room that is not refused: its base is a multiple of 4,096, and it ends at 2^32 at the latest
 pub room-unit : (base room : ℕ) → roomOk base room ≡ true → base % 4096 ≡ 0
@@ -59,47 +56,6 @@ unfolding buildOf
 outcome-is rs base l o b e h =
     ap₂ outcome (sym e) (h ∙ ap (λ (x : Built). leaves x (image megabytes (mappings rs) base) l) (sym e))
 
--- the first level, and behind it the tables, are the image
-module _ (n : ℕ) (ms : List Mapping) (base : ℕ) (l : List ℕ) (room : imageLength n ms ≤ length l) where
-  places : (4 * n ≤ imageLength n ms) × (imageLength n ms % 4 ≡ 0)
-  unfolding imageLength
-  places = (end-first n ms n, end-4 n ms n)
-
-  level : (k : ℕ) → k < n → firstWord n ms base k ≡ imageWord n ms base k
-  unfolding imageWord
-  level k h = sym (pick-yes _ _ _ (lt-ltb k n h))
-
-  tables : (j : ℕ) → behind n ms j ≡ imageWord n ms base (n + j)
-  unfolding imageWord
-  tables j =
-      sym (pick-no _ _ _ (le-ltb (n + j) n (omega arith)) ∙ ap (inTables n ms n) (let e : 4 * (n + j) ≡ 4 * n + 4 * j = omega arith in e))
-
-  whole : spliced (spliced l 0 (firstWord n ms base) n) (4 * n) (behind n ms) ((imageLength n ms - 4 * n) / 4) ≡ spliced l 0 (imageWord n ms base) (imageLength n ms / 4)
-  whole =
-      let p = places in
-      ap₂ (λ (d : List ℕ) (a : ℕ). spliced d a (behind n ms) ((imageLength n ms - 4 * n) / 4))
-      (spliced-same l 0 n (firstWord n ms base) (imageWord n ms base) (omega arith) level)
-      (let e : 4 * n ≡ 0 + 4 * n = omega arith in e)
-      ∙ spliced-join l 0 n ((imageLength n ms - 4 * n) / 4) (behind n ms) (imageWord n ms base) (omega arith) (λ j _. tables j)
-      ∙ ap (spliced l 0 (imageWord n ms base)) (let e : n + (imageLength n ms - 4 * n) / 4 ≡ imageLength n ms / 4 = omega arith in e)
-
-  front : spliced l 0 (imageWord n ms base) (imageLength n ms / 4) ≡ image n ms base ++ drop (imageLength n ms) l
-  unfolding spliced image
-  front =
-      let p = places in
-      ap (λ (k : ℕ). image n ms base ++ drop k l) (let e : 0 + 4 * (imageLength n ms / 4) ≡ imageLength n ms = omega arith in e)
-
-  pub image-left : (o q : List ℕ) → o ≡ spliced l 0 (firstWord n ms base) n → q ≡ spliced o (4 * n) (behind n ms) ((imageLength n ms - 4 * n) / 4) → q ≡ image n ms base ++ drop (imageLength n ms) l
-  image-left o q e f = f ∙ ap (λ (d : List ℕ). spliced d (4 * n) (behind n ms) ((imageLength n ms - 4 * n) / 4)) e ∙ whole ∙ front
-
-pub image-4 : (n : ℕ) (ms : List Mapping) → imageLength n ms % 4 ≡ 0
-unfolding imageLength
-image-4 n ms = end-4 n ms n
-
-pub image-first : (n : ℕ) (ms : List Mapping) → 4 * n ≤ imageLength n ms
-unfolding imageLength
-image-first n ms = end-first n ms n
-
 -- what an accepted list is: no refusal's condition holds, and the answer is the image's length
 pub record Accepted (rs : List ℕ) (base room len : ℕ) : Type 0 where
   pub memory : roomOk base room ≡ true
@@ -131,11 +87,6 @@ accepted rs base room len =
 -- and such a list is accepted
 pub accepts : (rs : List ℕ) (base room len : ℕ) → Accepted rs base room len → answerOf rs base room ≡ Length len
 accepts rs base room len a = answer-length rs base room (a .memory) (a .records) (a .fits) ∙ ap Length (sym (a .length-is))
-
--- the image has its length
-pub image-length-is : (n : ℕ) (ms : List Mapping) (base : ℕ) → length (image n ms base) ≡ imageLength n ms
-unfolding image imageLength
-image-length-is n ms base = bytes-length (imageWord n ms base) (tableEnd n ms n / 4) ∙ (let e : 4 * (tableEnd n ms n / 4) ≡ tableEnd n ms n = omega (arith, end-4 n ms n) in e)
 
 -- what a build answers and leaves
 pub build-answer : (rs : List ℕ) (base : ℕ) (l o : List ℕ) (b : Built) → outcome b o ≡ buildOf rs base l → (b ≡ answerOf rs base (length l)) × (o ≡ leaves b (image megabytes (mappings rs) base) l)

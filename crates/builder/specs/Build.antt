@@ -1,16 +1,17 @@
 -- What the builder answers, and what it leaves in the lent memory (01, "The builder"; "When the unit says no", 4, 10, 11, 12).
-use Rattle.page.specs.Ground.{ℕ, _+_, _*_, _%_, Bool, not, List, _++_, eqb, ltb, length, take, drop}
+use Rattle.page.specs.Ground.{ℕ, _%_, Bool, not, List, _++_, eqb, ltb, length, drop}
 use Rattle.page.specs.Pick.{pick, _and_}
 use Rattle.memory.specs.Memory.{memoryOk}
 use Rattle.records.specs.declared.Mapping.{Mapping}
-use Rattle.records.specs.declared.Checked.{Checked}
-use Rattle.records.specs.declared.Checked.the-variants as C
+use Rattle.lists.specs.declared.Checked.{Checked}
+use Rattle.lists.specs.declared.Checked.the-variants as C
 use Rattle.records.specs.Mappings.{mappings}
-use Rattle.records.specs.Checks.{megabytes, checked}
+use Rattle.page.specs.Words.{megabytes}
+use Rattle.lists.specs.Refusals.{checked}
+use Rattle.tables.specs.Tables.{imageLength}
+use Rattle.image.specs.Image.{image}
 use Rattle.builder.specs.declared.Built.{Built}
 use Rattle.builder.specs.declared.Built.the-variants.{Length, BadMemory, BadRecord, Overlap, TooLong}
-use Rattle.builder.specs.Tables.{imageLength}
-use Rattle.builder.specs.Image.{bytesOf, image}
 
 -- the tables need a base that is a multiple of this
 abbrev pub baseUnit : ℕ
@@ -69,7 +70,3 @@ builtValue BadMemory = 0
 builtValue (BadRecord i) = i
 builtValue (Overlap i) = i
 builtValue (TooLong c) = c
-
--- the k words of f in a memory from offset at on, the other bytes as they were
-unfoldable pub spliced : List ℕ → ℕ → (ℕ → ℕ) → ℕ → List ℕ
-spliced l at f k = take at l ++ (bytesOf f k ++ drop (at + 4 * k) l)

@@ -1,14 +1,14 @@
 -- An offset in a memory takes fewer than 28 bits. Assumes nothing.
-use mathlib.Core.Path.{_≡_, refl, sym, ap, subst}
+use mathlib.Core.Path.{_≡_, refl, sym, subst}
 use mathlib.Core.Bool.{Bool, true, false}
-use Prim.Native.Nat.{ℕ, _+_, _^_, _<_, _≤_}
+use Prim.Native.Nat.{ℕ, _^_, _<_, _≤_}
 use native.Mathlib.Omega.{arith}
 use lib.ListN.{length}
 use Rattle.memory.specs.Memory.{Lent, longest, lentOk, placeIn, Inside}
 use Rattle.memory.specs.declared.Place.{Place}
 use Rattle.memory.specs.declared.Place.the-variants.{OnChip, External, Nowhere}
 use Rattle.memory.proofs.Places.{ok-short, on-ok, ext-ok, place-refused, inside}
-use Rattle.capi.specs.Run.{offsetOf}
+use Rattle.capi.specs.Boundary.{offsetOf}
 
 module _ (m : Lent) (a : ℕ) where
   within : (p : Place) → Inside m a p → length (m .on) ≤ longest → length (m .ext) ≤ longest → offsetOf p < 2 ^ 28

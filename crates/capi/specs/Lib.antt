@@ -1,5 +1,1 @@
-pub mod Words
-pub mod Answers
-pub mod State
-pub mod Handed
-pub mod Run
+pub mod Boundary

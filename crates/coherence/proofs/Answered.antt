@@ -6,8 +6,8 @@ use lib.Dec.{eqb}
 use borrow.Author.Tests.{eq-eqb, lt-leb}
 use Rattle.page.specs.Pick.{pick, _and_, _or_}
 use Rattle.page.proofs.Picks.{pick-yes, pick-no, pick-by}
-use Rattle.walk.specs.Statements.{isMissing}
-use Rattle.walk.specs.declared.Found.the-variants as D
+use Rattle.descriptors.specs.Statements.{isMissing}
+use Rattle.descriptors.specs.declared.Found.the-variants as D
 use Rattle.registers.specs.Answers.{idle, isPrefetch, isRefusal}
 use Rattle.registers.specs.Table.{noRegister, listed, commandOf}
 use Rattle.registers.specs.declared.Pending.the-variants.{Held}

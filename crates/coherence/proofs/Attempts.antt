@@ -6,15 +6,15 @@ use mathlib.Core.Bool.{Bool}
 use Rattle.page.specs.Words.{madeWords}
 use Rattle.page.specs.declared.Access.the-variants.{Read}
 use Rattle.page.proofs.Picks.{pick-yes}
-use Rattle.walk.specs.Statements.{Proper}
+use Rattle.descriptors.specs.Statements.{Proper}
 use Rattle.walk.specs.Walk.{readIn}
-use Rattle.walk.specs.declared.Found.the-variants as D
+use Rattle.descriptors.specs.declared.Found.the-variants as D
 use Rattle.walk.proofs.Walks.{walk-proper}
-use Rattle.bank.specs.Slots.{slots, lookedUp}
+use Rattle.lanes.specs.Lanes.{slots, lookedUp}
 use Rattle.bank.specs.Changes.{filled, entryFilled}
-use Rattle.bank.specs.declared.Matched.the-variants as M
+use Rattle.lanes.specs.declared.Matched.the-variants as M
 use Rattle.bank.proofs.Ranges.{InRange}
-use Rattle.bank.proofs.Searches.{Lowest, lowest}
+use Rattle.lanes.proofs.Searches.{Lowest, lowest}
 use Rattle.registers.specs.Fields.{limit}
 use Rattle.registers.specs.declared.Answer.the-variants as A
 use Rattle.decision.specs.Decisions.{byFound, byWalk, byMatched, settled}

@@ -11,12 +11,13 @@ use borrow.Author.Tests.{eqb-true, eqb-false}
 use Rattle.page.specs.Words.{wordValid, wordDropped, wordFlushed, wordFlushedAt, madeCam, madeRam}
 use Rattle.page.proofs.Picks.{pick-by}
 use Rattle.page.proofs.Slot.{made-matches, made-access, made-address, dropped-off, off-matches}
-use Rattle.bank.specs.Slots.{slots, slotAt}
-use Rattle.bank.specs.Changes.{nextSlot, storedAt, filled, flushedAll, flushedEntry}
+use Rattle.lanes.specs.Lanes.{slots, flushedAll, flushedEntry}
+use Rattle.bank.specs.Slots.{slotAt}
+use Rattle.bank.specs.Changes.{nextSlot, storedAt, filled}
 use Rattle.bank.proofs.Fills.{stored-keeps, stored-has}
-use Rattle.bank.proofs.Flushes.{flush-word, entry-word}
+use Rattle.lanes.proofs.Flushes.{flush-word, entry-word}
 use Rattle.bank.proofs.Ranges.{InRange, nextSlot-lt}
-use Rattle.walk.specs.declared.Found.the-variants as D
+use Rattle.descriptors.specs.declared.Found.the-variants as D
 use Rattle.registers.specs.Fields.{limit}
 use Rattle.decision.specs.Decisions.{byAccess, byFound}
 use Rattle.unit.specs.Types.{VirtualAddress, PhysicalAddress, Words, Page, Found, Bank}

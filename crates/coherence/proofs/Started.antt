@@ -8,7 +8,8 @@ use lib.ListN.{replicate}
 use borrow.Author.Tests.{eq-eqb}
 use Rattle.page.specs.Pick.{pick, _and_, _or_}
 use Rattle.page.proofs.Picks.{pick-yes, and-yes}
-use Rattle.bank.specs.Slots.{allFrom, bankOk, freshBank}
+use Rattle.lanes.specs.Lanes.{allFrom}
+use Rattle.bank.specs.Slots.{bankOk, freshBank}
 use Rattle.registers.specs.Fields.{isOn, isWalking, entryOk, noEntry}
 use Rattle.registers.specs.Table.{noRegister, listed, controlCommand, commandOf}
 use Rattle.registers.specs.declared.Setting.the-variants.{Control, BaseHigh, BaseLow}

@@ -1,11 +1,11 @@
 -- What the slots hold never shows: the plain answer, tables that agree with themselves, slots that agree with them (01, demand 3).
 use Rattle.page.specs.Ground.{ℕ, _/_, _^_, _<_, _≡_, true, List, getD, length}
 use Rattle.page.specs.Words.{lowBits, wordMatches, wordAccess, wordAddress}
-use Rattle.bank.specs.Slots.{slots}
+use Rattle.lanes.specs.Lanes.{slots}
 use Rattle.registers.specs.Fields.{limit, isOn, isWalking}
 use Rattle.registers.specs.declared.Pending.{Pending}
 use Rattle.registers.specs.declared.Pending.the-variants.{Nothing, Held}
-use Rattle.walk.specs.declared.Found.the-variants as D
+use Rattle.descriptors.specs.declared.Found.the-variants as D
 use Rattle.decision.specs.Types.{Access, VirtualAddress, Page, Walked, Answer}
 use Rattle.decision.specs.Decisions.{byAccess, byWalk}
 use Rattle.unit.specs.declared.Device.{Device}

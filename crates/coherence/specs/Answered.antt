@@ -1,6 +1,6 @@
 -- What keeps the promise from being hollow: a request or a retry that the paper does not refuse is answered (01, "When the unit says no").
 use Rattle.page.specs.Ground.{ℕ, _%_, _<_, _≡_, true, false}
-use Rattle.walk.specs.Statements.{isMissing}
+use Rattle.descriptors.specs.Statements.{isMissing}
 use Rattle.bill.specs.Bill.{moneyOk}
 use Rattle.registers.specs.Answers.{isPrefetch, isRefusal}
 use Rattle.registers.specs.Fields.{limit}

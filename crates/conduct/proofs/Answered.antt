@@ -9,8 +9,8 @@ use Rattle.page.specs.Pick.{pick}
 use Rattle.page.specs.Words.{physical, permits, wordAccess, wordAddress}
 use Rattle.page.proofs.Picks.{pick-yes, pick-no}
 use Rattle.bill.specs.declared.Seen.the-variants as S
-use Rattle.bank.specs.declared.Matched.the-variants as M
-use Rattle.bank.proofs.Searches.{found}
+use Rattle.lanes.specs.declared.Matched.the-variants as M
+use Rattle.lanes.proofs.Searches.{found}
 use Rattle.registers.specs.Answers.{isPrefetch}
 use Rattle.registers.specs.Fields.{isOn}
 use Rattle.registers.specs.Table.{listed, commandOf}

@@ -8,12 +8,12 @@ use Rattle.page.specs.Pick.{pick, _and_}
 use Rattle.page.specs.Words.{wordAccess}
 use Rattle.page.proofs.Picks.{pick-yes, pick-no, pick-by, and-left, and-right}
 use Rattle.memory.specs.declared.Reads.the-variants as R
-use Rattle.walk.specs.Statements.{isMissing}
-use Rattle.walk.specs.declared.Found.the-variants as D
+use Rattle.descriptors.specs.Statements.{isMissing}
+use Rattle.descriptors.specs.declared.Found.the-variants as D
 use Rattle.bill.specs.declared.Seen.the-variants as S
-use Rattle.bank.specs.Slots.{lookedUp}
+use Rattle.lanes.specs.Lanes.{lookedUp}
 use Rattle.bank.specs.declared.Fill.the-variants as F
-use Rattle.bank.specs.declared.Matched.the-variants as M
+use Rattle.lanes.specs.declared.Matched.the-variants as M
 use Rattle.registers.specs.Answers.{isRefusal}
 use Rattle.registers.specs.Fields.{isOn, isWalking}
 use Rattle.registers.specs.declared.Answer.the-variants as A

@@ -4,11 +4,11 @@ use mathlib.Core.Bool.{Bool, true, false, false≢true}
 use mathlib.Core.List.{List}
 use Prim.Native.Nat.{ℕ}
 use Rattle.page.proofs.Picks.{pick-by}
-use Rattle.walk.specs.declared.Found.the-variants as D
-use Rattle.bank.specs.Slots.{lookedUp}
+use Rattle.descriptors.specs.declared.Found.the-variants as D
+use Rattle.lanes.specs.Lanes.{lookedUp}
 use Rattle.bank.specs.Changes.{entryFilled}
 use Rattle.bank.specs.declared.Fill.the-variants as F
-use Rattle.bank.specs.declared.Matched.the-variants as M
+use Rattle.lanes.specs.declared.Matched.the-variants as M
 use Rattle.registers.specs.Table.{commandOf, valueAt}
 use Rattle.registers.specs.declared.Answer.the-variants as A
 use Rattle.registers.specs.declared.Fault.the-variants as K

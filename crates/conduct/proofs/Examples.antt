@@ -10,11 +10,14 @@ use Rattle.page.specs.Pick.{pick, _and_, _or_}
 use Rattle.page.specs.Words.{virtual, physical, kindOf, wordMatches, wordAddress, wordDropped, wordFlushed, wordFlushedAt, madeCam, madeRam}
 use Rattle.page.specs.declared.Access.the-variants.{Read, Write}
 use Rattle.memory.specs.Memory.{lent, memoryOk, apart, memoriesOk, holds, placeWithin, placeIn, wordOf}
-use Rattle.walk.specs.Walk.{firstOf, firstAt, readIn, walkFrom}
-use Rattle.bill.specs.Bill.{f0, freshBill, figureOk, every, moneyOk}
-use Rattle.bill.specs.declared.Price.the-variants.{Flat}
-use Rattle.bank.specs.Slots.{lookedFrom, allFrom, bankOk, freshBank, slotAt}
-use Rattle.bank.specs.Changes.{nextSlot, nextVictim, storedAt, lockedAt, filled, flushedAll, flushedEntry}
+use Rattle.walk.specs.Walk.{firstAt, readIn, walkFrom}
+use Rattle.prices.specs.Prices.{f0, figureOk, every}
+use Rattle.bill.specs.Bill.{freshBill, moneyOk}
+use Rattle.prices.specs.declared.Price.the-variants.{Flat}
+use Rattle.bank.specs.Slots.{bankOk, freshBank, slotAt}
+use Rattle.bank.specs.Changes.{nextSlot, nextVictim, storedAt, lockedAt, filled}
+use Rattle.descriptors.specs.Descriptors.{firstOf}
+use Rattle.lanes.specs.Lanes.{lookedFrom, allFrom, flushedAll, flushedEntry}
 use Rattle.registers.specs.Fields.{entryOk, registersOk, freshRegisters, withControl, withStaged, camAddress}
 use Rattle.registers.specs.Table.{listed, noRegister, whenBit, commandOf}
 use Rattle.registers.specs.declared.Pending.the-variants as P

@@ -3,8 +3,9 @@ use mathlib.Core.Path.{_≡_, refl, sym, _∙_, ap, subst}
 use mathlib.Core.Bool.{Bool, true, false, true≢false, false≢true}
 use Prim.Native.Nat.{ℕ, _<_}
 use Rattle.page.proofs.Picks.{pick-by, and-left, and-right, or-yes, or-no}
-use Rattle.walk.specs.declared.Found.the-variants as D
-use Rattle.bank.specs.Slots.{slots, slotAt}
+use Rattle.descriptors.specs.declared.Found.the-variants as D
+use Rattle.lanes.specs.Lanes.{slots}
+use Rattle.bank.specs.Slots.{slotAt}
 use Rattle.bank.specs.Changes.{nextSlot, entryFilled}
 use Rattle.bank.specs.declared.Fill.the-variants as F
 use Rattle.bank.proofs.Fills.{fill-keeps, fill-has, fill-keeps-locked, fill-lock, fill-victim}

@@ -9,7 +9,7 @@ use Rattle.page.specs.Words.{wordValid, wordPreserved, wordMatches, wordFlushed
 use Rattle.page.proofs.Picks.{pick-yes, pick-no, pick-by, and-yes, and-no}
 use Rattle.page.proofs.Slot.{dropped-off, dropped-rest}
 use Rattle.bank.specs.Changes.{bankFlushed, bankFlushedAt}
-use Rattle.bank.proofs.Flushes.{flush-word, flush-exact as word-exact, entry-word}
+use Rattle.lanes.proofs.Flushes.{flush-word, flush-exact as word-exact, entry-word}
 use Rattle.registers.specs.Fields.{camAddress}
 use Rattle.registers.specs.Table.{listed, noRegister, whenBit, commandOf}
 use Rattle.registers.specs.declared.Command.the-variants as C

@@ -14,14 +14,15 @@ use Rattle.memory.specs.Memory.{placeIn, partAt, fetchedIn, littleEndian, wordO
 use Rattle.memory.specs.declared.Place.{Place}
 use Rattle.memory.specs.declared.Place.the-variants.{OnChip, External, Nowhere}
 use Rattle.memory.specs.declared.Source.{Source}
-use Rattle.walk.specs.Walk.{firstOf, secondOf, coarseAt, fineAt, readAt, readIn, sourceAt, afterSecond, byFirst, afterFirst, walkFrom, walkIn}
-use Rattle.walk.specs.declared.First.{First}
-use Rattle.walk.specs.declared.First.the-variants as F
-use Rattle.walk.specs.declared.Table.{Table}
-use Rattle.walk.specs.declared.Table.the-variants as T
+use Rattle.descriptors.specs.Descriptors.{firstOf, secondOf}
+use Rattle.walk.specs.Walk.{coarseAt, fineAt, readAt, readIn, sourceAt, afterSecond, byFirst, afterFirst, walkFrom, walkIn}
+use Rattle.descriptors.specs.declared.First.{First}
+use Rattle.descriptors.specs.declared.First.the-variants as F
+use Rattle.descriptors.specs.declared.Table.{Table}
+use Rattle.descriptors.specs.declared.Table.the-variants as T
 use Rattle.walk.specs.declared.Read.{Read}
 use Rattle.walk.specs.declared.Read.the-variants as R
-use Rattle.walk.specs.declared.Found.the-variants as D
+use Rattle.descriptors.specs.declared.Found.the-variants as D
 use Rattle.conduct.specs.Types.{Lent, Found}
 use Rattle.conduct.specs.Refused.{BytesFit}
 

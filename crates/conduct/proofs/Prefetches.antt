@@ -3,11 +3,11 @@ use mathlib.Core.Path.{_≡_, refl, _∙_, ap}
 use mathlib.Core.Bool.{Bool, true, false, true≢false, false≢true}
 use Rattle.page.specs.Pick.{_and_}
 use Rattle.page.proofs.Picks.{and-left, and-right}
-use Rattle.walk.specs.Statements.{isMissing}
-use Rattle.walk.specs.declared.Found.the-variants as D
+use Rattle.descriptors.specs.Statements.{isMissing}
+use Rattle.descriptors.specs.declared.Found.the-variants as D
 use Rattle.bill.specs.declared.Seen.the-variants as S
-use Rattle.bank.specs.Slots.{lookedUp}
-use Rattle.bank.specs.declared.Matched.the-variants as M
+use Rattle.lanes.specs.Lanes.{lookedUp}
+use Rattle.lanes.specs.declared.Matched.the-variants as M
 use Rattle.registers.specs.Answers.{isRefusal}
 use Rattle.registers.specs.Fields.{isOn, isWalking}
 use Rattle.decision.specs.Prefetches.{prefetchFound, prefetchMatched, prefetchDecided}

@@ -8,10 +8,12 @@ use borrow.Author.Tests.{lt-ltb, ltb-true, leb-false}
 use Rattle.page.specs.Pick.{_and_}
 use Rattle.page.specs.declared.Access.the-variants.{Read}
 use Rattle.page.proofs.Picks.{pick-by, and-yes, and-left, and-right}
-use Rattle.walk.specs.declared.Found.the-variants as D
-use Rattle.bank.specs.Slots.{allFrom, bankOk, lookedUp}
-use Rattle.bank.specs.declared.Matched.the-variants as M
-use Rattle.bank.proofs.Ranges.{fillOk, madeCam-ok, madeRam-ok, entry-ok}
+use Rattle.descriptors.specs.declared.Found.the-variants as D
+use Rattle.lanes.specs.Lanes.{allFrom, lookedUp}
+use Rattle.bank.specs.Slots.{bankOk}
+use Rattle.lanes.specs.declared.Matched.the-variants as M
+use Rattle.lanes.proofs.Ranges.{madeCam-ok, madeRam-ok}
+use Rattle.bank.proofs.Ranges.{fillOk, entry-ok}
 use Rattle.registers.specs.Fields.{limit, registersOk, pendingOk}
 use Rattle.registers.specs.Table.{commandOf, valueAt}
 use Rattle.registers.specs.declared.Pending.the-variants as P

@@ -5,8 +5,8 @@ use Prim.Native.Nat.{ℕ}
 use borrow.Author.Tests.{not-false}
 use Rattle.meters.specs.Posted.{noTally}
 use Rattle.page.specs.Pick.{pick}
-use Rattle.walk.specs.Statements.{isMissing}
-use Rattle.walk.specs.declared.Found.the-variants as D
+use Rattle.descriptors.specs.Statements.{isMissing}
+use Rattle.descriptors.specs.declared.Found.the-variants as D
 use Rattle.registers.specs.Answers.{isRefusal}
 use Rattle.registers.specs.Table.{listed, commandOf, valueAt}
 use Rattle.registers.proofs.Offsets.{by-offset}

@@ -7,8 +7,8 @@ use lib.Dec.{eqb, leb}
 use borrow.Author.Tests.{eqb-false, leb-false, lt-ltb, not-false}
 use Rattle.page.specs.Pick.{pick, _and_, _or_}
 use Rattle.page.proofs.Picks.{pick-yes, pick-by, and-yes, and-left, and-right}
-use Rattle.walk.specs.Statements.{isMissing}
-use Rattle.bank.specs.Slots.{slots, lookedUp}
+use Rattle.descriptors.specs.Statements.{isMissing}
+use Rattle.lanes.specs.Lanes.{slots, lookedUp}
 use Rattle.registers.specs.Answers.{isPrefetch}
 use Rattle.registers.specs.Fields.{isOn, isWalking}
 use Rattle.registers.specs.Table.{listed, controlCommand, lockCommand, loadCommand, whenBit, commandOf}

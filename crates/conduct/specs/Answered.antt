@@ -1,7 +1,7 @@
 -- Demand 2, two answers that the paper names (01, "The unit", "Registers").
 use Rattle.page.specs.Ground.{ℕ, _%_, _<_, _≡_, Bool, true, false, getD}
 use Rattle.page.specs.Words.{physical, permits, wordAccess, wordMatches, wordAddress}
-use Rattle.bank.specs.Slots.{slots}
+use Rattle.lanes.specs.Lanes.{slots}
 use Rattle.registers.specs.Answers.{isPrefetch}
 use Rattle.registers.specs.Fields.{isOn}
 use Rattle.registers.specs.declared.Pending.the-variants as P

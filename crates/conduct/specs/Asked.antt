@@ -2,7 +2,7 @@
 use Rattle.page.specs.Ground.{ℕ, _%_, _≡_, Bool, true, false, eqb}
 use Rattle.page.specs.Pick.{pick, _and_}
 use Rattle.memory.specs.declared.Reads.the-variants as R
-use Rattle.bank.specs.Slots.{lookedUp}
+use Rattle.lanes.specs.Lanes.{lookedUp}
 use Rattle.registers.specs.Answers.{isPrefetch}
 use Rattle.registers.specs.Fields.{isOn, isWalking}
 use Rattle.registers.specs.declared.Pending.the-variants.{Nothing, Held}

@@ -3,8 +3,9 @@ use Rattle.page.specs.Ground.{ℕ, _<_, _≡_, true, length}
 use Rattle.page.specs.Pick.{pick}
 use Rattle.page.specs.Words.{madeWords}
 use mathlib.Core.Logic.{_≢_}
-use Rattle.walk.specs.declared.Found.the-variants as D
-use Rattle.bank.specs.Slots.{slots, slotAt}
+use Rattle.descriptors.specs.declared.Found.the-variants as D
+use Rattle.lanes.specs.Lanes.{slots}
+use Rattle.bank.specs.Slots.{slotAt}
 use Rattle.bank.specs.Changes.{nextSlot, nextVictim}
 use Rattle.bank.specs.declared.Fill.the-variants as F
 use Rattle.registers.specs.declared.Answer.the-variants as A

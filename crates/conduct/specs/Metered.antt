@@ -5,7 +5,7 @@ use Rattle.memory.specs.Reads.{wordCount}
 use Rattle.meters.specs.Posted.{noTally, posted, Within}
 use Rattle.bill.specs.Bill.{readsPosted, seenPosted}
 use Rattle.bill.specs.declared.Seen.the-variants as S
-use Rattle.bank.specs.Slots.{lookedUp}
+use Rattle.lanes.specs.Lanes.{lookedUp}
 use Rattle.registers.specs.Fields.{isOn}
 use Rattle.unit.specs.Calls.{noMatch}
 use Rattle.unit.specs.Machine.{Call, request, write, read, drop-fault, shift, step, Bench, run}

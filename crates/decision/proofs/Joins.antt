@@ -6,10 +6,10 @@ use Prim.Native.Nat.{ℕ}
 use lib.ListN.{getD}
 use Rattle.page.specs.Words.{physical}
 use Rattle.page.proofs.Picks.{pick-yes, pick-no}
-use Rattle.bank.specs.Slots.{lookedUp}
+use Rattle.lanes.specs.Lanes.{lookedUp}
 use Rattle.registers.specs.Fields.{isOn, isWalking}
 use Rattle.bill.specs.declared.Seen.the-variants as S
-use Rattle.bank.specs.declared.Matched.the-variants as M
+use Rattle.lanes.specs.declared.Matched.the-variants as M
 use Rattle.registers.specs.declared.Fault.the-variants.{Miss}
 use Rattle.registers.specs.declared.Answer.the-variants as A
 use Rattle.decision.specs.Types.{Access, VirtualAddress, Walked, Matched, Decision}

@@ -3,16 +3,16 @@
 use Rattle.page.specs.Ground.{ℕ, Bool, true, false, List, getD}
 use Rattle.page.specs.Pick.{pick}
 use Rattle.page.specs.Words.{physical, permits, wordAccess, wordAddress, madeWords}
-use Rattle.walk.specs.Walk.{physicalOf}
+use Rattle.descriptors.specs.Descriptors.{physicalOf}
 use Rattle.meters.specs.Posted.{noTally}
 use Rattle.bill.specs.Bill.{readsPosted, seenPosted}
-use Rattle.bank.specs.Slots.{lookedUp}
+use Rattle.lanes.specs.Lanes.{lookedUp}
 use Rattle.registers.specs.Fields.{isOn, isWalking}
 use Rattle.memory.specs.declared.Reads.the-variants as R
-use Rattle.walk.specs.declared.Found.the-variants as D
+use Rattle.descriptors.specs.declared.Found.the-variants as D
 use Rattle.bill.specs.declared.Seen.the-variants as S
 use Rattle.bank.specs.declared.Fill.the-variants as F
-use Rattle.bank.specs.declared.Matched.the-variants as M
+use Rattle.lanes.specs.declared.Matched.the-variants as M
 use Rattle.registers.specs.declared.Fault.the-variants as K
 use Rattle.registers.specs.declared.Pending.the-variants as P
 use Rattle.registers.specs.declared.Answer.the-variants as A

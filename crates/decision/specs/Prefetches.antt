@@ -1,11 +1,11 @@
 -- What a prefetch and a shift report come to (01, "Registers", "Meters and the walk bill").
 use Rattle.page.specs.Ground.{ℕ, _*_, _%_, _^_, List, [], _∷_}
 use Rattle.page.specs.Words.{virtual}
-use Rattle.walk.specs.Walk.{physicalOf, distanceOf}
-use Rattle.bank.specs.Slots.{lookedUp}
-use Rattle.walk.specs.declared.Found.the-variants as D
+use Rattle.descriptors.specs.Descriptors.{physicalOf, distanceOf}
+use Rattle.lanes.specs.Lanes.{lookedUp}
+use Rattle.descriptors.specs.declared.Found.the-variants as D
 use Rattle.bill.specs.declared.Seen.the-variants as S
-use Rattle.bank.specs.declared.Matched.the-variants as M
+use Rattle.lanes.specs.declared.Matched.the-variants as M
 use Rattle.registers.specs.declared.Fault.the-variants as K
 use Rattle.registers.specs.declared.Answer.the-variants as A
 use Rattle.decision.specs.declared.Shift.the-variants as H

@@ -5,16 +5,16 @@ pub use Rattle.page.specs.declared.PhysicalAddress.{PhysicalAddress}
 pub use Rattle.page.specs.declared.Words.{Words}
 pub use Rattle.memory.specs.Memory.{Lent, lent, lentOk}
 pub use Rattle.memory.specs.declared.Reads.{Reads}
-pub use Rattle.walk.specs.declared.Page.{Page}
-pub use Rattle.walk.specs.declared.Found.{Found}
+pub use Rattle.descriptors.specs.declared.Page.{Page}
+pub use Rattle.descriptors.specs.declared.Found.{Found}
 pub use Rattle.walk.specs.declared.Walked.{Walked}
 pub use Rattle.meters.specs.declared.Tally.{Tally}
 pub use Rattle.bill.specs.declared.Bill.{Bill}
-pub use Rattle.bill.specs.declared.Prices.{Prices}
+pub use Rattle.prices.specs.declared.Prices.{Prices}
 pub use Rattle.bill.specs.declared.Seen.{Seen}
 pub use Rattle.bank.specs.declared.Bank.{Bank}
 pub use Rattle.bank.specs.declared.Fill.{Fill}
-pub use Rattle.bank.specs.declared.Matched.{Matched}
+pub use Rattle.lanes.specs.declared.Matched.{Matched}
 pub use Rattle.registers.specs.declared.Fault.{Fault}
 pub use Rattle.registers.specs.declared.Pending.{Pending}
 pub use Rattle.registers.specs.declared.Answer.{Answer}

@@ -1,26 +1,22 @@
 // What a request, a retry, a prefetch or a shift report comes to, by the state and the memories alone.
 use bank::Fill;
-use bank::Matched;
-use bank::SLOTS;
-use bill::Bill;
-use bill::Prices;
 use bill::Seen;
+use descriptors::Found;
+use descriptors::Page;
+use lanes::Matched;
+use lanes::SLOTS;
 use memory::Reads;
-use meters::Tally;
 use page::Access;
 use page::PhysicalAddress;
 use page::VirtualAddress;
 use registers::Answer;
 use registers::Fault;
-use registers::Pending;
-use walk::Found;
-use walk::Page;
 use walk::Walked;
 ghost use mathlib.Core.Path.{_≡_};
 ghost use Rattle.memory.specs.Memory.{lent};
 ghost use Rattle.walk.specs.Walk.{walkWithin};
-ghost use Rattle.decision.specs.Decisions.{byAccess, plainly, byMatch, missingWord, noPage, withPage, byFound, byWalk, decided, settled, meteredOnce, tallyOf, billed};
-ghost use Rattle.decision.specs.Prefetches.{prefetchFound, prefetchDecided, prefetchKept, shiftBy};
+ghost use Rattle.decision.specs.Decisions.{byAccess, plainly, byMatch, missingWord, noPage, withPage, byFound, byWalk, decided};
+ghost use Rattle.decision.specs.Prefetches.{prefetchFound, prefetchDecided, shiftBy};
 
 // What an attempt comes to: its answer, what it puts into the slots, the words it read and what it did with the slots.
 pub struct Decision {
@@ -112,7 +108,7 @@ fn by_walk(w: Walked, va: VirtualAddress, a: Access) -> Decision
         Found::Missing => missing(),
         Found::NoPage => no_page(reads, Fault::Translation, Seen::NoMatch),
         Found::Page(p) => {
-            let answer = by_access(p.access, walk::physical(p, va), a);
+            let answer = by_access(p.access, descriptors::physical(p, va), a);
             with_page(p, va, reads, answer, Seen::NoMatch)
         }
     }
@@ -136,7 +132,7 @@ pub fn decide<'a>(
     if !registers::is_on(control) {
         return plain(Answer::Address(PhysicalAddress(va.0)), Seen::Nothing);
     }
-    let m = bank::lookup(cam, va);
+    let m = lanes::lookup(cam, va);
     match m {
         Matched::At(i) => by_match(cam[i], ram[i], va, a),
         Matched::Nothing => {
@@ -147,59 +143,6 @@ pub fn decide<'a>(
             by_walk(w, va, a)
         }
     }
-}
-
-// The pending fault after an answer.
-pub fn settle(p: Pending, answer: Answer, va: VirtualAddress, a: Access) -> Pending
-    ensures { λ r. ⌜ r ≡ settled va a p answer ⌝ }
-{
-    match answer {
-        Answer::Address(_) => Pending::Nothing,
-        Answer::Fault(k) => Pending::Held(k, va, a),
-        Answer::Value(_) => p,
-        Answer::Done => p,
-        Answer::Refused(_) => p,
-    }
-}
-
-// One request or retry, and the words it read.
-fn metered(again: bool, words: u32) -> Tally
-    ensures { λ r. ⌜ r ≡ meteredOnce again words ⌝ }
-{
-    if again {
-        return Tally {
-            fresh: 0,
-            retries: 1,
-            words: words,
-        };
-    }
-    Tally {
-        fresh: 1,
-        retries: 0,
-        words: words,
-    }
-}
-
-// What an attempt adds to the meters.
-pub fn tally_of(again: bool, answer: Answer, words: u32) -> Tally
-    ensures { λ r. ⌜ r ≡ tallyOf again words answer ⌝ }
-{
-    match answer {
-        Answer::Address(_) => metered(again, words),
-        Answer::Fault(_) => metered(again, words),
-        Answer::Value(_) => Tally::zero(),
-        Answer::Done => Tally::zero(),
-        Answer::Refused(_) => Tally::zero(),
-    }
-}
-
-// The bill after a decision.
-pub fn charge(d: Decision, bill: Bill, prices: Prices) -> Bill
-    ensures { λ r. ⌜ r ≡ billed prices bill d ⌝ }
-{
-    let reads = d.reads;
-    let seen = d.seen;
-    bill.post_reads(reads, prices).post_seen(seen)
 }
 
 // What a prefetch's walk comes to.
@@ -227,26 +170,13 @@ pub fn prefetch_decide<'a>(
 ) -> Decision
     ensures { λ r. ⌜ r ≡ prefetchDecided (walkWithin (lent (now (on .entry)) onbase (now (ext .entry)) extbase) (base .0) (va .0)) (now (cam .entry)) va ⌝ }
 {
-    let m = bank::lookup(cam, va);
+    let m = lanes::lookup(cam, va);
     match m {
         Matched::At(_) => plain(Answer::Done, Seen::Nothing),
         Matched::Nothing => {
             let w = walk::walk_within(on, onbase, ext, extbase, base, va);
             prefetch_walk(w, va)
         }
-    }
-}
-
-// The prefetch register after an answer.
-pub fn prefetch_kept(v: u16, old: u16, answer: Answer) -> u16
-    ensures { λ r. ⌜ r ≡ prefetchKept v old answer ⌝ }
-{
-    match answer {
-        Answer::Refused(_) => old,
-        Answer::Address(_) => v,
-        Answer::Fault(_) => v,
-        Answer::Value(_) => v,
-        Answer::Done => v,
     }
 }
 
@@ -257,6 +187,6 @@ pub fn shift_by(found: Found, va: VirtualAddress) -> Shift
     match found {
         Found::Missing => Shift::Refused(3),
         Found::NoPage => Shift::Fault,
-        Found::Page(p) => Shift::Distance(walk::distance(walk::physical(p, va), va)),
+        Found::Page(p) => Shift::Distance(descriptors::distance(descriptors::physical(p, va), va)),
     }
 }

@@ -5,7 +5,8 @@ use mathlib.Core.List.{List, [], _∷_}
 use Prim.Native.Nat.{ℕ, _<_, _%_}
 use native.Mathlib.Omega.{arith}
 use Rattle.memory.specs.Memory.{Lent, lentOk}
-use Rattle.records.specs.Mappings.{mappings, holder}
+use Rattle.records.specs.Mappings.{mappings}
+use Rattle.lists.specs.Meanings.{holder}
 use Rattle.registers.specs.Fields.{limit}
 use Rattle.registers.specs.declared.Pending.the-variants.{Nothing, Held}
 use Rattle.decision.specs.Types.{VirtualAddress}

@@ -6,23 +6,23 @@ use Prim.Native.Nat.{ℕ, _+_, _*_, _/_, _%_, _^_, _<_, _≤_}
 use native.Mathlib.Omega.{arith}
 use Rattle.page.proofs.Picks.{pick-by}
 use Rattle.page.specs.Pick.{pick}
-use Rattle.page.specs.Words.{permits}
+use Rattle.page.specs.Words.{permits, megabytes}
 use Rattle.memory.specs.Memory.{Lent, lentOk}
-use Rattle.walk.specs.Walk.{physicalOf}
-use Rattle.walk.specs.Statements.{isMissing}
-use Rattle.walk.specs.declared.Found.the-variants as D
+use Rattle.descriptors.specs.Descriptors.{physicalOf}
+use Rattle.descriptors.specs.Statements.{isMissing}
+use Rattle.descriptors.specs.declared.Found.the-variants as D
 use Rattle.walk.proofs.Walks.{walk-refused}
 use Rattle.records.specs.declared.Mapping.{Mapping}
-use Rattle.records.specs.declared.Held.{Held}
-use Rattle.records.specs.declared.Held.the-variants.{By, Nobody}
-use Rattle.records.specs.declared.Meaning.{Meaning}
-use Rattle.records.specs.declared.Meaning.the-variants.{Byte, Permission, Translation}
-use Rattle.records.specs.Mappings.{mappings, holder, byteOf}
-use Rattle.records.specs.Meanings.{meaning, heldMeaning}
+use Rattle.lists.specs.declared.Held.{Held}
+use Rattle.lists.specs.declared.Held.the-variants.{By, Nobody}
+use Rattle.lists.specs.declared.Meaning.{Meaning}
+use Rattle.lists.specs.declared.Meaning.the-variants.{Byte, Permission, Translation}
+use Rattle.records.specs.Mappings.{mappings, byteOf}
+use Rattle.lists.specs.Meanings.{holder, meaning, heldMeaning}
 use Rattle.builder.specs.declared.Built.the-variants.{Length}
 use Rattle.builder.specs.Build.{answerOf}
-use Rattle.builder.proofs.Answers.{accepted, room-unit, room-memory, image-first}
-use Rattle.records.specs.Checks.{megabytes}
+use Rattle.builder.proofs.Answers.{accepted, room-unit, room-memory}
+use Rattle.tables.proofs.Places.{image-first}
 use Rattle.registers.specs.declared.Fault.the-variants as K
 use Rattle.registers.specs.declared.Answer.the-variants as A
 use Rattle.decision.specs.Types.{Access, VirtualAddress, PhysicalAddress, Reads, Found, Walked, Bill, Prices, Answer}

@@ -1,4 +1,5 @@
 -- The three demands hold. Assumes nothing.
+use Rattle.page.specs.Words.{megabytes}
 use mathlib.Core.Path.{_≡_, refl, sym, _∙_, ap, subst}
 use mathlib.Core.Bool.{Bool, true, false, false≢true, true≢false}
 use mathlib.Core.List.{List}
@@ -6,11 +7,11 @@ use mathlib.Core.Logic.{_≢_}
 use Prim.Native.Nat.{ℕ}
 use lib.ListN.{length}
 use Rattle.memory.specs.Memory.{Lent, lentOk}
-use Rattle.records.specs.Mappings.{mappings, holder}
-use Rattle.records.specs.Checks.{megabytes}
+use Rattle.records.specs.Mappings.{mappings}
+use Rattle.lists.specs.Meanings.{holder}
 use Rattle.builder.specs.declared.Built.{Built}
 use Rattle.builder.specs.declared.Built.the-variants.{Length, BadMemory, BadRecord, Overlap, TooLong}
-use Rattle.builder.specs.Image.{image}
+use Rattle.image.specs.Image.{image}
 use Rattle.builder.specs.Build.{answerOf, buildOf, builtNumber, leaves}
 use Rattle.registers.specs.Answers.{isRefusal}
 use Rattle.unit.specs.declared.Device.{Device}

@@ -1,11 +1,11 @@
 -- What keeps demand 3 from being hollow: each request that the paper does not refuse is in fact answered, and so is each retry.
+use Rattle.page.specs.Words.{megabytes}
 use Rattle.page.specs.Ground.{ℕ, _%_, _<_, _≡_, true, false, List, [], _∷_}
 use Rattle.memory.specs.Memory.{Lent, lentOk}
 use Rattle.bill.specs.Bill.{moneyOk}
 use Rattle.records.specs.Mappings.{mappings}
-use Rattle.records.specs.Checks.{megabytes}
 use Rattle.builder.specs.declared.Built.the-variants.{Length}
-use Rattle.builder.specs.Image.{image}
+use Rattle.image.specs.Image.{image}
 use Rattle.builder.specs.Build.{answerOf}
 use Rattle.registers.specs.Fields.{limit}
 use Rattle.registers.specs.Answers.{isPrefetch}

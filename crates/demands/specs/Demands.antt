@@ -1,15 +1,15 @@
 -- The three demands of the buyer, over the definitions that the code's contracts cite. Their proofs: proofs/Proved.antt.
+use Rattle.page.specs.Words.{megabytes}
 use Rattle.page.specs.Ground.{ℕ, _/_, _%_, _<_, _≡_, true, false, List, [], _∷_, length}
 use Rattle.memory.specs.Memory.{Lent}
 use Rattle.records.specs.declared.Mapping.{Mapping}
-use Rattle.records.specs.declared.Meaning.{Meaning}
-use Rattle.records.specs.declared.Meaning.the-variants.{Byte, Permission, Translation}
+use Rattle.lists.specs.declared.Meaning.{Meaning}
+use Rattle.lists.specs.declared.Meaning.the-variants.{Byte, Permission, Translation}
 use Rattle.records.specs.Mappings.{mappings}
-use Rattle.records.specs.Meanings.{meaning}
-use Rattle.records.specs.Checks.{megabytes}
+use Rattle.lists.specs.Meanings.{meaning}
 use Rattle.builder.specs.declared.Built.{Built}
 use Rattle.builder.specs.declared.Built.the-variants.{Length}
-use Rattle.builder.specs.Image.{image}
+use Rattle.image.specs.Image.{image}
 use Rattle.builder.specs.Build.{answerOf, buildOf, builtNumber}
 use Rattle.registers.specs.declared.Fault.the-variants as K
 use Rattle.registers.specs.declared.Answer.the-variants as A

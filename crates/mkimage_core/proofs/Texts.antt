@@ -1,4 +1,5 @@
 -- Texts at the front of a memory. Assumes nothing.
+use Rattle.page.specs.Words.{megabytes}
 use mathlib.Core.Path.{_≡_, refl, sym, ap, ap₂, _∙_, subst}
 use mathlib.Core.List.{List, [], _∷_, _++_}
 use Prim.Native.Nat.{ℕ, zero, suc, _+_, _*_, _-_, _/_, _%_, _^_, _≤_, _<_}
@@ -12,12 +13,12 @@ use lib.Seq.{paste, take-at, take-length, drop-append-add, drop-drop}
 use Rattle.io.specs.Digits.{glyph, digits, Fewest}
 use Rattle.page.proofs.Picks.{pick-yes, pick-no, pick-by}
 use Rattle.records.specs.Mappings.{mappings}
-use Rattle.records.specs.Checks.{megabytes}
 use Rattle.builder.specs.declared.Built.{Built}
 use Rattle.builder.specs.declared.Built.the-variants.{Length}
-use Rattle.builder.specs.Image.{image}
+use Rattle.image.specs.Image.{image}
 use Rattle.builder.specs.Build.{answerOf, leaves, outcome, buildOf}
-use Rattle.builder.proofs.Answers.{accepted, build-answer, image-length-is}
+use Rattle.image.proofs.Whole.{image-length-is}
+use Rattle.builder.proofs.Answers.{accepted, build-answer}
 use Rattle.mkimage_core.specs.Output.{base, decimalBy, decimal, refusedText, atText, lineEnd, message, written, pasted, Shown, shown, shownIn, outputOf}
 
 -- a text behind another

@@ -1,11 +1,11 @@
 -- What mkimage writes (01, "The builder", the program).
+use Rattle.page.specs.Words.{megabytes}
 use Rattle.page.specs.Ground.{ℕ, zero, suc, _+_, _/_, _%_, List, [], _∷_, _++_, ltb, length, take, drop}
 use Rattle.page.specs.Pick.{pick}
 use Rattle.records.specs.Mappings.{mappings}
-use Rattle.records.specs.Checks.{megabytes}
 use Rattle.builder.specs.declared.Built.{Built}
 use Rattle.builder.specs.declared.Built.the-variants.{Length, BadMemory, BadRecord, Overlap, TooLong}
-use Rattle.builder.specs.Image.{image}
+use Rattle.image.specs.Image.{image}
 use Rattle.builder.specs.Build.{answerOf, builtNumber, builtValue}
 
 -- the address at which the image is to stand

@@ -17,6 +17,10 @@ virtual n = record { 0 = n }
 abbrev pub physical : ℕ → PhysicalAddress
 physical n = record { 0 = n }
 
+-- the megabytes of virtual addresses: 24 bits, and a first-level word for each
+abbrev pub megabytes : ℕ
+megabytes = 16
+
 -- how many low bits of an address a page leaves alone
 abbrev pub lowBits : Kind → ℕ
 lowBits Section = 20

@@ -1,16 +1,10 @@
--- What is true of every mapping of a list, and of the one that holds an address. Assumes nothing.
-use mathlib.Core.Path.{_≡_}
-use mathlib.Core.Bool.{true}
+-- What is true of every mapping of a list. Assumes nothing.
 use mathlib.Core.List.{List, [], _∷_}
 use Prim.Native.Nat.{ℕ, zero, suc, _<_}
 use native.Mathlib.Omega.{arith}
 use lib.ListN.{length, getD}
-use Rattle.page.specs.declared.VirtualAddress.{VirtualAddress}
-use Rattle.page.proofs.Picks.{pick-by}
 use Rattle.records.specs.declared.Mapping.{Mapping}
-use Rattle.records.specs.declared.Held.{Held}
-use Rattle.records.specs.declared.Held.the-variants.{By, Nobody}
-use Rattle.records.specs.Mappings.{noMapping, holds, holder}
+use Rattle.records.specs.Mappings.{noMapping}
 
 abbrev pub All : (Mapping → Type 0) → List Mapping → Type 0
 All P [] = Unit
@@ -32,15 +26,3 @@ pub all-at : (P : Mapping → Type 0) (ms : List Mapping) (i : ℕ) → All P ms
 all-at P [] i h l = absurd (omega arith)
 all-at P (m ∷ ms) zero h l = h .0
 all-at P (m ∷ ms) (suc i) h l = all-at P ms i (h .1) (omega arith)
-
--- of the mapping that holds an address, if one does
-abbrev pub OnHeld : (Mapping → Type 0) → Held → Type 0
-OnHeld P (By m) = P m
-OnHeld P Nobody = Unit
-
--- what is true of every mapping is true of the one that holds an address, and it holds it
-pub all-holder : (P : Mapping → Type 0) (ms : List Mapping) (va : VirtualAddress) → All P ms → OnHeld (λ m. P m × (holds m va ≡ true)) (holder ms va)
-unfolding holder
-all-holder P [] va f = tt
-all-holder P (m ∷ ms) va f =
-    pick-by (OnHeld (λ m. P m × (holds m va ≡ true))) (holds m va) (By m) (holder ms va) (λ e. (f .0, e)) (λ _. all-holder P ms va (f .1))

@@ -1,3 +1,2 @@
 pub mod Mappings
 pub mod Checks
-pub mod Meanings

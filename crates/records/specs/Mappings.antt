@@ -1,6 +1,6 @@
 -- A record of the builder's input as a mapping (01, "The builder").
 use Rattle.page.specs.Ground.{ℕ, zero, suc, _*_, _/_, Bool, List, [], _∷_, length, getD, take, drop}
-use Rattle.page.specs.Pick.{pick, _or_}
+use Rattle.page.specs.Pick.{_or_}
 use Rattle.page.specs.Low.{agree, joined}
 use Rattle.page.specs.Words.{virtual, physical, lowBits, kindOf}
 use Rattle.page.specs.declared.Kind.the-variants.{Section}
@@ -8,8 +8,6 @@ use Rattle.page.specs.declared.VirtualAddress.{VirtualAddress}
 use Rattle.page.specs.declared.PhysicalAddress.{PhysicalAddress}
 use Rattle.memory.specs.Memory.{wordOf}
 use Rattle.records.specs.declared.Mapping.{Mapping}
-use Rattle.records.specs.declared.Held.{Held}
-use Rattle.records.specs.declared.Held.the-variants.{By, Nobody}
 
 -- the bytes of a record
 abbrev pub recordSize : ℕ
@@ -39,11 +37,6 @@ noMapping = record { at = virtual 0; to = physical 0; kind = Section; access = 0
 -- the mapping's region has the address
 unfoldable pub holds : Mapping → VirtualAddress → Bool
 holds m va = agree (lowBits (m .kind)) (va .0) (m .at .0)
-
--- the first mapping of a list whose region has the address
-unfoldable pub holder : List Mapping → VirtualAddress → Held
-holder [] va = Nobody
-holder (m ∷ ms) va = pick (holds m va) (By m) (holder ms va)
 
 -- the physical byte that a mapping gives for an address
 unfoldable pub byteOf : Mapping → VirtualAddress → PhysicalAddress

@@ -1,20 +1,17 @@
-// The builder's input: records of 12 bytes as mappings, which of them are refused, and what a list of them means.
-use page::Access;
+// The builder's input: records of 12 bytes as mappings, what makes one proper, and which addresses it has.
 use page::Kind;
 use page::PhysicalAddress;
 use page::VirtualAddress;
 ghost use mathlib.Core.Path.{_≡_};
+ghost use Rattle.page.specs.Words.{megabytes};
 ghost use Prim.Native.Nat.{_+_, _*_, _<_, _≤_};
-ghost use lib.ListN.{length, getD};
-ghost use Rattle.records.specs.Mappings.{recordSize, recordAt, mappingOf, mappingsFrom, mappings, noMapping, holds, holder, byteOf, overlap};
-ghost use Rattle.records.specs.Checks.{megabytes, multiple, proper, wellFormed, bad, clashes, overlapping, checked};
-ghost use Rattle.records.specs.Meanings.{heldMeaning, meaning};
+ghost use lib.ListN.{length, getD, take, drop};
+ghost use Rattle.memory.specs.Memory.{wordOf};
+ghost use Rattle.records.specs.Mappings.{recordSize, recordAt, mappingOf, mappings, noMapping, holds, byteOf, overlap};
+ghost use Rattle.records.specs.Checks.{multiple, proper, wellFormed};
 
 // The bytes of a record.
-const SIZE: usize = 12;
-
-// The most records of a list.
-const MOST: usize = 256;
+pub const SIZE: usize = 12;
 
 // The virtual addresses end here.
 const END: u32 = 16777216;
@@ -27,29 +24,17 @@ pub struct Mapping {
     pub access: u32,
 }
 
-// The mapping that holds an address, if one does.
-pub enum Held {
-    By(Mapping),
-    Nobody,
-}
-
-// What the check of a list finds: nothing, or the first refusal with its record's index.
-pub enum Checked {
-    Fine,
-    BadRecord(usize),
-    Overlap(usize),
-}
-
-// What a list means at an address: a physical byte, or which fault.
-pub enum Meaning {
-    Byte(PhysicalAddress),
-    Permission,
-    Translation,
+// The word of four bytes from byte i on.
+fn word_at(r: &[u8], i: usize) -> u32
+    requires { ⌜ i + 4 ≤ length (now r) ⌝ }
+    ensures { λ r′. ⌜ r′ ≡ wordOf (take 4 (drop i (now (r .entry)))) ⌝ }
+{
+    memory::word_of(&r[i..i + 4])
 }
 
 // A byte as a word.
 fn wide(x: u8) -> u32
-    ensures { λ r. ⌜ (r ≡ x) × (r < 256) ⌝ }
+    ensures { λ r. ⌜ r ≡ x ⌝ }
 {
     x as u32
 }
@@ -60,8 +45,8 @@ fn mapping_of(r: &[u8]) -> Mapping
     ensures { λ r′. ⌜ r′ ≡ mappingOf (now (r .entry)) ⌝ }
 {
     Mapping {
-        at: VirtualAddress(memory::word_of(&r[0..4])),
-        to: PhysicalAddress(memory::word_of(&r[4..8])),
+        at: VirtualAddress(word_at(r, 0)),
+        to: PhysicalAddress(word_at(r, 4)),
         kind: page::kind_of(wide(r[8])),
         access: wide(r[9]),
     }
@@ -127,44 +112,6 @@ pub fn overlaps(m: Mapping, n: Mapping) -> bool
     holds(n, m.at)
 }
 
-// The first mapping whose region has an address.
-pub fn holder(records: &[u8], va: VirtualAddress) -> Held
-    ensures { λ r. ⌜ r ≡ holder (mappings (now (records .entry))) va ⌝ }
-{
-    let n = count(records);
-    let mut j = 0;
-    while j < n {
-        let m = mapping_at(records, j);
-        if holds(m, va) {
-            return Held::By(m);
-        }
-        j += 1;
-    }
-    Held::Nobody
-}
-
-// What the mapping that holds an address, if one does, means there.
-fn held_meaning(h: Held, va: VirtualAddress, a: Access) -> Meaning
-    ensures { λ r. ⌜ r ≡ heldMeaning h va a ⌝ }
-{
-    match h {
-        Held::By(m) => {
-            if page::permitted(m.access, a) {
-                return Meaning::Byte(byte_of(m, va));
-            }
-            Meaning::Permission
-        }
-        Held::Nobody => Meaning::Translation,
-    }
-}
-
-// What a list means at an address.
-pub fn means(records: &[u8], va: VirtualAddress, a: Access) -> Meaning
-    ensures { λ r. ⌜ r ≡ meaning (mappings (now (records .entry))) va a ⌝ }
-{
-    held_meaning(holder(records, va), va, a)
-}
-
 // Whether an address is a multiple of a page's size.
 pub fn multiple(k: Kind, x: u32) -> bool
     ensures { λ r. ⌜ r ≡ multiple k x ⌝ }
@@ -211,61 +158,4 @@ pub fn well_formed(r: &[u8]) -> bool
         return false;
     }
     r[11] == 0
-}
-
-// Whether record i is past the limit, short or bad.
-fn is_bad(records: &[u8], i: usize) -> bool
-    requires { ⌜ recordSize * i ≤ length (now records) ⌝ }
-    ensures { λ r. ⌜ r ≡ bad megabytes (now (records .entry)) i ⌝ }
-{
-    if MOST <= i {
-        return true;
-    }
-    let at = SIZE * i;
-    if records.len() - at < SIZE {
-        return true;
-    }
-    !well_formed(&records[at..at + SIZE])
-}
-
-// Whether one of the first n records overlaps a mapping.
-fn clashes_with(records: &[u8], n: usize, m: Mapping) -> bool
-    requires { ⌜ recordSize * n ≤ length (now records) ⌝ }
-    ensures { λ r. ⌜ r ≡ clashes (mappingsFrom (now (records .entry)) 0 n) m ⌝ }
-{
-    let mut j = 0;
-    while j < n {
-        if overlaps(mapped(records, j), m) {
-            return true;
-        }
-        j += 1;
-    }
-    false
-}
-
-// Whether record i overlaps an earlier one.
-fn is_overlapping(records: &[u8], i: usize) -> bool
-    requires { ⌜ recordSize * i + recordSize ≤ length (now records) ⌝ }
-    ensures { λ r. ⌜ r ≡ overlapping (now (records .entry)) i ⌝ }
-{
-    clashes_with(records, i, mapped(records, i))
-}
-
-// The first refusal of a list.
-pub fn check(records: &[u8]) -> Checked
-    ensures { λ r. ⌜ r ≡ checked megabytes (now (records .entry)) ⌝ }
-{
-    let len = records.len();
-    let mut i = 0;
-    while SIZE * i < len {
-        let next = i + 1;
-        if is_bad(records, i) {
-            return Checked::BadRecord(i);
-        }
-        if is_overlapping(records, i) {
-            return Checked::Overlap(i);
-        }
-        i = next;
-    }
-    Checked::Fine
 }

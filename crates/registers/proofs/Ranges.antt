@@ -9,7 +9,8 @@ use Rattle.page.specs.Pick.{pick, _and_}
 use Rattle.page.specs.declared.Words.{Words}
 use Rattle.page.proofs.Picks.{pick-by, and-yes, and-left, and-right}
 use Rattle.bank.specs.declared.Bank.{Bank}
-use Rattle.bank.specs.Slots.{slots, camLimit, camOk, bankOk}
+use Rattle.lanes.specs.Lanes.{slots, camLimit, camOk}
+use Rattle.bank.specs.Slots.{bankOk}
 use Rattle.bank.specs.Changes.{loaded, copied}
 use Rattle.bank.proofs.Ranges.{wordsOk, stored-ok, locked-ok, flush-ok, flushAt-ok, copied-ok}
 use Rattle.registers.specs.declared.Entry.{Entry}

@@ -2,7 +2,7 @@
 use Rattle.page.specs.Ground.{ℕ, _+_, _*_, _/_, _%_, Bool, not, List, [], _∷_, eqb, ltb, leb}
 use Rattle.page.specs.Pick.{pick, _and_}
 use Rattle.page.specs.declared.VirtualAddress.{VirtualAddress}
-use Rattle.bank.specs.Slots.{slots}
+use Rattle.lanes.specs.Lanes.{slots}
 use Rattle.bank.specs.Changes.{lockedAt, bankFlushed, bankFlushedAt}
 use Rattle.bank.specs.declared.Bank.{Bank}
 use Rattle.registers.specs.declared.Pending.{Pending}

@@ -1,10 +1,10 @@
 // A session on the bench: a device, a bill and meters, and one call after another.
 use bill::Bill;
-use bill::Prices;
 use calls::Call;
 use decision::Shift;
 use meters::Meters;
 use meters::Tally;
+use prices::Prices;
 use registers::Answer;
 use unit::Device;
 use unit::Outcome;

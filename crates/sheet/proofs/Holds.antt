@@ -10,17 +10,23 @@ use borrow.Author.Tests.{eqb-true}
 use Rattle.page.specs.Pick.{pick, _and_, _or_}
 use Rattle.page.proofs.Picks.{and-left, and-right}
 use Rattle.page.specs.Low.{upper, joined}
-use Rattle.page.specs.Words.{kindOf, wordMatches, madeCam, madeRam}
+use Rattle.page.specs.Words.{kindOf, wordMatches, madeCam, madeRam, megabytes}
 use Rattle.memory.specs.Memory.{memoryOk, apart, memoriesOk, holds, placeWithin, placeIn, wordOf}
-use Rattle.walk.specs.Walk.{firstOf, secondOf, firstAt, coarseAt, fineAt, readIn, walkFrom}
-use Rattle.records.specs.Mappings.{mappings, mappingsFrom, mappingOf, holder, byteOf, overlap}
+use Rattle.walk.specs.Walk.{firstAt, coarseAt, fineAt, readIn, walkFrom}
+use Rattle.records.specs.Mappings.{mappings, mappingsFrom, mappingOf, byteOf, overlap}
+use Rattle.lists.specs.Meanings.{holder}
 use Rattle.records.specs.Mappings as M
-use Rattle.records.specs.Checks.{megabytes, multiple, proper, wellFormed, bad, clashes, overlapping, checkedFrom, checked}
-use Rattle.builder.specs.Tables.{hasKind, tableOf, tableEnd, tableStart, imageLength}
-use Rattle.builder.specs.Image.{firstWord, pageWord, secondWord, inTables, imageWord, image}
+use Rattle.records.specs.Checks.{multiple, proper, wellFormed}
+use Rattle.lists.specs.Refusals.{bad, clashes, overlapping, checkedFrom, checked}
+use Rattle.tables.specs.Tables.{hasKind, tableOf, tableEnd, tableStart, imageLength}
+use Rattle.words.specs.Words.{firstWord, pageWord, secondWord, inTables, imageWord}
+use Rattle.image.specs.Image.{image}
 use Rattle.builder.specs.Build.{leaves, roomOk, answerOf, buildOf}
-use Rattle.bill.specs.Bill.{figureOk, every, moneyOk}
-use Rattle.bank.specs.Slots.{lookedFrom, allFrom, bankOk}
+use Rattle.prices.specs.Prices.{figureOk, every}
+use Rattle.bill.specs.Bill.{moneyOk}
+use Rattle.bank.specs.Slots.{bankOk}
+use Rattle.descriptors.specs.Descriptors.{firstOf, secondOf}
+use Rattle.lanes.specs.Lanes.{lookedFrom, allFrom}
 use Rattle.bank.specs.Changes.{nextSlot, nextVictim, filled}
 use Rattle.registers.specs.Fields.{entryOk, registersOk}
 use Rattle.registers.specs.Table.{noRegister, listed, lockCommand, commandOf}

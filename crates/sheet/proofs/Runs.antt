@@ -3,7 +3,8 @@ use mathlib.Core.Path.{_≡_, sym, ap, _∙_}
 use mathlib.Core.List.{List, [], _++_, append-assoc, append-nil}
 use Prim.Native.Nat.{ℕ, zero, suc, _+_}
 use native.Mathlib.Omega.{arith}
-use Rattle.builder.specs.Image.{wordBytes, bytesOf}
+use Rattle.image.specs.Image.{bytesOf}
+use Rattle.image.specs.Image.{wordBytes}
 
 -- k words of f from word i on
 unfoldable pub runOf : (ℕ → ℕ) → ℕ → ℕ → List ℕ

@@ -4,7 +4,7 @@ use Rattle.page.specs.Ground.{ℕ, _+_, _*_, List, [], replicate}
 use Rattle.memory.specs.Memory.{Lent, lent}
 use Rattle.builder.specs.Build.{buildOf}
 use Rattle.bill.specs.Bill.{f1, freshBill}
-use Rattle.bill.specs.declared.Price.the-variants.{Flat}
+use Rattle.prices.specs.declared.Price.the-variants.{Flat}
 use Rattle.unit.specs.Types.{Prices}
 use Rattle.unit.specs.declared.Device.{Device}
 use Rattle.unit.specs.Calls.{lockAt, writeOf}

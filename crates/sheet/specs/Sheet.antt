@@ -6,13 +6,13 @@ use Rattle.page.specs.declared.Access.the-variants.{Read, Write}
 use Rattle.memory.specs.Memory.{wordOf}
 use Rattle.memory.specs.Reads.{sources}
 use Rattle.memory.specs.declared.Source.{Source}
-use Rattle.walk.specs.Walk.{firstOf}
-use Rattle.walk.specs.declared.First.{First}
-use Rattle.walk.specs.declared.First.the-variants as F
+use Rattle.descriptors.specs.Descriptors.{firstOf}
+use Rattle.descriptors.specs.declared.First.{First}
+use Rattle.descriptors.specs.declared.First.the-variants as F
 use Rattle.builder.specs.declared.Built.{Built}
 use Rattle.builder.specs.Build.{answerOf, builtNumber, builtValue}
 use Rattle.bill.specs.Bill.{freshBill}
-use Rattle.bank.specs.Slots.{slots}
+use Rattle.lanes.specs.Lanes.{slots}
 use Rattle.registers.specs.Answers.{number, values}
 use Rattle.registers.specs.Fields.{entryOf}
 use Rattle.unit.specs.Types.{Access, Bank, Answer, Entry}

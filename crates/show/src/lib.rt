@@ -4,6 +4,11 @@ use libc::STDOUT_FILENO;
 // A label, a number in hexadecimal, and a line end.
 pub fn line(label: &[u8], n: u64) {
     text(label);
+    value(n);
+}
+
+// A space, a number in hexadecimal, and a line end.
+pub fn value(n: u64) {
     text(b" ");
     io::print_hex(STDOUT_FILENO, n, 1);
     text(b"\n");
@@ -12,6 +17,11 @@ pub fn line(label: &[u8], n: u64) {
 // A label, yes or no, and a line end.
 pub fn answer(label: &[u8], yes: bool) {
     text(label);
+    verdict(yes);
+}
+
+// Yes or no after a space, and a line end.
+pub fn verdict(yes: bool) {
     if yes {
         text(b" yes\n");
     } else {
@@ -34,6 +44,49 @@ pub fn said(number: u64, value: u64) {
     text(b" ");
     io::print_hex(STDOUT_FILENO, value, 1);
     text(b"\n");
+}
+
+// A number in decimal.
+pub fn decimal(n: u64) {
+    io::print_decimal(STDOUT_FILENO, n);
+}
+
+// An address in hexadecimal and capitals, with zeros in front up to a width.
+pub fn address(n: u32, width: u32) {
+    digit(n / 0x10000000, width > 7);
+    digit(n / 0x1000000, width > 6);
+    digit(n / 0x100000, width > 5);
+    digit(n / 0x10000, width > 4);
+    digit(n / 0x1000, width > 3);
+    digit(n / 0x100, width > 2);
+    digit(n / 0x10, width > 1);
+    digit(n, true);
+}
+
+// The last digit of what leads up to it; where that is zero, only if it is to be shown.
+fn digit(leading: u32, shown: bool) {
+    if shown {
+        capital(leading % 16);
+    } else {
+        if leading != 0 {
+            capital(leading % 16);
+        }
+    }
+}
+
+// A digit below sixteen, in capitals.
+fn capital(d: u32) {
+    if d < 10 {
+        byte(48 + d);
+    } else {
+        byte(55 + d % 16);
+    }
+}
+
+// A byte as it is.
+fn byte(n: u32) {
+    let one = [(n % 256) as u8];
+    text(&one);
 }
 
 // Bytes as they are.

@@ -9,22 +9,22 @@ use Rattle.page.specs.declared.VirtualAddress.{VirtualAddress}
 use Rattle.page.proofs.Lower.{upper-high, joined-agree}
 use Rattle.page.proofs.Slot.{lowBits-le}
 use Rattle.memory.specs.declared.Place.{Place}
-use Rattle.walk.specs.declared.Page.{Page}
-use Rattle.walk.specs.declared.Found.the-variants as D
+use Rattle.descriptors.specs.declared.Page.{Page}
+use Rattle.descriptors.specs.declared.Found.the-variants as D
 use Rattle.records.specs.declared.Mapping.{Mapping}
-use Rattle.records.specs.declared.Held.{Held}
-use Rattle.records.specs.declared.Held.the-variants.{By, Nobody}
-use Rattle.records.specs.Mappings.{holder, byteOf}
-use Rattle.records.proofs.Alls.{All, OnHeld}
-use Rattle.records.proofs.Accepted.{Disjoint}
+use Rattle.lists.specs.declared.Held.{Held}
+use Rattle.lists.specs.declared.Held.the-variants.{By, Nobody}
+use Rattle.records.specs.Mappings.{byteOf}
+use Rattle.lists.specs.Meanings.{holder}
+use Rattle.records.proofs.Alls.{All}
+use Rattle.lists.proofs.Holders.{OnHeld, holder-same, holds-over}
+use Rattle.lists.proofs.Accepted.{Disjoint}
 use Rattle.records.proofs.Bits.{agree-up, joined-cut}
-use Rattle.records.proofs.Holders.{holder-same, holds-over}
-use Rattle.builder.specs.declared.Table as B
-use Rattle.builder.specs.declared.Table.the-variants.{Fine, Coarse, Absent}
-use Rattle.builder.specs.Tables.{tableOf, tableSize, tableStart, imageLength}
-use Rattle.builder.specs.Image.{writtenAs}
-use Rattle.builder.proofs.Places.{end-next, end-last}
-use Rattle.builder.proofs.Answers.{image-first}
+use Rattle.tables.specs.declared.Table as B
+use Rattle.tables.specs.declared.Table.the-variants.{Fine, Coarse, Absent}
+use Rattle.tables.specs.Tables.{tableOf, tableSize, tableStart, imageLength}
+use Rattle.words.specs.Words.{writtenAs}
+use Rattle.tables.proofs.Places.{end-next, end-last, image-first}
 use Rattle.translates.specs.Statements.{Gives, Inside}
 use Rattle.translates.proofs.Written.{pageFor, foundFor, Known, written-le, part-same}
 use Rattle.translates.proofs.Over.{Narrow, known, readsFor}

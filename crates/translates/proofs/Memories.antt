@@ -24,18 +24,21 @@ use Rattle.memory.proofs.Places.{place-ok, held-once}
 use Rattle.walk.specs.declared.Read.the-variants as R
 use Rattle.walk.specs.Walk.{readAt, readIn}
 use Rattle.records.specs.declared.Mapping.{Mapping}
-use Rattle.records.specs.declared.Held.{Held}
-use Rattle.records.specs.declared.Held.the-variants.{By, Nobody}
-use Rattle.records.specs.Mappings.{holder, byteOf}
+use Rattle.lists.specs.declared.Held.{Held}
+use Rattle.lists.specs.declared.Held.the-variants.{By, Nobody}
+use Rattle.records.specs.Mappings.{byteOf}
+use Rattle.lists.specs.Meanings.{holder}
 use Rattle.records.specs.Mappings as M
-use Rattle.records.proofs.Alls.{All, OnHeld, all-holder}
-use Rattle.builder.specs.declared.Table as B
-use Rattle.builder.specs.declared.Table.the-variants.{Fine, Coarse, Absent}
-use Rattle.builder.specs.Tables.{tableOf, tableSize, tableStart, imageLength}
-use Rattle.builder.specs.Image.{sectionWord, firstBy, firstWord, writtenAs, pageWord, secondBy, addressOf, secondWord, inTables, imageWord, wordBytes, bytesOf, image}
-use Rattle.builder.proofs.Splices.{bytes-length, bytes-at}
-use Rattle.builder.proofs.Places.{end-next, end-last}
-use Rattle.builder.proofs.Answers.{image-4, image-length-is}
+use Rattle.records.proofs.Alls.{All}
+use Rattle.lists.proofs.Holders.{OnHeld, all-holder}
+use Rattle.tables.specs.declared.Table as B
+use Rattle.tables.specs.declared.Table.the-variants.{Fine, Coarse, Absent}
+use Rattle.tables.specs.Tables.{tableOf, tableSize, tableStart, imageLength}
+use Rattle.words.specs.Words.{sectionWord, firstBy, firstWord, writtenAs, pageWord, secondBy, addressOf, secondWord, inTables, imageWord}
+use Rattle.image.specs.Image.{wordBytes, image, bytesOf}
+use Rattle.image.proofs.Splices.{bytes-at, bytes-length}
+use Rattle.tables.proofs.Places.{end-next, end-last, image-4}
+use Rattle.image.proofs.Whole.{image-length-is}
 use Rattle.translates.specs.Statements.{Has, Standing}
 use Rattle.translates.proofs.Over.{Stands}
 

@@ -14,24 +14,26 @@ use Rattle.memory.specs.declared.Reads.{Reads}
 use Rattle.memory.specs.declared.Reads.the-variants.{One, Two}
 use Rattle.walk.specs.declared.Read.{Read}
 use Rattle.walk.specs.declared.Read.the-variants as R
-use Rattle.walk.specs.declared.Table.the-variants as T
-use Rattle.walk.specs.declared.Found.{Found}
+use Rattle.descriptors.specs.declared.Table.the-variants as T
+use Rattle.descriptors.specs.declared.Found.{Found}
 use Rattle.walk.specs.declared.Walked.{Walked}
-use Rattle.walk.specs.Walk.{firstOf, secondOf, coarseAt, fineAt, sourceAt, afterSecond, byFirst, afterFirst, walkFrom}
+use Rattle.descriptors.specs.Descriptors.{firstOf, secondOf}
+use Rattle.walk.specs.Walk.{coarseAt, fineAt, sourceAt, afterSecond, byFirst, afterFirst, walkFrom}
 use Rattle.records.specs.declared.Mapping.{Mapping}
-use Rattle.records.specs.declared.Held.{Held}
-use Rattle.records.specs.declared.Held.the-variants.{By, Nobody}
-use Rattle.records.specs.Mappings.{holds, holder}
-use Rattle.records.proofs.Alls.{All, all-map2, OnHeld, all-holder}
-use Rattle.records.proofs.Holders.{holds-megabyte, holder-agree}
-use Rattle.builder.specs.declared.Table as B
-use Rattle.builder.specs.declared.Table.the-variants.{Fine, Coarse, Absent}
-use Rattle.builder.specs.Tables.{tableOf, tableSize, startAfter, tableEnd, tableStart, imageLength}
-use Rattle.builder.specs.Image.{firstBy, firstWord, secondBy, stepBits, addressOf, secondWord, sectionWord, inTables, imageWord}
-use Rattle.builder.proofs.Places.{end-first, end-start, end-next, end-last, end-4, start-4, size-4, in-table}
-use Rattle.builder.proofs.Answers.{image-first}
-use Rattle.builder.proofs.Fits.{Fit, fit}
-use Rattle.builder.proofs.Regions.{step-le}
+use Rattle.lists.specs.declared.Held.{Held}
+use Rattle.lists.specs.declared.Held.the-variants.{By, Nobody}
+use Rattle.records.specs.Mappings.{holds}
+use Rattle.lists.specs.Meanings.{holder}
+use Rattle.records.proofs.Alls.{All, all-map2}
+use Rattle.lists.proofs.Holders.{OnHeld, all-holder, holds-megabyte, holder-agree}
+use Rattle.tables.specs.declared.Table as B
+use Rattle.tables.specs.declared.Table.the-variants.{Fine, Coarse, Absent}
+use Rattle.tables.specs.Tables.{tableOf, tableSize, startAfter, tableEnd, tableStart, imageLength}
+use Rattle.words.specs.Words.{firstBy, firstWord, secondBy, stepBits, addressOf, secondWord, sectionWord, inTables, imageWord}
+use Rattle.tables.proofs.Places.{end-first, end-start, end-next, end-last, end-4, start-4, size-4, image-first}
+use Rattle.words.proofs.Offsets.{in-table}
+use Rattle.words.proofs.Fits.{Fit, fit}
+use Rattle.words.proofs.Regions.{step-le}
 use Rattle.translates.proofs.Written.{foundFor, Known, fine-found, coarse-found, first-fine, first-coarse, section-found, firstFor}
 
 -- a reading has the image's words at base, each where `place` says

@@ -4,13 +4,16 @@ use mathlib.Core.List.{[]}
 use Prim.Native.Nat.{ℕ}
 use lib.ListN.{replicate}
 use Rattle.page.specs.Pick.{pick, _and_, _or_}
-use Rattle.page.specs.Words.{kindOf}
+use Rattle.page.specs.Words.{kindOf, megabytes}
 use Rattle.memory.specs.Memory.{memoryOk, wordOf}
-use Rattle.records.specs.Mappings.{mappingOf, mappingsFrom, mappings, holds, holder, overlap}
-use Rattle.records.specs.Checks.{megabytes, multiple, proper, wellFormed, bad, clashes, overlapping, checkedFrom, checked}
+use Rattle.records.specs.Mappings.{mappingOf, mappingsFrom, mappings, holds, overlap}
+use Rattle.lists.specs.Meanings.{holder}
+use Rattle.records.specs.Checks.{multiple, proper, wellFormed}
+use Rattle.lists.specs.Refusals.{bad, clashes, overlapping, checkedFrom, checked}
 use Rattle.builder.specs.declared.Built.the-variants.{Length}
-use Rattle.builder.specs.Tables.{hasKind, tableOf, tableEnd, tableStart, imageLength}
-use Rattle.builder.specs.Image.{firstWord, inTables, imageWord, bytesOf, image}
+use Rattle.tables.specs.Tables.{hasKind, tableOf, tableEnd, tableStart, imageLength}
+use Rattle.words.specs.Words.{firstWord, inTables, imageWord}
+use Rattle.image.specs.Image.{bytesOf, image}
 use Rattle.builder.specs.Build.{roomOk, answerOf}
 use Rattle.translates.specs.ListA.{recordsA, baseA}
 

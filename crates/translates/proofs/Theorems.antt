@@ -11,25 +11,28 @@ use lib.ListN.{length, take, drop, length-take, List·getD-eq-default}
 use lib.Seq.{getD-take, getD-drop, take-append-seam}
 use native.Mathlib.Nat.{le-refl}
 use Rattle.page.specs.Pick.{_and_, _or_}
-use Rattle.page.specs.Words.{lowBits}
+use Rattle.page.specs.Words.{lowBits, megabytes}
 use Rattle.page.specs.declared.VirtualAddress.{VirtualAddress}
 use Rattle.page.proofs.Picks.{pick-by, and-right, or-no}
 use Rattle.page.proofs.Slot.{lowBits-le}
 use Rattle.memory.specs.Memory.{Lent, lentOk, placeIn, wordOf}
 use Rattle.walk.specs.declared.Walked.{Walked}
-use Rattle.walk.specs.Walk.{firstOf, readIn, walkFrom}
-use Rattle.walk.proofs.Descriptors.{first-at-legal}
+use Rattle.descriptors.specs.Descriptors.{firstOf}
+use Rattle.walk.specs.Walk.{readIn, walkFrom}
+use Rattle.walk.proofs.Indices.{first-at-legal}
 use Rattle.records.specs.declared.Mapping.{Mapping}
-use Rattle.records.specs.Mappings.{recordAt, mappingOf, mappings, holder}
-use Rattle.records.specs.Checks.{megabytes, proper, bad, overlapping}
+use Rattle.records.specs.Mappings.{recordAt, mappingOf, mappings}
+use Rattle.lists.specs.Meanings.{holder}
+use Rattle.records.specs.Checks.{proper}
+use Rattle.lists.specs.Refusals.{bad, overlapping}
 use Rattle.records.proofs.Alls.{All, all-map}
-use Rattle.records.proofs.Accepted.{accepted-proper, accepted-disjoint, all-records, fine-clean, clean-fine, Disjoint}
+use Rattle.lists.proofs.Accepted.{accepted-proper, accepted-disjoint, all-records, fine-clean, clean-fine, Disjoint}
 use Rattle.records.proofs.Bits.{agree-up}
-use Rattle.builder.specs.declared.Table as B
+use Rattle.tables.specs.declared.Table as B
 use Rattle.builder.specs.declared.Built.{Built}
 use Rattle.builder.specs.declared.Built.the-variants.{Length}
-use Rattle.builder.specs.Tables.{tableOf, tableStart, imageLength}
-use Rattle.builder.specs.Image.{image}
+use Rattle.tables.specs.Tables.{tableOf, tableStart, imageLength}
+use Rattle.image.specs.Image.{image}
 use Rattle.builder.specs.Build.{answerOf, leaves, buildOf}
 use Rattle.builder.proofs.Answers.{room-unit, room-memory, accepted, accepts}
 use Rattle.translates.specs.Statements.{lookIn, limit, Gives, Inside, Has, Standing, Translates, Bytes, ImageTranslates, Accepts, LeavesImage}

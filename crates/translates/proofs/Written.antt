@@ -16,24 +16,24 @@ use Rattle.page.specs.declared.VirtualAddress.{VirtualAddress}
 use Rattle.page.proofs.Picks.{pick-yes, pick-no}
 use Rattle.page.proofs.Lower.{joined-high}
 use Rattle.page.proofs.Slot.{lowBits-ge, lowBits-le, typeOf-lt}
-use Rattle.walk.specs.declared.Page.{Page}
-use Rattle.walk.specs.declared.First.{First}
-use Rattle.walk.specs.declared.First.the-variants as F
-use Rattle.walk.specs.declared.Table.{Table}
-use Rattle.walk.specs.declared.Table.the-variants as T
-use Rattle.walk.specs.declared.Found.{Found}
-use Rattle.walk.specs.declared.Found.the-variants as D
-use Rattle.walk.specs.Walk.{firstOf, pageOf, secondOf}
+use Rattle.descriptors.specs.declared.Page.{Page}
+use Rattle.descriptors.specs.declared.First.{First}
+use Rattle.descriptors.specs.declared.First.the-variants as F
+use Rattle.descriptors.specs.declared.Table.{Table}
+use Rattle.descriptors.specs.declared.Table.the-variants as T
+use Rattle.descriptors.specs.declared.Found.{Found}
+use Rattle.descriptors.specs.declared.Found.the-variants as D
+use Rattle.descriptors.specs.Descriptors.{firstOf, pageOf, secondOf}
 use Rattle.records.specs.declared.Mapping.{Mapping}
-use Rattle.records.specs.declared.Held.{Held}
-use Rattle.records.specs.declared.Held.the-variants.{By, Nobody}
+use Rattle.lists.specs.declared.Held.{Held}
+use Rattle.lists.specs.declared.Held.the-variants.{By, Nobody}
 use Rattle.records.specs.Mappings.{holds, byteOf}
-use Rattle.records.proofs.Alls.{OnHeld}
+use Rattle.lists.proofs.Holders.{OnHeld}
 use Rattle.records.proofs.Bits.{agree-up, joined-start}
-use Rattle.builder.specs.declared.Table as B
-use Rattle.builder.specs.declared.Table.the-variants.{Fine, Coarse, Absent}
-use Rattle.builder.specs.Image.{sectionWord, writtenAs, pageWord, secondBy, stepBits, addressOf}
-use Rattle.builder.proofs.Regions.{inside}
+use Rattle.tables.specs.declared.Table as B
+use Rattle.tables.specs.declared.Table.the-variants.{Fine, Coarse, Absent}
+use Rattle.words.specs.Words.{sectionWord, writtenAs, pageWord, secondBy, stepBits, addressOf}
+use Rattle.words.proofs.Regions.{inside}
 
 -- the fields of a word of q upper-free low bits: type below, access in bits 5:4, the rest above
 module _ (q X acc k : ℕ) (h : 10 ≤ q) (ha : acc < 4) (hk : k < 4) where

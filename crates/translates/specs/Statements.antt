@@ -1,25 +1,27 @@
 -- What the image of an accepted list owes (01, demand 3): the plain walk over it finds what the list says, the same over a
 -- page's whole range, and needs no word outside it.
 use Rattle.page.specs.Ground.{ℕ, _+_, _-_, _*_, _/_, _^_, _<_, _≤_, _≡_, true, false, not, List, _++_, ltb, length, getD, take, drop}
-use Rattle.page.specs.Words.{lowBits}
+use Rattle.page.specs.Words.{lowBits, megabytes}
 use Rattle.page.specs.declared.VirtualAddress.{VirtualAddress}
 use Rattle.memory.specs.Memory.{Lent, lentOk}
 use Rattle.memory.specs.declared.Source.{Source}
 use Rattle.memory.specs.declared.Reads.{Reads}
 use Rattle.memory.specs.declared.Reads.the-variants.{Nothing, One, Two}
-use Rattle.walk.specs.declared.Page.{Page}
-use Rattle.walk.specs.declared.Found.{Found}
-use Rattle.walk.specs.declared.Found.the-variants as D
+use Rattle.descriptors.specs.declared.Page.{Page}
+use Rattle.descriptors.specs.declared.Found.{Found}
+use Rattle.descriptors.specs.declared.Found.the-variants as D
 use Rattle.walk.specs.declared.Walked.{Walked}
-use Rattle.walk.specs.Walk.{physicalOf, walkIn}
+use Rattle.descriptors.specs.Descriptors.{physicalOf}
+use Rattle.walk.specs.Walk.{walkIn}
 use Rattle.records.specs.declared.Mapping.{Mapping}
-use Rattle.records.specs.declared.Held.{Held}
-use Rattle.records.specs.declared.Held.the-variants.{By, Nobody}
-use Rattle.records.specs.Mappings.{mappings, holder, byteOf}
-use Rattle.records.specs.Checks.{megabytes, bad, overlapping, begun}
+use Rattle.lists.specs.declared.Held.{Held}
+use Rattle.lists.specs.declared.Held.the-variants.{By, Nobody}
+use Rattle.records.specs.Mappings.{mappings, byteOf}
+use Rattle.lists.specs.Meanings.{holder}
+use Rattle.lists.specs.Refusals.{bad, overlapping, begun}
 use Rattle.builder.specs.declared.Built.the-variants.{Length}
-use Rattle.builder.specs.Tables.{imageLength}
-use Rattle.builder.specs.Image.{image}
+use Rattle.tables.specs.Tables.{imageLength}
+use Rattle.image.specs.Image.{image}
 use Rattle.builder.specs.Build.{roomOk, answerOf, buildOf}
 use mathlib.Core.Logic.{_⊎_}
 

@@ -1,31 +1,32 @@
 -- What the code does over memories that were tried is what the definitions say, with 3 as the last refusal. Assumes nothing.
 use mathlib.Core.Path.{_≡_, refl, sym, _∙_, ap}
-use mathlib.Core.Bool.{Bool, true, not, false≢true}
+use mathlib.Core.Bool.{Bool, true, false, not, false≢true}
 use mathlib.Core.List.{[], _∷_}
-use Prim.Native.Nat.{ℕ, _%_, _^_}
+use Prim.Native.Nat.{ℕ}
 use borrow.Author.Tests.{not-true}
 use Rattle.page.specs.Pick.{pick, _and_}
 use Rattle.page.proofs.Picks.{pick-no, and-left, and-right}
-use Rattle.page.specs.declared.Access.the-variants.{Read}
-use Rattle.walk.specs.declared.Found.the-variants as D
-use Rattle.walk.specs.Statements.{isMissing}
+use Rattle.descriptors.specs.declared.Found.the-variants as D
+use Rattle.walk.specs.Walk.{walkWithin}
+use Rattle.descriptors.specs.Statements.{isMissing}
 use Rattle.walk.proofs.Walks.{walk-ok}
-use Rattle.meters.specs.declared.Tally.{Tally}
-use Rattle.memory.specs.Reads.{wordCount}
-use Rattle.bank.specs.Slots.{lookedUp}
-use Rattle.bank.specs.declared.Matched.the-variants as M
+use Rattle.lanes.specs.Lanes.{lookedUp}
+use Rattle.lanes.specs.declared.Matched.the-variants as M
 use Rattle.registers.specs.declared.Pending.the-variants.{Held}
 use Rattle.registers.specs.Answers.{isPrefetch}
-use Rattle.registers.specs.Fields.{isOn, isWalking, withPrefetch}
-use Rattle.decision.specs.Decisions.{byFound, tallyOf, billed}
-use Rattle.decision.specs.Prefetches.{pageAt, prefetchFound, prefetchDecided, prefetchKept, shiftBy}
+use Rattle.registers.specs.Fields.{isOn, isWalking}
+use Rattle.decision.specs.Decisions.{byFound}
+use Rattle.decision.specs.Prefetches.{pageAt, prefetchFound, prefetchDecided, shiftBy}
 use Rattle.decision.specs.declared.Shift.the-variants as H
 use Rattle.decision.proofs.Joins.{decided-walk, prefetch-on}
-use Rattle.unit.specs.Types.{Access, VirtualAddress, Lent, lentOk, Found, Walked, Bill, Prices, Matched, Fault, Answer, Decision, Device, Outcome}
+use Rattle.plans.specs.declared.Plan.{Plan}
+use Rattle.plans.specs.declared.Plan.the-variants as L
+use Rattle.plans.specs.Plans.{retryPlan}
+use Rattle.attempts.specs.Effects.{performed}
+use Rattle.unit.specs.Types.{Access, VirtualAddress, Lent, lentOk, Found, Walked, Bill, Prices, Matched, Fault, Device, Outcome}
 use Rattle.unit.specs.Refusals.{refuses}
-use Rattle.unit.specs.Device.{setRegisters, cleared, doneWith, refusedWith, look, applied, concluded, decidedBy, attemptOf}
+use Rattle.unit.specs.Device.{cleared, doneWith, refusedWith, outcomeOf, look, concluded, decidedBy, attemptOf}
 use Rattle.unit.specs.Calls.{noMatch, lacks, retryLacks, prefetchEnds, prefetched, heldRetried}
-use Rattle.unit.specs.Steps.{lookWithin, attemptWithin, prefetchedWithin, retriedWithin}
 use Rattle.unit.proofs.Refusing.{last-same}
 
 matched-nothing : (x : Matched) → noMatch x ≡ true → x ≡ M.Nothing
@@ -38,46 +39,19 @@ found-missing D.NoPage h = absurd (false≢true h)
 found-missing D.Missing h = refl
 
 -- memories that were tried lose nothing by being tried again
-look-ok : (m : Lent) (d : Device) (va : VirtualAddress) → lentOk m ≡ true → lookWithin m d va ≡ look m d va
+look-ok : (m : Lent) (d : Device) (va : VirtualAddress) → lentOk m ≡ true → walkWithin m (d .registers .base .0) (va .0) ≡ look m d va
 look-ok m d va h = sym (walk-ok m h (d .registers .base .0) (va .0))
 
--- an outcome from its parts
-abbrev outcome : Device → Bill → Tally → Answer → Outcome
-outcome d b t r = record { device = d; bill = b; tally = t; answer = r }
-
-abbrev counted : ℕ → Tally
-counted n = record { fresh = 0; retries = 0; words = n }
-
-abbrev kept : Device → ℕ → Device
-kept e k = setRegisters e (withPrefetch (e .registers) k)
-
-module _ (p : Prices) (b : Bill) (d : Device) (x y : Decision) (e : Device) (c : Bill) (n : ℕ) where
-  pub concludes :
-      (again : Bool) (va : VirtualAddress) (a : Access) (t : Tally)
-      → x ≡ y
-      → e ≡ applied d (x .fill) (x .answer) va a
-      → c ≡ billed p b x
-      → n ≡ wordCount (x .reads)
-      → t ≡ tallyOf again n (x .answer)
-      → outcome e c t (x .answer) ≡ concluded p b again d va a y
-  concludes again va a t h he hc hn ht = rw (he, hc, ht, hn, h)
-
-  pub prefetch-concludes :
-      (v k : ℕ)
-      → x ≡ y
-      → e ≡ applied d (x .fill) (x .answer) (pageAt v) Read
-      → c ≡ billed p b x
-      → n ≡ wordCount (x .reads)
-      → k ≡ prefetchKept (v % 2 ^ 14) (d .registers .prefetch) (x .answer)
-      → outcome (kept e k) c (counted n) (x .answer) ≡ prefetchEnds p b d v y
-  prefetch-concludes v k h he hc hn hk = rw (he, hc, hn, hk, h)
+-- what is to be done, done to a device
+abbrev pub done : Lent → Prices → Bill → Device → Plan → Outcome
+done m p b d x = outcomeOf (performed m p b (d .registers) (d .bank) (d .pending) x)
 
 -- a request or a retry
 module _ (m : Lent) (p : Prices) (b : Bill) (again : Bool) (d : Device) (va : VirtualAddress) (a : Access) where
-  pub attempt-ok : lentOk m ≡ true → attemptWithin m p b again d va a ≡ attemptOf m p b again d va a
+  attempt-ok : lentOk m ≡ true → done m p b d (L.Attempt again va a) ≡ attemptOf m p b again d va a
   attempt-ok h = ap (λ (w : Walked). concluded p b again d va a (decidedBy w d va a)) (look-ok m d va h)
 
-  pub lacks-attempt : lacks m d va ≡ true → attemptOf m p b again d va a ≡ refusedWith d b 3
+  lacks-attempt : lacks m d va ≡ true → attemptOf m p b again d va a ≡ refusedWith d b 3
   unfolding lacks byFound
   lacks-attempt h =
       let on = isOn (d .registers .control) in
@@ -93,21 +67,26 @@ module _ (m : Lent) (p : Prices) (b : Bill) (again : Bool) (d : Device) (va : Vi
       (and-left walking gone l)
       ∙ ap (byFound va a (look m d va .reads)) (found-missing (look m d va .found) (and-right walking gone l)))
 
-  pub attempt-last : lentOk m ≡ true → attemptWithin m p b again d va a ≡ refuses ((lacks m d va, 3) ∷ []) (refusedWith d b) (attemptOf m p b again d va a)
+  pub attempt-last : lentOk m ≡ true → done m p b d (L.Attempt again va a) ≡ refuses ((lacks m d va, 3) ∷ []) (refusedWith d b) (attemptOf m p b again d va a)
   attempt-last h = last-same _ _ _ _ _ (attempt-ok h) lacks-attempt
 
 -- the fault that is pending, retried
 module _ (m : Lent) (p : Prices) (b : Bill) (d : Device) (k : Fault) (va : VirtualAddress) (a : Access) where
-  pub retry-ok : lentOk m ≡ true → retriedWithin m p b d k va a ≡ heldRetried m p b d k va a
-  retry-ok h = ap (pick (isPrefetch k) (doneWith b (cleared d))) (attempt-ok m p b true d va a h)
+  retry-ok : lentOk m ≡ true → done m p b d (retryPlan k va a) ≡ heldRetried m p b d k va a
+  unfolding pick
+  retry-ok h = by (isPrefetch k)
+    where
+      by : (t : Bool) → done m p b d (pick t L.Drop (L.Attempt true va a)) ≡ pick t (doneWith b (cleared d)) (attemptOf m p b true d va a)
+      by true = refl
+      by false = attempt-ok m p b true d va a h
 
-  pub lacks-retry : retryLacks m d (Held k va a) ≡ true → heldRetried m p b d k va a ≡ refusedWith d b 3
+  lacks-retry : retryLacks m d (Held k va a) ≡ true → heldRetried m p b d k va a ≡ refusedWith d b 3
   lacks-retry h =
       let t = not (isPrefetch k) in
       pick-no _ _ _ (not-true (isPrefetch k) (and-left t (lacks m d va) h))
       ∙ lacks-attempt m p b true d va a (and-right t (lacks m d va) h)
 
-  pub retry-last : lentOk m ≡ true → retriedWithin m p b d k va a ≡ refuses ((retryLacks m d (Held k va a), 3) ∷ []) (refusedWith d b) (heldRetried m p b d k va a)
+  pub retry-last : lentOk m ≡ true → done m p b d (retryPlan k va a) ≡ refuses ((retryLacks m d (Held k va a), 3) ∷ []) (refusedWith d b) (heldRetried m p b d k va a)
   retry-last h = last-same _ _ _ _ _ (retry-ok h) lacks-retry
 
 -- a prefetch
@@ -115,10 +94,10 @@ module _ (m : Lent) (p : Prices) (b : Bill) (d : Device) (v : ℕ) where
   abbrev pub prefetchLacks : Bool
   prefetchLacks = noMatch (lookedUp (d .bank .cam) (pageAt v)) and isMissing (look m d (pageAt v) .found)
 
-  pub prefetch-ok : lentOk m ≡ true → prefetchedWithin m p b d v ≡ prefetched m p b d v
+  prefetch-ok : lentOk m ≡ true → done m p b d (L.Prefetch v) ≡ prefetched m p b d v
   prefetch-ok h = ap (λ (w : Walked). prefetchEnds p b d v (prefetchDecided w (d .bank .cam) (pageAt v))) (look-ok m d (pageAt v) h)
 
-  pub lacks-prefetch : prefetchLacks ≡ true → prefetched m p b d v ≡ refusedWith d b 3
+  lacks-prefetch : prefetchLacks ≡ true → prefetched m p b d v ≡ refusedWith d b 3
   unfolding prefetchFound
   lacks-prefetch h =
       let none = noMatch (lookedUp (d .bank .cam) (pageAt v)) in
@@ -127,12 +106,12 @@ module _ (m : Lent) (p : Prices) (b : Bill) (d : Device) (v : ℕ) where
       (prefetch-on (look m d (pageAt v)) (d .bank .cam) (pageAt v) M.Nothing (matched-nothing (lookedUp (d .bank .cam) (pageAt v)) (and-left none gone h))
       ∙ ap (prefetchFound (pageAt v) (look m d (pageAt v) .reads)) (found-missing (look m d (pageAt v) .found) (and-right none gone h)))
 
-  pub prefetch-last : lentOk m ≡ true → prefetchedWithin m p b d v ≡ refuses ((prefetchLacks, 3) ∷ []) (refusedWith d b) (prefetched m p b d v)
+  pub prefetch-last : lentOk m ≡ true → done m p b d (L.Prefetch v) ≡ refuses ((prefetchLacks, 3) ∷ []) (refusedWith d b) (prefetched m p b d v)
   prefetch-last h = last-same _ _ _ _ _ (prefetch-ok h) lacks-prefetch
 
 -- the shift report
 module _ (m : Lent) (d : Device) (va : VirtualAddress) where
-  pub shift-last : (w : Walked) → w ≡ lookWithin m d va → lentOk m ≡ true → shiftBy va (w .found) ≡ refuses ((isMissing (look m d va .found), 3) ∷ []) H.Refused (shiftBy va (look m d va .found))
+  pub shift-last : (w : Walked) → w ≡ walkWithin m (d .registers .base .0) (va .0) → lentOk m ≡ true → shiftBy va (w .found) ≡ refuses ((isMissing (look m d va .found), 3) ∷ []) H.Refused (shiftBy va (look m d va .found))
   shift-last w e h =
       last-same _ _ _ _ _ (ap (λ (x : Walked). shiftBy va (x .found)) (e ∙ look-ok m d va h))
       (λ q. ap (shiftBy va) (found-missing (look m d va .found) q))

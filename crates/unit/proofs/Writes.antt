@@ -1,6 +1,6 @@
 -- A write and a read are their lists of refusals, offset by offset. Assumes nothing.
 use mathlib.Core.Path.{_≡_, refl, sym, _∙_, ap}
-use mathlib.Core.Bool.{Bool, true, false, not}
+use mathlib.Core.Bool.{Bool, true, false, not, false≢true}
 use mathlib.Core.List.{[], _∷_}
 use Prim.Native.Nat.{ℕ, zero, suc, _/_, _%_, _^_, _<_}
 use native.Mathlib.Omega.{arith}
@@ -9,7 +9,7 @@ use borrow.Author.Tests.{eqb-true, eqb-false, ltb-true, lt-leb, eq-eqb, ne-eqb}
 use Rattle.page.specs.Pick.{pick, _and_, _or_}
 use Rattle.page.proofs.Picks.{pick-yes, pick-no, pick-by, and-left, and-right, or-no}
 use Rattle.bill.specs.Bill.{moneyOk}
-use Rattle.bank.specs.Slots.{slots}
+use Rattle.lanes.specs.Lanes.{slots}
 use Rattle.registers.specs.Answers.{idle}
 use Rattle.registers.specs.Fields.{isOn, isWalking}
 use Rattle.registers.specs.Table.{listed, noRegister, controlCommand, lockCommand, loadCommand, whenBit, commandOf, valueAt}
@@ -17,13 +17,17 @@ use Rattle.registers.specs.declared.Pending.the-variants.{Nothing, Held}
 use Rattle.registers.specs.declared.Tending.the-variants.{Flush, FlushEntry}
 use Rattle.registers.specs.declared.Command.the-variants as C
 use Rattle.registers.proofs.Offsets.{by-offset, command-elsewhere, value-elsewhere}
-use Rattle.unit.specs.Types.{Lent, lentOk, Bill, Prices, Pending, Answer, Tending, Command, Device}
+use Rattle.plans.specs.declared.Ask.the-variants as Q
+use Rattle.plans.specs.declared.Plan.{Plan}
+use Rattle.plans.specs.declared.Plan.the-variants as L
+use Rattle.plans.specs.Plans.{askOf, isPlain, requestPlan, prefetchPlan, acknowledgePlan}
+use Rattle.unit.specs.Types.{Access, VirtualAddress, Lent, lentOk, Bill, Prices, Pending, Answer, Tending, Command, Ask, Device, Outcome, Told}
 use Rattle.unit.specs.Refusals.{Refusals, refuses}
-use Rattle.unit.specs.Device.{inRange, told, toldRefused, doneWith, refusedWith}
-use Rattle.unit.specs.Calls.{isMalformed, isUntimely, retryLacks, writeLacks, writeRefusals, retried, carried, writeOf, readRefusals, readOf}
-use Rattle.unit.specs.Steps.{retryStep, commandStep}
+use Rattle.unit.specs.Device.{inRange, told, toldRefused, unbilled, doneWith, refusedWith, attemptOf}
+use Rattle.unit.specs.Calls.{lacks, isMalformed, isUntimely, retryLacks, writeLacks, writeRefusals, retried, carried, writeOf, readRefusals, readOf}
+use Rattle.unit.specs.Steps.{plainStep, walked, askStep, commandStep}
 use Rattle.unit.proofs.Refusing.{refused-here, passed}
-use Rattle.unit.proofs.Attempts.{retry-last, prefetchLacks, prefetch-last}
+use Rattle.unit.proofs.Attempts.{done, attempt-last, retry-last, prefetchLacks, prefetch-last}
 
 -- a bit is clear where it is not set
 bit-clear : (n : ℕ) → eqb (n % 2) 0 ≡ not (eqb (n % 2) 1)
@@ -38,30 +42,43 @@ unfolding _or_
 or-none true = refl
 or-none false = refl
 
+unbilled-pick : (b : Bill) (t : Bool) (x y : Told) → unbilled b (pick t x y) ≡ pick (t or false) (unbilled b x) (unbilled b y)
+unfolding pick _or_
+unbilled-pick b true x y = refl
+unbilled-pick b false x y = refl
+
 -- what stands after the device's own 8
 abbrev rest : Refusals → Refusals
 rest [] = []
 rest (r ∷ rs) = rs
 
 -- tests as the code nests them are a list of refusals
-module _ {A : Type 0} (rs : Refusals) (say : ℕ → A) (x y : A) where
-  gate : (l q : Bool) → (l ≡ true → x ≡ refuses rs say y) → pick l (pick q x (say 9)) (say 4) ≡ refuses ((not l, 4) ∷ (not q, 9) ∷ rs) say y
+module _ {A : Type 0} (run : Plan → A) (say : ℕ → A) (says : (n : ℕ) → run (L.Refused n) ≡ say n) (rs : Refusals) (x : Plan) (y : A) where
+  gate :
+      (l q : Bool)
+      → (l ≡ true → run x ≡ refuses rs say y)
+      → (let k = pick l (pick q 0 9) 4 in run (pick (eqb k 0) x (L.Refused k))) ≡ refuses ((not l, 4) ∷ (not q, 9) ∷ rs) say y
   unfolding pick refuses
-  gate false q h = refl
-  gate true false h = refl
+  gate false q h = says 4
+  gate true false h = says 9
   gate true true h = h refl
+
+  idly : (i : Bool) → run x ≡ refuses rs say y → run (pick i x (L.Refused 2)) ≡ refuses ((not i, 2) ∷ rs) say y
+  unfolding pick refuses
+  idly false f = says 2
+  idly true f = f
 
   ready :
       (e s i on w : Bool)
       → e ≡ not s
-      → x ≡ refuses rs say y
-      → pick e (pick i (pick on (pick w x (say 7)) (say 7)) (say 2)) (say 8) ≡ refuses ((s, 8) ∷ (not i, 2) ∷ (not (on and w), 7) ∷ rs) say y
+      → run x ≡ refuses rs say y
+      → run (pick e (pick i (pick on (pick w x (L.Refused 7)) (L.Refused 7)) (L.Refused 2)) (L.Refused 8)) ≡ refuses ((s, 8) ∷ (not i, 2) ∷ (not (on and w), 7) ∷ rs) say y
   unfolding pick _and_ refuses
-  ready e true i on w h f = pick-no e _ _ h
-  ready e false false on w h f = pick-yes e _ _ h
-  ready e false true false w h f = pick-yes e _ _ h
-  ready e false true true false h f = pick-yes e _ _ h
-  ready e false true true true h f = pick-yes e _ _ h ∙ f
+  ready e true i on w h f = ap run (pick-no e _ _ h) ∙ says 8
+  ready e false false on w h f = ap run (pick-yes e _ _ h) ∙ says 2
+  ready e false true false w h f = ap run (pick-yes e _ _ h) ∙ says 7
+  ready e false true true false h f = ap run (pick-yes e _ _ h) ∙ says 7
+  ready e false true true true h f = ap run (pick-yes e _ _ h) ∙ f
 
 module _ (m : Lent) (p : Prices) (b : Bill) (d : Device) where
   -- a command that refuses nothing of its own
@@ -94,8 +111,8 @@ module _ (m : Lent) (p : Prices) (b : Bill) (d : Device) where
   load-same : (r : ℕ) → r < 4 → commandStep m p b d (loadBy r) ≡ refuses ((eqb r 3, 8) ∷ (((eqb r 1 or eqb r 2) and isWalking (d .registers .control)) or false, 7) ∷ []) (refusedWith d b) (carried m p b d (loadBy r))
   unfolding pick _and_ _or_ refuses
   load-same zero h = refl
-  load-same (suc zero) h = ap (λ (t : Bool). pick t (refusedWith d b 7) (carried m p b d C.Load)) (sym (or-none (isWalking (d .registers .control))))
-  load-same (suc (suc zero)) h = ap (λ (t : Bool). pick t (refusedWith d b 7) (carried m p b d C.Copy)) (sym (or-none (isWalking (d .registers .control))))
+  load-same (suc zero) h = unbilled-pick b (isWalking (d .registers .control)) _ _
+  load-same (suc (suc zero)) h = unbilled-pick b (isWalking (d .registers .control)) _ _
   load-same (suc (suc (suc zero))) h = refl
   load-same (suc (suc (suc (suc r)))) h = absurd (omega (arith, h))
 
@@ -103,7 +120,7 @@ module _ (m : Lent) (p : Prices) (b : Bill) (d : Device) where
   retry-same :
       (q : Pending) (go : Bool)
       → lentOk m ≡ true
-      → pick go (retryStep m p b d q) (doneWith b d)
+      → done m p b d (acknowledgePlan go q)
       ≡ refuses ((go and idle q, 7) ∷ (go and retryLacks m d q, 3) ∷ []) (refusedWith d b) (pick go (retried m p b d q) (doneWith b d))
   unfolding pick _and_ refuses
   retry-same q false h = refl
@@ -115,7 +132,7 @@ module _ (m : Lent) (p : Prices) (b : Bill) (d : Device) where
       → commandStep m p b d (C.Acknowledge go)
       ≡ refuses ((not (lentOk m), 4) ∷ (not (moneyOk p b), 9) ∷ (go and idle (d .pending), 7) ∷ (go and retryLacks m d (d .pending), 3) ∷ [])
       (refusedWith d b) (carried m p b d (C.Acknowledge go))
-  acknowledge-same go = gate _ _ _ _ (lentOk m) (moneyOk p b) (retry-same (d .pending) go)
+  acknowledge-same go = gate (done m p b d) (refusedWith d b) (λ _. refl) _ (acknowledgePlan go (d .pending)) _ (lentOk m) (moneyOk p b) (retry-same (d .pending) go)
 
   -- 8, 2, 7 and 3 of the prefetch register
   abbrev ok : Bool
@@ -128,7 +145,30 @@ module _ (m : Lent) (p : Prices) (b : Bill) (d : Device) where
       (refusedWith d b) (carried m p b d (C.Prefetch v))
   prefetch-same v =
       rw (or-none (eqb (v / 2 ^ 14 % 2) 1), or-none (not ok), or-none (prefetchLacks m p b d v))
-      (gate _ _ _ _ (lentOk m) (moneyOk p b) (λ h. ready _ _ _ _ _ _ _ _ _ (bit-clear (v / 2 ^ 14)) (prefetch-last m p b d v h)))
+      (gate (done m p b d) (refusedWith d b) (λ _. refl) _ (prefetchPlan v (d .registers .control) (d .pending)) _ (lentOk m) (moneyOk p b)
+      (λ h. ready (done m p b d) (refusedWith d b) (λ _. refl) _ (L.Prefetch v) _ _ _ _ _ _ (bit-clear (v / 2 ^ 14)) (prefetch-last m p b d v h)))
+
+  -- what the code tests of a command is what it is
+  plainly-asked : (c : Command) (x : Ask) → isPlain x ≡ true → unbilled b (plainStep d c) ≡ askStep m p b d c x
+  plainly-asked c Q.Nothing h = refl
+  plainly-asked c (Q.Request va a) h = absurd (false≢true h)
+  plainly-asked c (Q.Prefetch v) h = absurd (false≢true h)
+  plainly-asked c (Q.Acknowledge go) h = absurd (false≢true h)
+
+  walk-asked : (c : Command) (x : Ask) → isPlain x ≡ false → walked m p b d x ≡ askStep m p b d c x
+  walk-asked c Q.Nothing h = absurd (false≢true (sym h))
+  walk-asked c (Q.Request va a) h = refl
+  walk-asked c (Q.Prefetch v) h = refl
+  walk-asked c (Q.Acknowledge go) h = refl
+
+  -- a request past 8 and 1
+  pub request-is :
+      (va : VirtualAddress) (a : Access)
+      → walked m p b d (Q.Request va a)
+      ≡ refuses ((not (lentOk m), 4) ∷ (not (moneyOk p b), 9) ∷ (not (idle (d .pending)), 2) ∷ (lacks m d va, 3) ∷ []) (refusedWith d b) (attemptOf m p b false d va a)
+  request-is va a =
+      gate (done m p b d) (refusedWith d b) (λ _. refl) _ (requestPlan (d .pending) va a) _ (lentOk m) (moneyOk p b)
+      (λ h. idly (done m p b d) (refusedWith d b) (λ _. refl) _ (L.Attempt false va a) _ (idle (d .pending)) (attempt-last m p b false d va a h))
 
 module _ (m : Lent) (p : Prices) (b : Bill) (d : Device) (v : ℕ) where
   abbrev Written : ℕ → Type 0
@@ -165,9 +205,24 @@ module _ (m : Lent) (p : Prices) (b : Bill) (d : Device) (v : ℕ) where
       refl
       elsewhere
 
-  pub write-is : (o : ℕ) → inRange d ≡ true → commandStep m p b d (commandOf o v) ≡ writeOf m p b d o v
+  write-is : (o : ℕ) → inRange d ≡ true → commandStep m p b d (commandOf o v) ≡ writeOf m p b d o v
   unfolding writeOf
   write-is o h = written o ∙ sym (passed _ _ _ _ _ (ap not h))
+
+  -- from what the code's calls say
+  pub plain-written :
+      (o : ℕ) (c : Command) (x : Ask) (t : Told) (r : Outcome)
+      → c ≡ commandOf o v → x ≡ askOf c → isPlain x ≡ true → t ≡ plainStep d c → r ≡ unbilled b t → inRange d ≡ true
+      → r ≡ writeOf m p b d o v
+  plain-written o c x t r hc hx k ht hr h =
+      hr ∙ ap (unbilled b) ht ∙ plainly-asked m p b d c x k ∙ ap (askStep m p b d c) hx ∙ ap (commandStep m p b d) hc ∙ write-is o h
+
+  pub walk-written :
+      (o : ℕ) (c : Command) (x : Ask) (r : Outcome)
+      → c ≡ commandOf o v → x ≡ askOf c → isPlain x ≡ false → r ≡ walked m p b d x → inRange d ≡ true
+      → r ≡ writeOf m p b d o v
+  walk-written o c x r hc hx k hr h =
+      hr ∙ walk-asked m p b d c x k ∙ ap (askStep m p b d c) hx ∙ ap (commandStep m p b d) hc ∙ write-is o h
 
 module _ (d : Device) where
   abbrev shown : ℕ → Answer

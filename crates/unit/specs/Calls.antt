@@ -1,26 +1,23 @@
 -- Each call: its refusals in the paper's order, then what it does (01, "Registers", "When the unit says no").
-use Rattle.page.specs.Ground.{ℕ, _+_, _*_, _/_, _%_, _^_, Bool, true, false, not, List, [], _∷_, eqb, leb}
+use Rattle.page.specs.Ground.{ℕ, _/_, _%_, _^_, Bool, true, false, not, List, [], _∷_, eqb, leb}
 use Rattle.page.specs.Pick.{pick, _and_, _or_}
-use Rattle.memory.specs.Reads.{wordCount}
-use Rattle.walk.specs.Statements.{isMissing}
-use Rattle.meters.specs.Posted.{noTally}
+use Rattle.descriptors.specs.Statements.{isMissing}
 use Rattle.bill.specs.Bill.{moneyOk}
-use Rattle.bank.specs.Slots.{slots, lookedUp}
+use Rattle.lanes.specs.Lanes.{slots, lookedUp}
 use Rattle.bank.specs.Changes.{loaded, copied}
 use Rattle.registers.specs.Answers.{idle, isPrefetch}
-use Rattle.registers.specs.Fields.{limit, isOn, isWalking, wordsOf, entryOf, setting, withPrefetch, withCopied}
+use Rattle.registers.specs.Fields.{limit, isOn, isWalking, wordsOf, entryOf, setting, withCopied}
 use Rattle.registers.specs.Table.{noRegister, commandOf, valueAt, tended}
-use Rattle.bank.specs.declared.Matched.the-variants as M
-use Rattle.page.specs.declared.Access.the-variants.{Read}
+use Rattle.lanes.specs.declared.Matched.the-variants as M
 use Rattle.registers.specs.declared.Pending.the-variants.{Nothing, Held}
 use Rattle.registers.specs.declared.Answer.the-variants as A
 use Rattle.registers.specs.declared.Command.the-variants as C
 use Rattle.decision.specs.declared.Shift.the-variants as H
-use Rattle.decision.specs.Decisions.{billed}
-use Rattle.decision.specs.Prefetches.{pageAt, prefetchDecided, prefetchKept, shiftBy}
-use Rattle.unit.specs.Types.{Access, VirtualAddress, Lent, lentOk, Bill, Prices, Matched, Fault, Pending, Answer, Decision, Shift, Command, Device, Outcome, Told}
+use Rattle.decision.specs.Prefetches.{pageAt, prefetchDecided, shiftBy}
+use Rattle.attempts.specs.Effects.{prefetchEnded}
+use Rattle.unit.specs.Types.{Access, VirtualAddress, Lent, lentOk, Bill, Prices, Matched, Fault, Pending, Decision, Shift, Command, Device, Outcome, Told}
 use Rattle.unit.specs.Refusals.{Refusals, refuses}
-use Rattle.unit.specs.Device.{freshDevice, inRange, setRegisters, setBank, cleared, told, toldRefused, doneWith, refusedWith, look, applied, attemptOf}
+use Rattle.unit.specs.Device.{freshDevice, inRange, setRegisters, setBank, cleared, told, toldRefused, doneWith, refusedWith, outcomeOf, look, attemptOf}
 
 -- offsets of Table 3 that the refusals name
 abbrev pub prefetchAt : ℕ
@@ -112,16 +109,9 @@ writeRefusals m p b d o v =
     ∷ (writeLacks m d o v, 3)
     ∷ []
 
--- prefetch: no effect on a match, else a walk; the register keeps what was written; words are metered, the prefetch is no request
+-- prefetch: no effect on a match, else a walk
 abbrev pub prefetchEnds : Prices → Bill → Device → ℕ → Decision → Outcome
-prefetchEnds p b d v x = record {
-  device =
-      setRegisters (applied d (x .fill) (x .answer) (pageAt v) Read)
-      (withPrefetch (d .registers) (prefetchKept (v % 2 ^ 14) (d .registers .prefetch) (x .answer)));
-  bill = billed p b x;
-  tally = record { fresh = 0; retries = 0; words = wordCount (x .reads) };
-  answer = x .answer;
-}
+prefetchEnds p b d v x = outcomeOf (prefetchEnded p b (d .registers) (d .bank) (d .pending) v x)
 
 abbrev pub prefetched : Lent → Prices → Bill → Device → ℕ → Outcome
 prefetched m p b d v = prefetchEnds p b d v (prefetchDecided (look m d (pageAt v)) (d .bank .cam) (pageAt v))

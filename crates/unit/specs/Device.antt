@@ -2,15 +2,15 @@
 use Rattle.page.specs.Ground.{ℕ, Bool}
 use Rattle.page.specs.Pick.{_and_}
 use Rattle.walk.specs.Walk.{walkIn}
-use Rattle.memory.specs.Reads.{wordCount}
 use Rattle.meters.specs.Posted.{noTally}
 use Rattle.bank.specs.Slots.{bankOk, freshBank}
 use Rattle.bank.specs.Changes.{entryFilled}
 use Rattle.registers.specs.Fields.{freshRegisters, registersOk, pendingOk}
 use Rattle.registers.specs.declared.Pending.the-variants as P
 use Rattle.registers.specs.declared.Answer.the-variants as A
-use Rattle.decision.specs.Decisions.{decided, settled, tallyOf, billed}
-use Rattle.unit.specs.Types.{Access, VirtualAddress, Lent, Walked, Bill, Prices, Bank, Fill, Answer, Decision, Registers, Device, Outcome, Told}
+use Rattle.decision.specs.Decisions.{decided, settled}
+use Rattle.attempts.specs.Effects.{attempted}
+use Rattle.unit.specs.Types.{Access, VirtualAddress, Lent, Walked, Bill, Prices, Bank, Fill, Answer, Decision, Registers, Effect, Device, Outcome, Told}
 
 -- a fresh device is all zero
 abbrev pub freshDevice : Device
@@ -37,11 +37,27 @@ told d r = record { device = d; answer = r }
 abbrev pub toldRefused : Device → ℕ → Told
 toldRefused d k = told d (A.Refused k)
 
+abbrev pub toldDone : Device → Told
+toldDone d = told d A.Done
+
+-- a call that reads no word leaves the bill as it is and adds nothing to the meters
+abbrev pub unbilled : Bill → Told → Outcome
+unbilled b t = record { device = t .device; bill = b; tally = noTally; answer = t .answer }
+
 abbrev pub doneWith : Bill → Device → Outcome
-doneWith b d = record { device = d; bill = b; tally = noTally; answer = A.Done }
+doneWith b d = unbilled b (toldDone d)
 
 abbrev pub refusedWith : Device → Bill → ℕ → Outcome
-refusedWith d b k = record { device = d; bill = b; tally = noTally; answer = A.Refused k }
+refusedWith d b k = unbilled b (toldRefused d k)
+
+-- what a call that may walk leaves of the parts is the device
+abbrev pub outcomeOf : Effect → Outcome
+outcomeOf e = record {
+  device = record { registers = e .registers; bank = e .bank; pending = e .pending };
+  bill = e .bill;
+  tally = e .tally;
+  answer = e .answer;
+}
 
 -- what the plain walk of an address gives from the base register
 abbrev pub look : Lent → Device → VirtualAddress → Walked
@@ -53,12 +69,7 @@ applied d f r va a = record { registers = d .registers; bank = entryFilled (d .b
 
 -- an attempt with its decision: again says whether it is a retry
 abbrev pub concluded : Prices → Bill → Bool → Device → VirtualAddress → Access → Decision → Outcome
-concluded p b again d va a x = record {
-  device = applied d (x .fill) (x .answer) va a;
-  bill = billed p b x;
-  tally = tallyOf again (wordCount (x .reads)) (x .answer);
-  answer = x .answer;
-}
+concluded p b again d va a x = outcomeOf (attempted p b again (d .registers) (d .bank) (d .pending) va a x)
 
 -- what a request or a retry comes to where w is what the plain walk of its address gives
 abbrev pub decidedBy : Walked → Device → VirtualAddress → Access → Decision

@@ -1,70 +1,51 @@
 -- The calls as the code takes them, test by test, over memories that were tried. `Calls` says what they come to.
-use Rattle.page.specs.Ground.{ℕ, _/_, _%_, _^_, Bool, true, eqb}
 use Rattle.page.specs.Pick.{pick}
-use Rattle.walk.specs.Walk.{walkWithin}
-use Rattle.bill.specs.Bill.{moneyOk}
-use Rattle.registers.specs.Answers.{idle, isPrefetch}
-use Rattle.registers.specs.Fields.{isOn, isWalking, setting}
+use Rattle.registers.specs.Fields.{isWalking, setting}
 use Rattle.registers.specs.Table.{tended}
-use Rattle.registers.specs.declared.Pending.the-variants.{Nothing, Held}
 use Rattle.registers.specs.declared.Command.the-variants as C
-use Rattle.decision.specs.Prefetches.{pageAt, prefetchDecided}
-use Rattle.unit.specs.Types.{Access, VirtualAddress, Lent, lentOk, Bill, Prices, Fault, Pending, Walked, Command, Device, Outcome}
-use Rattle.unit.specs.Device.{freshDevice, setRegisters, setBank, cleared, doneWith, refusedWith, concluded, decidedBy}
-use Rattle.unit.specs.Calls.{withLoaded, withCopy, prefetchEnds}
+use Rattle.plans.specs.declared.Ask.the-variants as Q
+use Rattle.plans.specs.Plans.{askOf}
+use Rattle.attempts.specs.Effects.{gone}
+use Rattle.unit.specs.Types.{Lent, Bill, Prices, Setting, Tending, Command, Ask, Device, Outcome, Told}
+use Rattle.unit.specs.Device.{freshDevice, setRegisters, setBank, toldRefused, toldDone, unbilled, outcomeOf}
+use Rattle.unit.specs.Calls.{withLoaded, withCopy}
 
--- the plain walk over memories that were tried
-abbrev pub lookWithin : Lent → Device → VirtualAddress → Walked
-lookWithin m d va = walkWithin m (d .registers .base .0) (va .0)
+-- a register set; a flush, or a write of the lock register
+abbrev pub setStep : Device → Setting → Told
+setStep d s = toldDone (setRegisters d (setting (d .registers) s))
 
-abbrev pub attemptWithin : Lent → Prices → Bill → Bool → Device → VirtualAddress → Access → Outcome
-attemptWithin m p b again d va a = concluded p b again d va a (decidedBy (lookWithin m d va) d va a)
-
-abbrev pub prefetchedWithin : Lent → Prices → Bill → Device → ℕ → Outcome
-prefetchedWithin m p b d v = prefetchEnds p b d v (prefetchDecided (lookWithin m d (pageAt v)) (d .bank .cam) (pageAt v))
-
-abbrev pub retriedWithin : Lent → Prices → Bill → Device → Fault → VirtualAddress → Access → Outcome
-retriedWithin m p b d k va a = pick (isPrefetch k) (doneWith b (cleared d)) (attemptWithin m p b true d va a)
+abbrev pub tendStep : Device → Tending → Told
+tendStep d t = toldDone (setBank d (tended (d .bank) (d .registers .staged) t))
 
 -- neither load nor copy while walking is set
-abbrev pub loadStep : Bill → Device → Outcome
-loadStep b d = pick (isWalking (d .registers .control)) (refusedWith d b 7) (doneWith b (withLoaded d))
+abbrev pub loadStep : Device → Told
+loadStep d = pick (isWalking (d .registers .control)) (toldRefused d 7) (toldDone (withLoaded d))
 
-abbrev pub copyStep : Bill → Device → Outcome
-copyStep b d = pick (isWalking (d .registers .control)) (refusedWith d b 7) (doneWith b (withCopy d))
+abbrev pub copyStep : Device → Told
+copyStep d = pick (isWalking (d .registers .control)) (toldRefused d 7) (toldDone (withCopy d))
 
--- prefetch: 8, 2, 7
-abbrev pub prefetchStep : Lent → Prices → Bill → Device → ℕ → Outcome
-prefetchStep m p b d v =
-    pick (eqb (v / 2 ^ 14 % 2) 0)
-    (pick (idle (d .pending))
-    (pick (isOn (d .registers .control))
-    (pick (isWalking (d .registers .control)) (prefetchedWithin m p b d v)
-    (refusedWith d b 7))
-    (refusedWith d b 7))
-    (refusedWith d b 2))
-    (refusedWith d b 8)
+-- a command that never walks
+abbrev pub plainStep : Device → Command → Told
+plainStep d (C.Refused k) = toldRefused d k
+plainStep d C.Nothing = toldDone d
+plainStep d C.Reset = toldDone freshDevice
+plainStep d (C.Set s) = setStep d s
+plainStep d (C.Tend t) = tendStep d t
+plainStep d C.Load = loadStep d
+plainStep d C.Copy = copyStep d
+plainStep d (C.Prefetch v) = toldDone d
+plainStep d (C.Acknowledge go) = toldDone d
 
--- acknowledge with bit 0: 7
-abbrev pub retryStep : Lent → Prices → Bill → Device → Pending → Outcome
-retryStep m p b d Nothing = refusedWith d b 7
-retryStep m p b d (Held k va a) = retriedWithin m p b d k va a
-
-abbrev pub acknowledgeStep : Lent → Prices → Bill → Device → Bool → Outcome
-acknowledgeStep m p b d go = pick go (retryStep m p b d (d .pending)) (doneWith b d)
-
--- what is lent is tried before the rest of prefetch and acknowledge: 4, 9
-abbrev pub gated : Lent → Prices → Bill → Device → Outcome → Outcome
-gated m p b d r = pick (lentOk m) (pick (moneyOk p b) r (refusedWith d b 9)) (refusedWith d b 4)
+-- a call that may walk
+abbrev pub walked : Lent → Prices → Bill → Device → Ask → Outcome
+walked m p b d x = outcomeOf (gone m p b (d .registers) (d .bank) (d .pending) x)
 
 -- what a write does for a device in range
+abbrev pub askStep : Lent → Prices → Bill → Device → Command → Ask → Outcome
+askStep m p b d c Q.Nothing = unbilled b (plainStep d c)
+askStep m p b d c (Q.Request va a) = walked m p b d (Q.Request va a)
+askStep m p b d c (Q.Prefetch v) = walked m p b d (Q.Prefetch v)
+askStep m p b d c (Q.Acknowledge go) = walked m p b d (Q.Acknowledge go)
+
 abbrev pub commandStep : Lent → Prices → Bill → Device → Command → Outcome
-commandStep m p b d (C.Refused k) = refusedWith d b k
-commandStep m p b d C.Nothing = doneWith b d
-commandStep m p b d C.Reset = doneWith b freshDevice
-commandStep m p b d (C.Set s) = doneWith b (setRegisters d (setting (d .registers) s))
-commandStep m p b d (C.Tend t) = doneWith b (setBank d (tended (d .bank) (d .registers .staged) t))
-commandStep m p b d C.Load = loadStep b d
-commandStep m p b d C.Copy = copyStep b d
-commandStep m p b d (C.Prefetch v) = gated m p b d (prefetchStep m p b d v)
-commandStep m p b d (C.Acknowledge go) = gated m p b d (acknowledgeStep m p b d go)
+commandStep m p b d c = askStep m p b d c (askOf c)

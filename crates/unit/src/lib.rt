@@ -1,26 +1,24 @@
 // The device and its calls.
+use attempts::Effect;
 use bank::Bank;
-use bank::Fill;
 use bill::Bill;
-use bill::Prices;
 use decision::Shift;
 use meters::Tally;
 use page::Access;
 use page::VirtualAddress;
+use plans::Ask;
+use prices::Prices;
 use registers::Answer;
 use registers::Command;
-use registers::Fault;
 use registers::Pending;
 use registers::Registers;
 use registers::Setting;
 use registers::Tending;
 ghost use mathlib.Core.Path.{_≡_};
 ghost use Rattle.memory.specs.Memory.{lent};
-ghost use Rattle.registers.specs.Fields.{setting};
-ghost use Rattle.registers.specs.Table.{tended};
-ghost use Rattle.unit.specs.Device.{freshDevice, inRange, setRegisters, setBank, cleared, doneWith, refusedWith, applied};
+ghost use Rattle.unit.specs.Device.{freshDevice, inRange, toldRefused, toldDone, unbilled, refusedWith, outcomeOf};
 ghost use Rattle.unit.specs.Calls.{requestOf, writeOf, readOf, dropOf, shiftOf};
-ghost use Rattle.unit.specs.Steps.{attemptWithin, prefetchedWithin, retriedWithin, loadStep, copyStep, prefetchStep, acknowledgeStep, commandStep};
+ghost use Rattle.unit.specs.Steps.{setStep, tendStep, loadStep, copyStep, plainStep, walked};
 
 // The registers, the slots, and perhaps one pending fault.
 pub struct Device {
@@ -52,9 +50,47 @@ pub struct Reported {
 // Virtual addresses are below this.
 const LIMIT: u32 = 16777216;
 
+// The device after a call that may walk.
+fn after(e: Effect) -> Outcome
+    ensures { λ r. ⌜ r ≡ outcomeOf e ⌝ }
+{
+    let r = e.registers;
+    let b = e.bank;
+    let p = e.pending;
+    let bill = e.bill;
+    let tally = e.tally;
+    let answer = e.answer;
+    Outcome {
+        device: Device {
+            registers: r,
+            bank: b,
+            pending: p,
+        },
+        bill: bill,
+        tally: tally,
+        answer: answer,
+    }
+}
+
+impl Told {
+    // A call that reads no word.
+    fn unbilled(self, bill: Bill) -> Outcome
+        ensures { λ r. ⌜ r ≡ unbilled bill self ⌝ }
+    {
+        let d = self.device;
+        let answer = self.answer;
+        Outcome {
+            device: d,
+            bill: bill,
+            tally: Tally::zero(),
+            answer: answer,
+        }
+    }
+}
+
 impl Device {
     // How many slots there are.
-    pub const SLOTS: usize = bank::SLOTS;
+    pub const SLOTS: usize = lanes::SLOTS;
 
     // The device after reset: all zero.
     pub fn fresh() -> Device
@@ -95,79 +131,30 @@ impl Device {
         }
     }
 
-    // Accepted, with nothing to say.
-    fn done(self, bill: Bill) -> Outcome
-        ensures { λ r. ⌜ r ≡ doneWith bill self ⌝ }
+    // Refused, where the call never walks.
+    fn told_refused(self, k: u8) -> Told
+        ensures { λ r. ⌜ r ≡ toldRefused self k ⌝ }
     {
-        Outcome {
+        Told {
             device: self,
-            bill: bill,
-            tally: Tally::zero(),
+            answer: Answer::Refused(k),
+        }
+    }
+
+    // Accepted, with nothing to say.
+    fn done(self) -> Told
+        ensures { λ r. ⌜ r ≡ toldDone self ⌝ }
+    {
+        Told {
+            device: self,
             answer: Answer::Done,
         }
     }
 
-    // The device with other registers.
-    fn with_registers(self, r: Registers) -> Device
-        ensures { λ x. ⌜ x ≡ setRegisters self r ⌝ }
-    {
-        let b = self.bank;
-        let p = self.pending;
-        Device {
-            registers: r,
-            bank: b,
-            pending: p,
-        }
-    }
-
-    // The device with other slots.
-    fn with_bank(self, b: Bank) -> Device
-        ensures { λ x. ⌜ x ≡ setBank self b ⌝ }
-    {
-        let r = self.registers;
-        let p = self.pending;
-        Device {
-            registers: r,
-            bank: b,
-            pending: p,
-        }
-    }
-
-    // The device with nothing pending.
-    fn clear(self) -> Device
-        ensures { λ r. ⌜ r ≡ cleared self ⌝ }
-    {
-        let r = self.registers;
-        let b = self.bank;
-        Device {
-            registers: r,
-            bank: b,
-            pending: Pending::Nothing,
-        }
-    }
-
-    // The device after a decision.
-    fn apply(self, fill: Fill, answer: Answer, va: VirtualAddress, a: Access) -> Device
-        ensures { λ r. ⌜ r ≡ applied self fill answer va a ⌝ }
-    {
-        let r = self.registers;
-        let b = self.bank;
-        let p = self.pending;
-        let c = b.take(fill);
-        let q = decision::settle(p, answer, va, a);
-        Device {
-            registers: r,
-            bank: c,
-            pending: q,
-        }
-    }
-
-    // A request or a retry, past every refusal but 3.
-    fn attempt<'a>(
+    // A call that may walk.
+    fn walk<'a>(
         self,
-        again: bool,
-        va: VirtualAddress,
-        a: Access,
+        ask: Ask,
         on: &'a [u8],
         onbase: u32,
         ext: &'a [u8],
@@ -175,33 +162,12 @@ impl Device {
         prices: Prices,
         bill: Bill,
     ) -> Outcome
-        ensures { λ r. ⌜ r ≡ attemptWithin (lent (now (on .entry)) onbase (now (ext .entry)) extbase) prices bill again self va a ⌝ }
+        ensures { λ r. ⌜ r ≡ walked (lent (now (on .entry)) onbase (now (ext .entry)) extbase) prices bill self ask ⌝ }
     {
-        let base = self.registers.base;
-        let d = decision::decide(
-            &self.bank.cam,
-            &self.bank.ram,
-            self.registers.control,
-            base,
-            on,
-            onbase,
-            ext,
-            extbase,
-            va,
-            a,
-        );
-        let answer = d.answer;
-        let fill = d.fill;
-        let reads = d.reads;
-        let device = self.apply(fill, answer, va, a);
-        let after = decision::charge(d, bill, prices);
-        let tally = decision::tally_of(again, answer, memory::count(reads));
-        Outcome {
-            device: device,
-            bill: after,
-            tally: tally,
-            answer: answer,
-        }
+        let r = self.registers;
+        let b = self.bank;
+        let p = self.pending;
+        after(attempts::go(ask, r, b, p, on, onbase, ext, extbase, prices, bill))
     }
 
     // A request.
@@ -224,209 +190,77 @@ impl Device {
         if va.0 >= LIMIT {
             return self.refused(bill, 1);
         }
-        if !memory::memories_ok(on, onbase, ext, extbase) {
-            return self.refused(bill, 4);
-        }
-        if !bill::money_ok(prices, bill) {
-            return self.refused(bill, 9);
-        }
-        let p = self.pending;
-        if !registers::is_idle(p) {
-            return self.refused(bill, 2);
-        }
-        self.attempt(false, va, a, on, onbase, ext, extbase, prices, bill)
+        self.walk(Ask::Request(va, a), on, onbase, ext, extbase, prices, bill)
     }
 
     // A register set.
-    fn set(self, s: Setting) -> Device
-        ensures { λ r. ⌜ r ≡ setRegisters self (setting (self .registers) s) ⌝ }
+    fn set(self, s: Setting) -> Told
+        ensures { λ r. ⌜ r ≡ setStep self s ⌝ }
     {
+        let mut d = self;
         let r = self.registers;
-        self.with_registers(r.set(s))
+        d.registers = r.set(s);
+        d.done()
     }
 
     // A flush, or a write of the lock register.
-    fn tend(self, t: Tending) -> Device
-        ensures { λ r. ⌜ r ≡ setBank self (tended (self .bank) (self .registers .staged) t) ⌝ }
+    fn tend(self, t: Tending) -> Told
+        ensures { λ r. ⌜ r ≡ tendStep self t ⌝ }
     {
+        let mut d = self;
         let b = self.bank;
         let e = self.registers.staged;
-        self.with_bank(registers::tend_bank(b, e, t))
+        d.bank = registers::tend_bank(b, e, t);
+        d.done()
     }
 
     // Load, unless walking is set.
-    fn load(self, bill: Bill) -> Outcome
-        ensures { λ r. ⌜ r ≡ loadStep bill self ⌝ }
+    fn load(self) -> Told
+        ensures { λ r. ⌜ r ≡ loadStep self ⌝ }
     {
         if registers::is_walking(self.registers.control) {
-            return self.refused(bill, 7);
+            return self.told_refused(7);
         }
+        let mut d = self;
         let b = self.bank;
         let e = self.registers.staged;
-        self.with_bank(b.load(registers::words_of(e))).done(bill)
+        d.bank = b.load(registers::words_of(e));
+        d.done()
     }
 
     // Copy, unless walking is set.
-    fn copy(self, bill: Bill) -> Outcome
-        ensures { λ r. ⌜ r ≡ copyStep bill self ⌝ }
+    fn copy(self) -> Told
+        ensures { λ r. ⌜ r ≡ copyStep self ⌝ }
     {
         let mut r = self.registers;
         if registers::is_walking(r.control) {
-            return self.refused(bill, 7);
+            return self.told_refused(7);
         }
         let b = self.bank;
+        let p = self.pending;
         r.copied = registers::entry_of(b.copy());
-        self.with_registers(r).done(bill)
+        let d = Device {
+            registers: r,
+            bank: b,
+            pending: p,
+        };
+        d.done()
     }
 
-    // A prefetch, past every refusal but 3.
-    fn prefetch_go<'a>(
-        self,
-        v: u16,
-        on: &'a [u8],
-        onbase: u32,
-        ext: &'a [u8],
-        extbase: u32,
-        prices: Prices,
-        bill: Bill,
-    ) -> Outcome
-        ensures { λ r. ⌜ r ≡ prefetchedWithin (lent (now (on .entry)) onbase (now (ext .entry)) extbase) prices bill self v ⌝ }
-    {
-        let base = self.registers.base;
-        let va = VirtualAddress((v as u32) % 16384 * 1024);
-        let d = decision::prefetch_decide(&self.bank.cam, base, on, onbase, ext, extbase, va);
-        let answer = d.answer;
-        let fill = d.fill;
-        let reads = d.reads;
-        let kept = decision::prefetch_kept(v % 16384, self.registers.prefetch, answer);
-        let mut device = self.apply(fill, answer, va, Access::Read);
-        device.registers.prefetch = kept;
-        let after = decision::charge(d, bill, prices);
-        Outcome {
-            device: device,
-            bill: after,
-            tally: Tally {
-                fresh: 0,
-                retries: 0,
-                words: memory::count(reads),
-            },
-            answer: answer,
-        }
-    }
-
-    // A write of the prefetch register, past 4 and 9.
-    fn prefetch<'a>(
-        self,
-        v: u16,
-        on: &'a [u8],
-        onbase: u32,
-        ext: &'a [u8],
-        extbase: u32,
-        prices: Prices,
-        bill: Bill,
-    ) -> Outcome
-        ensures { λ r. ⌜ r ≡ prefetchStep (lent (now (on .entry)) onbase (now (ext .entry)) extbase) prices bill self v ⌝ }
-    {
-        if v / 16384 % 2 != 0 {
-            return self.refused(bill, 8);
-        }
-        let p = self.pending;
-        if !registers::is_idle(p) {
-            return self.refused(bill, 2);
-        }
-        let control = self.registers.control;
-        if !registers::is_on(control) {
-            return self.refused(bill, 7);
-        }
-        if !registers::is_walking(control) {
-            return self.refused(bill, 7);
-        }
-        self.prefetch_go(v, on, onbase, ext, extbase, prices, bill)
-    }
-
-    // A pending prefetch is only dropped, another fault retried.
-    fn retry<'a>(
-        self,
-        k: Fault,
-        va: VirtualAddress,
-        a: Access,
-        on: &'a [u8],
-        onbase: u32,
-        ext: &'a [u8],
-        extbase: u32,
-        prices: Prices,
-        bill: Bill,
-    ) -> Outcome
-        ensures { λ r. ⌜ r ≡ retriedWithin (lent (now (on .entry)) onbase (now (ext .entry)) extbase) prices bill self k va a ⌝ }
-    {
-        if registers::is_prefetch(k) {
-            return self.clear().done(bill);
-        }
-        self.attempt(true, va, a, on, onbase, ext, extbase, prices, bill)
-    }
-
-    // A write of the acknowledge register, past 4 and 9.
-    fn acknowledge<'a>(
-        self,
-        go: bool,
-        on: &'a [u8],
-        onbase: u32,
-        ext: &'a [u8],
-        extbase: u32,
-        prices: Prices,
-        bill: Bill,
-    ) -> Outcome
-        ensures { λ r. ⌜ r ≡ acknowledgeStep (lent (now (on .entry)) onbase (now (ext .entry)) extbase) prices bill self go ⌝ }
-    {
-        if !go {
-            return self.done(bill);
-        }
-        let p = self.pending;
-        match p {
-            Pending::Nothing => self.refused(bill, 7),
-            Pending::Held(k, va, a) => self.retry(k, va, a, on, onbase, ext, extbase, prices, bill),
-        }
-    }
-
-    // What a write asks for, done for a device in range.
-    fn obey<'a>(
-        self,
-        c: Command,
-        on: &'a [u8],
-        onbase: u32,
-        ext: &'a [u8],
-        extbase: u32,
-        prices: Prices,
-        bill: Bill,
-    ) -> Outcome
-        ensures { λ r. ⌜ r ≡ commandStep (lent (now (on .entry)) onbase (now (ext .entry)) extbase) prices bill self c ⌝ }
+    // A command that never walks; one that may is not for here, and nothing is done.
+    fn obey(self, c: Command) -> Told
+        ensures { λ r. ⌜ r ≡ plainStep self c ⌝ }
     {
         match c {
-            Command::Refused(k) => self.refused(bill, k),
-            Command::Nothing => self.done(bill),
-            Command::Reset => Device::fresh().done(bill),
-            Command::Set(s) => self.set(s).done(bill),
-            Command::Tend(t) => self.tend(t).done(bill),
-            Command::Load => self.load(bill),
-            Command::Copy => self.copy(bill),
-            Command::Prefetch(v) => {
-                if !memory::memories_ok(on, onbase, ext, extbase) {
-                    return self.refused(bill, 4);
-                }
-                if !bill::money_ok(prices, bill) {
-                    return self.refused(bill, 9);
-                }
-                self.prefetch(v, on, onbase, ext, extbase, prices, bill)
-            }
-            Command::Acknowledge(go) => {
-                if !memory::memories_ok(on, onbase, ext, extbase) {
-                    return self.refused(bill, 4);
-                }
-                if !bill::money_ok(prices, bill) {
-                    return self.refused(bill, 9);
-                }
-                self.acknowledge(go, on, onbase, ext, extbase, prices, bill)
-            }
+            Command::Refused(k) => self.told_refused(k),
+            Command::Nothing => self.done(),
+            Command::Reset => Device::fresh().done(),
+            Command::Set(s) => self.set(s),
+            Command::Tend(t) => self.tend(t),
+            Command::Load => self.load(),
+            Command::Copy => self.copy(),
+            Command::Prefetch(_) => self.done(),
+            Command::Acknowledge(_) => self.done(),
         }
     }
 
@@ -447,8 +281,12 @@ impl Device {
         if !self.in_range() {
             return self.refused(bill, 8);
         }
-        let c = registers::command_at(offset, v);
-        self.obey(c, on, onbase, ext, extbase, prices, bill)
+        let c = commands::command_at(offset, v);
+        let ask = plans::ask_of(c);
+        if plans::is_plain(ask) {
+            return self.obey(c).unbilled(bill);
+        }
+        self.walk(ask, on, onbase, ext, extbase, prices, bill)
     }
 
     // A register read.
@@ -456,14 +294,11 @@ impl Device {
         ensures { λ r. ⌜ r ≡ readOf self offset ⌝ }
     {
         if !self.in_range() {
-            return Told {
-                device: self,
-                answer: Answer::Refused(8),
-            };
+            return self.told_refused(8);
         }
         let r = self.registers;
         let p = self.pending;
-        let answer = registers::value_at(offset, r, self.bank.lock, self.bank.victim, p);
+        let answer = values::value_at(offset, r, self.bank.lock, self.bank.victim, p);
         Told {
             device: self,
             answer: answer,
@@ -475,22 +310,21 @@ impl Device {
         ensures { λ r. ⌜ r ≡ dropOf self ⌝ }
     {
         if !self.in_range() {
-            return Told {
-                device: self,
-                answer: Answer::Refused(8),
-            };
+            return self.told_refused(8);
         }
         let p = self.pending;
         if registers::is_idle(p) {
-            return Told {
-                device: self,
-                answer: Answer::Refused(7),
-            };
+            return self.told_refused(7);
         }
-        Told {
-            device: self.clear(),
-            answer: Answer::Done,
-        }
+        let r = self.registers;
+        let b = self.bank;
+        let nothing = Pending::Nothing;
+        let d = Device {
+            registers: r,
+            bank: b,
+            pending: nothing,
+        };
+        d.done()
     }
 
     // The shift of an address.

@@ -1,4 +1,3 @@
-pub mod Difference
-pub mod Descriptors
+pub mod Indices
 pub mod Walks
 pub mod Words

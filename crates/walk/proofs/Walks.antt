@@ -6,15 +6,17 @@ use Rattle.memory.specs.Memory.{Lent, lentOk, partAt, wordOf}
 use Rattle.memory.specs.declared.Place.{Place}
 use Rattle.memory.specs.declared.Source.{Source}
 use Rattle.memory.proofs.Places.{place-ok, place-refused}
-use Rattle.walk.specs.declared.First.{First}
-use Rattle.walk.specs.declared.First.the-variants.{Fault, Coarse, Whole, Fine}
+use Rattle.descriptors.specs.declared.First.{First}
+use Rattle.descriptors.specs.declared.First.the-variants.{Fault, Coarse, Whole, Fine}
 use Rattle.walk.specs.declared.Read.{Read}
 use Rattle.walk.specs.declared.Read.the-variants.{Word, Missing}
-use Rattle.walk.specs.declared.Table.{Table}
-use Rattle.walk.specs.declared.Table.the-variants as T
-use Rattle.walk.specs.Walk.{firstOf, coarseAt, fineAt, readAt, readIn, readWithin, sourceAt, missing, afterSecond, byFirst, afterFirst, walkFrom, walkOf, walkIn, walkWithin}
-use Rattle.walk.specs.Statements.{bare, AgreeBelow, AgreeAfter, ProperFirst, Proper}
-use Rattle.walk.proofs.Descriptors.{first-proper, second-proper}
+use Rattle.descriptors.specs.declared.Table.{Table}
+use Rattle.descriptors.specs.declared.Table.the-variants as T
+use Rattle.descriptors.specs.Descriptors.{firstOf}
+use Rattle.walk.specs.Walk.{coarseAt, fineAt, readAt, readIn, readWithin, sourceAt, missing, afterSecond, byFirst, afterFirst, walkFrom, walkOf, walkIn, walkWithin}
+use Rattle.descriptors.specs.Statements.{ProperFirst, Proper}
+use Rattle.walk.specs.Statements.{bare, AgreeBelow, AgreeAfter}
+use Rattle.descriptors.proofs.Laws.{first-proper, second-proper}
 
 -- readings that agree at the words read walk alike
 module _ (rd rd′ : ℕ → Read) (dec : ℕ → First) (va a : ℕ) where

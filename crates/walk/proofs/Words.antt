@@ -1,23 +1,23 @@
 -- The words that a walk read. Assumes nothing.
 use mathlib.Core.Path.{_≡_, refl}
-use mathlib.Core.Bool.{false}
 use Prim.Native.Nat.{ℕ}
 use lib.Dec.{eqb}
-use Rattle.page.proofs.Picks.{pick-by}
 use Rattle.memory.specs.Memory.{Lent, placeIn, placeWithin}
 use Rattle.memory.specs.Reads.{wordCount}
 use Rattle.memory.specs.declared.Place.{Place}
 use Rattle.memory.specs.declared.Place.the-variants.{OnChip, External, Nowhere}
 use Rattle.memory.specs.declared.Source.{Source}
-use Rattle.walk.specs.declared.First.{First}
-use Rattle.walk.specs.declared.First.the-variants.{Fault, Coarse, Whole, Fine}
-use Rattle.walk.specs.declared.Found.{Found}
+use Rattle.descriptors.proofs.Laws.{second-there}
+use Rattle.descriptors.specs.declared.First.{First}
+use Rattle.descriptors.specs.declared.First.the-variants.{Fault, Coarse, Whole, Fine}
 use Rattle.walk.specs.declared.Read.{Read}
 use Rattle.walk.specs.declared.Read.the-variants.{Word, Missing}
-use Rattle.walk.specs.declared.Table.{Table}
-use Rattle.walk.specs.declared.Table.the-variants as T
-use Rattle.walk.specs.Walk.{firstOf, secondOf, coarseAt, fineAt, readAt, readIn, readWithin, sourceAt, afterSecond, byFirst, afterFirst, walkFrom, walkIn, walkWithin}
-use Rattle.walk.specs.Statements.{PlacedRead, PlacedAt, Placed, isMissing}
+use Rattle.descriptors.specs.declared.Table.{Table}
+use Rattle.descriptors.specs.declared.Table.the-variants as T
+use Rattle.descriptors.specs.Descriptors.{firstOf}
+use Rattle.walk.specs.Walk.{coarseAt, fineAt, readAt, readIn, readWithin, sourceAt, afterSecond, byFirst, afterFirst, walkFrom, walkIn, walkWithin}
+use Rattle.descriptors.specs.Statements.{isMissing}
+use Rattle.walk.specs.Statements.{PlacedRead, PlacedAt, Placed}
 
 -- a word lies where the reading found it
 module _ (place : ℕ → Place) (rd : ℕ → Read) (h : (x : ℕ) → PlacedRead place x (rd x)) (va : ℕ) where
@@ -59,13 +59,6 @@ pub walk-within-placed : (m : Lent) (base va : ℕ) → Placed (placeWithin m) (
 walk-within-placed m base va = placed (placeWithin m) (readWithin m) (read-within-placed m) va firstOf _
 
 -- no word counts as read exactly where one is missing
-second-there : (t : Table) (w : ℕ) → false ≡ isMissing (secondOf t w)
-unfolding secondOf
-second-there T.Coarse w =
-    pick-by (λ (f : Found). false ≡ isMissing f) _ _ _ (λ _. refl)
-    (λ _. pick-by (λ (f : Found). false ≡ isMissing f) _ _ _ (λ _. refl) (λ _. refl))
-second-there T.Fine w = pick-by (λ (f : Found). false ≡ isMissing f) _ _ _ (λ _. refl) (λ _. refl)
-
 module _ (rd : ℕ → Read) (va : ℕ) where
   counted-second : (t : Table) (s : Source) (b : ℕ) (r : Read) → eqb (wordCount (afterSecond t s b r .reads)) 0 ≡ isMissing (afterSecond t s b r .found)
   counted-second t s b Missing = refl

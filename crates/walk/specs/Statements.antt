@@ -1,37 +1,15 @@
--- What the laws of the descriptors and of the plain walk speak of (01, "The walk").
-use Rattle.page.specs.Ground.{ℕ, _<_, _≡_, Bool, true, false}
-use Rattle.page.specs.Low.{upper}
-use Rattle.page.specs.Words.{lowBits}
+-- What the laws of the plain walk speak of (01, "The walk").
+use Rattle.page.specs.Ground.{ℕ, _≡_}
 use Rattle.memory.specs.declared.Place.{Place}
 use Rattle.memory.specs.declared.Place.the-variants.{Nowhere}
 use Rattle.memory.specs.declared.Source.{Source}
 use Rattle.memory.specs.declared.Reads.{Reads}
 use Rattle.memory.specs.declared.Reads.the-variants.{Nothing, One, Two}
-use Rattle.walk.specs.declared.Page.{Page}
-use Rattle.walk.specs.declared.First.{First}
-use Rattle.walk.specs.declared.First.the-variants as F
-use Rattle.walk.specs.declared.Found.{Found}
-use Rattle.walk.specs.declared.Found.the-variants as D
+use Rattle.descriptors.specs.declared.First.{First}
+use Rattle.descriptors.specs.declared.First.the-variants as F
 use Rattle.walk.specs.declared.Read.{Read}
 use Rattle.walk.specs.declared.Read.the-variants as R
 use Rattle.walk.specs.Walk.{coarseAt, fineAt}
-
--- a page starts at its frame and has two bits of access
-abbrev pub ProperPage : Page → Type 0
-ProperPage p = (p .access < 4) × (upper (lowBits (p .kind)) (p .frame .0) ≡ p .frame .0)
-
--- the page of a section's word does
-abbrev pub ProperFirst : First → Type 0
-ProperFirst F.Fault = Unit
-ProperFirst (F.Whole p) = ProperPage p
-ProperFirst (F.Coarse t) = Unit
-ProperFirst (F.Fine t) = Unit
-
--- a page that was found does
-abbrev pub Proper : Found → Type 0
-Proper (D.Page p) = ProperPage p
-Proper D.NoPage = Unit
-Proper D.Missing = Unit
 
 -- a word without the place that holds it
 abbrev pub bare : Read → Read
@@ -64,9 +42,3 @@ abbrev pub Placed : (ℕ → Place) → Reads → Type 0
 Placed place Nothing = Unit
 Placed place (One s) = PlacedAt place s
 Placed place (Two s t) = PlacedAt place s × PlacedAt place t
-
--- the walk missed a word
-abbrev pub isMissing : Found → Bool
-isMissing (D.Page p) = false
-isMissing D.NoPage = false
-isMissing D.Missing = true

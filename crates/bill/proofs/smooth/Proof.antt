@@ -8,7 +8,7 @@ outcome-requires c κs = search needs
 
 returns : tie.Need-returns
 unfolding smoothed
-returns c = cc
+returns c = rw (c .outcome .ensures)
 
 pub smooth-spec : {M : Type 1} → statement M
 smooth-spec = tie.close (tie.spec outcome-requires returns)

@@ -1,13 +1,12 @@
-use Rattle.builder.proofs.Answers.{answer-memory, answer-record, answer-overlap, answer-long, answer-length, outcome-is, image-left, image-first, room-memory}
-use Rattle.builder.specs.declared.Built.the-variants.{Length, TooLong}
-use Rattle.builder.specs.Build.{outcome}
-use Rattle.records.specs.Checks.{megabytes}
-use Rattle.records.specs.Mappings.{mappings}
 use mathlib.Core.Path.{refl, sym, _∙_, ap}
 use borrow.Author.Tests.{not-true, not-false}
 use denote.Ref.{now}
 use native.Mathlib.Omega.{arith}
 use Prim.Native.Nat.{ℕ}
+use Rattle.image.proofs.Whole.{written-short, written-image}
+use Rattle.builder.specs.declared.Built.the-variants.{Length, TooLong}
+use Rattle.builder.specs.Build.{outcome}
+use Rattle.builder.proofs.Answers.{answer-memory, answer-record, answer-overlap, answer-long, answer-length, outcome-is}
 use borrow.Author.Needs.{needs}
 use Rattle.builder.proofs.build.Statement.{statement}
 use Rattle.builder.proofs.build.Tie as tie
@@ -30,23 +29,17 @@ enum-known-found-2 c = search needs
 enum-told : tie.Need-enum-told
 enum-told c = search needs
 
-image-length-requires : tie.Need-image-length-requires
-image-length-requires c κs = search needs
-
-cast-len : tie.Need-cast-len
-cast-len c = search needs
+write-requires : tie.Need-write-requires
+write-requires c κs = search needs
 
 count-requires : tie.Need-count-requires
 count-requires c κs = search needs
 
+same-length : tie.Need-same-length
+same-length c = search needs
+
 returns-2 : tie.Need-returns-2
-returns-2 c = ap (λ (n : ℕ). outcome (TooLong n) (now (c .before .before .before .before .before .before .before .before .before .before .args .memory))) (c .count .ensures) ∙ outcome-is _ _ _ _ _ (answer-long (now (c .before .before .before .before .before .before .before .before .before .before .args .records)) (c .before .before .before .before .before .before .before .before .before .before .args .base) _ (sym (c .before .before .before .before .before .before .before .room-ok .ensures) ∙ not-false _ (c .before .before .before .before .before .before .if1 .left)) (sym (c .before .before .before .before .before .check .ensures) ∙ c .before .before .before .enum-told .given .1) (omega (arith, c .before .before .image-length .ensures))) refl
-
-write-first-requires : tie.Need-write-first-requires
-write-first-requires c κs = (omega (arith, c .before .before .image-length .ensures, room-memory _ _ (sym (c .before .before .before .before .before .before .before .room-ok .ensures) ∙ not-false _ (c .before .before .before .before .before .before .if1 .left))), omega (arith, c .before .before .image-length .ensures, image-first megabytes (mappings (now (c .before .before .before .before .before .before .before .before .before .before .args .records)))))
-
-write-tables-requires : tie.Need-write-tables-requires
-write-tables-requires c κs = search needs
+returns-2 c = ap (λ (n : ℕ). outcome (TooLong n) (c .before .before .before .before .write .last .1 .1 .0)) (c .count .ensures) ∙ outcome-is (now (c .before .before .before .before .before .before .before .before .before .before .before .before .before .args .records)) (c .before .before .before .before .before .before .before .before .before .before .before .before .before .args .base) (now (c .before .before .before .before .before .before .before .before .before .before .before .before .before .args .memory)) _ _ (answer-long (now (c .before .before .before .before .before .before .before .before .before .before .before .before .before .args .records)) (c .before .before .before .before .before .before .before .before .before .before .before .before .before .args .base) _ (sym (c .before .before .before .before .before .before .before .before .before .before .room-ok .ensures) ∙ not-false _ (c .before .before .before .before .before .before .before .before .before .if1 .left)) (sym (c .before .before .before .before .before .before .before .before .check .ensures) ∙ c .before .before .before .before .before .before .enum-told .given .1) (omega (arith, c .before .before .before .before .write .ensures .0))) (c .before .before .before .before .write .ensures .1 ∙ written-short _ _ _ (omega (arith, c .before .before .before .before .write .ensures .0)))
 
 returns-3 : tie.Need-returns-3
 returns-3 c = outcome-is _ _ _ _ _ (answer-record _ _ _ (sym (c .before .before .before .before .before .room-ok .ensures) ∙ not-false _ (c .before .before .before .before .if1 .left)) _ (sym (c .before .before .before .check .ensures) ∙ c .before .found .given .1)) refl
@@ -54,11 +47,11 @@ returns-3 c = outcome-is _ _ _ _ _ (answer-record _ _ _ (sym (c .before .before 
 returns-4 : tie.Need-returns-4
 returns-4 c = outcome-is _ _ _ _ _ (answer-overlap _ _ _ (sym (c .before .before .before .before .before .room-ok .ensures) ∙ not-false _ (c .before .before .before .before .if1 .left)) _ (sym (c .before .before .before .check .ensures) ∙ c .before .found2 .given .1)) refl
 
-same-length : tie.Need-same-length
-same-length c = search needs
+same-length-2 : tie.Need-same-length-2
+same-length-2 c = search needs
 
 returns-5 : tie.Need-returns-5
-returns-5 c = ap (λ (n : ℕ). outcome (Length n) (c .before .before .write-tables .last .1 .0)) (c .before .before .before .before .before .before .before .before .before .image-length .ensures) ∙ outcome-is (now (c .before .before .before .before .before .before .before .before .before .before .before .before .before .before .before .before .before .args .records)) (c .before .before .before .before .before .before .before .before .before .before .before .before .before .before .before .before .before .args .base) (now (c .before .before .before .before .before .before .before .before .before .before .before .before .before .before .before .before .before .args .memory)) _ _ (answer-length (now (c .before .before .before .before .before .before .before .before .before .before .before .before .before .before .before .before .before .args .records)) (c .before .before .before .before .before .before .before .before .before .before .before .before .before .before .before .before .before .args .base) _ (sym (c .before .before .before .before .before .before .before .before .before .before .before .before .before .before .room-ok .ensures) ∙ not-false _ (c .before .before .before .before .before .before .before .before .before .before .before .before .before .if1 .left)) (sym (c .before .before .before .before .before .before .before .before .before .before .before .before .check .ensures) ∙ c .before .before .before .before .before .before .before .before .before .before .enum-told .given .1) (omega (arith, c .before .before .before .before .before .before .before .before .before .image-length .ensures))) (image-left megabytes (mappings (now (c .before .before .before .before .before .before .before .before .before .before .before .before .before .before .before .before .before .args .records))) (c .before .before .before .before .before .before .before .before .before .before .before .before .before .before .before .before .before .args .base) (now (c .before .before .before .before .before .before .before .before .before .before .before .before .before .before .before .before .before .args .memory)) (omega (arith, c .before .before .before .before .before .before .before .before .before .image-length .ensures)) _ _ (c .before .before .before .before .before .before .write-first .ensures) (c .before .before .write-tables .ensures))
+returns-5 c = ap (λ (n : ℕ). outcome (Length n) (c .before .before .before .write .last .1 .1 .0)) (c .before .before .before .write .ensures .0) ∙ outcome-is (now (c .before .before .before .before .before .before .before .before .before .before .before .before .args .records)) (c .before .before .before .before .before .before .before .before .before .before .before .before .args .base) (now (c .before .before .before .before .before .before .before .before .before .before .before .before .args .memory)) _ _ (answer-length (now (c .before .before .before .before .before .before .before .before .before .before .before .before .args .records)) (c .before .before .before .before .before .before .before .before .before .before .before .before .args .base) _ (sym (c .before .before .before .before .before .before .before .before .before .room-ok .ensures) ∙ not-false _ (c .before .before .before .before .before .before .before .before .if1 .left)) (sym (c .before .before .before .before .before .before .before .check .ensures) ∙ c .before .before .before .before .before .enum-told .given .1) (omega (arith, c .before .before .before .write .ensures .0))) (c .before .before .before .write .ensures .1 ∙ written-image _ _ _ (omega (arith, c .before .before .before .write .ensures .0)))
 
 pub build-spec : {M : Type 1} → statement M
 build-spec =
@@ -70,13 +63,11 @@ build-spec =
     enum-known-found
     enum-known-found-2
     enum-told
-    image-length-requires
-    cast-len
+    write-requires
     count-requires
+    same-length
     returns-2
-    write-first-requires
-    write-tables-requires
     returns-3
     returns-4
-    same-length
+    same-length-2
     returns-5)

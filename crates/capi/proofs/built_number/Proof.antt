@@ -1,4 +1,4 @@
-use Rattle.capi.specs.Run.{builtWord}
+use Rattle.capi.specs.Boundary.{builtWord}
 use mathlib.Core.Path.{sym, _∙_, ap}
 use borrow.Author.Needs.{needs}
 use Rattle.capi.proofs.built_number.Statement.{statement}

@@ -1,4 +1,5 @@
-use Rattle.capi.specs.Run.{ran, builtWord, buildRan}
+use Rattle.run.specs.Run.{ran}
+use Rattle.capi.specs.Boundary.{builtWord, buildRan}
 use Rattle.builder.specs.Build.{Outcome}
 use mathlib.Core.Path.{ap₂, _∙_, ap}
 use borrow.Author.Needs.{needs}

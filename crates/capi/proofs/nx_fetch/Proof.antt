@@ -1,5 +1,5 @@
 use Rattle.capi.proofs.Offsets.{offset-small}
-use Rattle.capi.specs.Run.{offsetOf, placeNumber, fetchOf}
+use Rattle.capi.specs.Boundary.{offsetOf, placeNumber, fetchOf}
 use Rattle.memory.specs.declared.Place.{Place}
 use Rattle.memory.specs.Memory.{lent, wordOf}
 use mathlib.Core.Path.{ap₂, sym, _∙_, ap, subst}

@@ -1,13 +1,14 @@
-use Rattle.capi.specs.Run.{Ran, priceOf, ranFrom, fromOf}
-use Rattle.session.specs.declared.Bench.{Bench}
+use mathlib.Core.Path.{ap₂, sym, _∙_, ap}
 use Rattle.memory.specs.Memory.{lent}
-use Rattle.bill.specs.declared.Price.{Price}
-use mathlib.Core.Path.{ap₂, sym, _∙_}
-use Rattle.capi.proofs.Room.{run-fits, state-length}
-use Rattle.page.proofs.Picks.{pick-yes, pick-no, and-yes, and-no}
+use Rattle.prices.specs.declared.Prices.{Prices}
+use Rattle.session.specs.declared.Bench.{Bench}
+use Rattle.handed.specs.Handed.{pricesOf}
+use Rattle.capi.specs.Boundary.{fromOf}
+use Rattle.capi.proofs.Handing.{from-state}
+use Rattle.run.specs.Run.{Ran, runWith}
+use Rattle.page.proofs.Picks.{pick-no, and-no}
 use borrow.Author.Tests.{not-true, not-false}
 use denote.Ref.{now}
-use native.Mathlib.Omega.{arith}
 use Prim.Native.Nat.{ℕ}
 use borrow.Author.Needs.{needs}
 use Rattle.capi.proofs.nx_from.Statement.{statement}
@@ -20,40 +21,27 @@ returns : tie.Need-returns
 unfolding fromOf
 returns c = sym (pick-no _ _ _ (and-no _ _ (sym (c .before .state-ok .ensures) ∙ not-true _ (c .if1 .taken))))
 
-may-run-requires : tie.Need-may-run-requires
-may-run-requires c κs = search needs
-
-returns-2 : tie.Need-returns-2
-unfolding fromOf
-returns-2 c = sym (pick-no _ _ _ (and-yes _ _ (sym (c .before .before .before .state-ok .ensures) ∙ not-false _ (c .before .before .if1 .left)) ∙ (sym (c .before .may-run .ensures) ∙ not-true _ (c .if2 .taken))))
-
-price-of-requires : tie.Need-price-of-requires
-price-of-requires c κs = search needs
-
-price-of-requires-2 : tie.Need-price-of-requires-2
-price-of-requires-2 c κs = search needs
+prices-of-requires : tie.Need-prices-of-requires
+prices-of-requires c κs = search needs
 
 bench-at-requires : tie.Need-bench-at-requires
-bench-at-requires c κs = let e = state-length (now (c .before .before .before .before .before .before .before .before .before .before .before .args .state)) (sym (c .before .before .before .before .before .state-ok .ensures) ∙ not-false _ (c .before .before .before .before .if1 .left)) in omega (arith, e)
+bench-at-requires c κs = search needs
 
-word-at-requires : tie.Need-word-at-requires
-word-at-requires c κs = let e = state-length (now (c .before .before .before .before .before .before .before .before .before .before .before .before .args .state)) (sym (c .before .before .before .before .before .before .state-ok .ensures) ∙ not-false _ (c .before .before .before .before .before .if1 .left)) in omega (arith, e)
+lock-at-requires : tie.Need-lock-at-requires
+lock-at-requires c κs = search needs
 
-run-all-requires : tie.Need-run-all-requires
-run-all-requires c κs = run-fits (now (c .before .before .before .before .before .before .before .before .before .before .before .before .before .before .args .calls)) (c .before .before .before .before .before .before .before .before .before .before .before .before .before .before .args .onkind) (c .before .before .before .before .before .before .before .before .before .before .before .before .before .before .args .extkind) _ (sym (c .before .before .before .before .before .before .may-run .ensures) ∙ not-false _ (c .before .before .before .before .before .if2 .left))
+run-from-requires : tie.Need-run-from-requires
+run-from-requires c κs = search needs
 
 same-length : tie.Need-same-length
 same-length c = search needs
 
-returns-3 : tie.Need-returns-3
-unfolding fromOf
-returns-3 c = let x = c .before .before .before .before .before .before .before .before .before .before .before .before .before .before .before .before .before .args in
-    let m = lent (now (x .on)) (x .onbase) (now (x .ext)) (x .extbase) in
-    let f : Price → Price → ℕ → Bench → Ran = λ (o e : Price) (h : ℕ) (b : Bench). ranFrom m (record { onchip = o; external = e }) h b (now (x .calls)) (now (x .out)) in
-    c .before .before .run-all .ensures
-    ∙ ap₂ (λ (o e : Price). f o e (c .before .before .before .before .word-at .result) (c .before .before .before .before .before .bench-at .result)) (c .before .before .before .before .before .before .before .price-of .ensures) (c .before .before .before .before .before .before .price-of2 .ensures)
-    ∙ ap₂ (f (priceOf (x .onkind) (x .ona) (x .onb)) (priceOf (x .extkind) (x .exta) (x .extb))) (c .before .before .before .before .word-at .ensures) (c .before .before .before .before .before .bench-at .ensures)
-    ∙ sym (pick-yes _ _ _ (and-yes _ _ (sym (c .before .before .before .before .before .before .before .before .before .before .before .state-ok .ensures) ∙ not-false _ (c .before .before .before .before .before .before .before .before .before .before .if1 .left)) ∙ (sym (c .before .before .before .before .before .before .before .before .before .may-run .ensures) ∙ not-false _ (c .before .before .before .before .before .before .before .before .if2 .left))))
+returns-2 : tie.Need-returns-2
+returns-2 c = let x = c .before .before .before .before .before .before .before .before .before .before .before .before .before .before .args in
+    let f : Prices → ℕ → Bench → Ran = λ (p : Prices) (h : ℕ) (b : Bench). runWith (lent (now (x .on)) (x .onbase) (now (x .ext)) (x .extbase)) p (x .onkind) (x .extkind) h b (now (x .calls)) (now (x .out)) in
+    c .before .before .run-from .ensures ∙ ap (λ (p : Prices). f p (c .before .before .before .before .lock-at .result) (c .before .before .before .before .before .bench-at .result)) (c .before .before .before .before .before .before .prices-of .ensures)
+    ∙ ap₂ (f (pricesOf (x .onkind) (x .ona) (x .onb) (x .extkind) (x .exta) (x .extb))) (c .before .before .before .before .lock-at .ensures) (c .before .before .before .before .before .bench-at .ensures)
+    ∙ from-state (lent (now (x .on)) (x .onbase) (now (x .ext)) (x .extbase)) _ (x .onkind) (x .extkind) (now (x .state)) (x .total) (x .misses) (now (x .calls)) (now (x .out)) (sym (c .before .before .before .before .before .before .before .before .state-ok .ensures) ∙ not-false _ (c .before .before .before .before .before .before .before .if1 .left))
 
 pub nx-from-spec : {M : Type 1} → statement M
 nx-from-spec =
@@ -61,12 +49,9 @@ nx-from-spec =
     (tie.spec
     state-ok-requires
     returns
-    may-run-requires
-    returns-2
-    price-of-requires
-    price-of-requires-2
+    prices-of-requires
     bench-at-requires
-    word-at-requires
-    run-all-requires
+    lock-at-requires
+    run-from-requires
     same-length
-    returns-3)
+    returns-2)

@@ -1,4 +1,4 @@
-use Rattle.capi.specs.Run.{offsetOf, placeNumber}
+use Rattle.capi.specs.Boundary.{offsetOf, placeNumber}
 use Rattle.memory.specs.declared.Place.{Place}
 use mathlib.Core.Path.{sym, ap, subst}
 use native.Mathlib.Omega.{arith}

@@ -1,7 +1,7 @@
 use Rattle.decision.proofs.Joins.{decided-off, decided-on, decided-miss, decided-walk}
 use Rattle.decision.specs.Decisions.{byWalk}
-use Rattle.bank.specs.declared.Matched.the-variants.{At}
-use Rattle.bank.proofs.Searches.{found-lt}
+use Rattle.lanes.specs.declared.Matched.the-variants.{At}
+use Rattle.lanes.proofs.Searches.{found-lt}
 use mathlib.Core.Path.{sym, _∙_, ap}
 use borrow.Author.Tests.{not-true, not-false}
 use denote.Ref.{now}

@@ -1,6 +1,6 @@
 use Rattle.decision.proofs.Joins.{prefetch-on}
 use Rattle.decision.specs.Prefetches.{prefetchFound}
-use Rattle.bank.specs.declared.Matched.the-variants.{At, Nothing}
+use Rattle.lanes.specs.declared.Matched.the-variants.{At, Nothing}
 use Rattle.walk.specs.declared.Walked.{Walked}
 use mathlib.Core.Path.{sym, _∙_, ap}
 use borrow.Author.Needs.{needs}

@@ -1,5 +1,5 @@
 use mir.Facts.{toZ-ofZ}
-use Rattle.walk.specs.Walk.{distanceOf}
+use Rattle.descriptors.specs.Descriptors.{distanceOf}
 use Rattle.decision.specs.Prefetches.{shiftBy}
 use Rattle.decision.specs.declared.Shift.the-variants.{Distance}
 use Rattle.page.specs.declared.PhysicalAddress.{PhysicalAddress}

@@ -3,29 +3,11 @@ use borrow.Author.Needs.{needs}
 use Rattle.records.proofs.mapping_of.Statement.{statement}
 use Rattle.records.proofs.mapping_of.Tie as tie
 
-sub-word-of : tie.Need-sub-word-of
-sub-word-of c = search needs
+word-at-requires : tie.Need-word-at-requires
+word-at-requires c κs = search needs
 
-part-word-of-start : tie.Need-part-word-of-start
-part-word-of-start c = search needs
-
-part-word-of-end : tie.Need-part-word-of-end
-part-word-of-end c = search needs
-
-word-of-requires : tie.Need-word-of-requires
-word-of-requires c κs = search needs
-
-sub-word-of-2 : tie.Need-sub-word-of-2
-sub-word-of-2 c = search needs
-
-part-word-of-start-2 : tie.Need-part-word-of-start-2
-part-word-of-start-2 c = search needs
-
-part-word-of-end-2 : tie.Need-part-word-of-end-2
-part-word-of-end-2 c = search needs
-
-word-of-requires-2 : tie.Need-word-of-requires-2
-word-of-requires-2 c κs = search needs
+word-at-requires-2 : tie.Need-word-at-requires-2
+word-at-requires-2 c κs = search needs
 
 shared-slice-read-wide : tie.Need-shared-slice-read-wide
 shared-slice-read-wide c = search needs
@@ -44,20 +26,14 @@ wide-requires-2 c κs = search needs
 
 returns : tie.Need-returns
 unfolding mappingOf
-returns c = cc
+returns c = rw (c .wide2 .ensures, c .before .before .kind-of .ensures, c .before .before .before .wide .ensures, c .before .before .before .before .before .word-at2 .ensures, c .before .before .before .before .before .before .word-at .ensures)
 
 pub mapping-of-spec : {M : Type 1} → statement M
 mapping-of-spec =
     tie.close
     (tie.spec
-    sub-word-of
-    part-word-of-start
-    part-word-of-end
-    word-of-requires
-    sub-word-of-2
-    part-word-of-start-2
-    part-word-of-end-2
-    word-of-requires-2
+    word-at-requires
+    word-at-requires-2
     shared-slice-read-wide
     wide-requires
     kind-of-requires

@@ -1,4 +1,5 @@
-use Rattle.records.specs.Checks.{megabytes, proper, wellFormed}
+use Rattle.page.specs.Words.{megabytes}
+use Rattle.records.specs.Checks.{proper, wellFormed}
 use mathlib.Core.Path.{sym, _∙_, ap}
 use Rattle.page.proofs.Picks.{and-yes, and-no}
 use borrow.Author.Tests.{eq-eqb, ne-eqb, le-leb, lt-leb, lt-ltb, le-ltb, not-true, not-false}

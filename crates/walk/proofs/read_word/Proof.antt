@@ -1,6 +1,6 @@
-use mathlib.Core.Path.{ap₂, sym, _∙_, ap}
-use Rattle.walk.specs.Walk.{readAt, readWithin}
 use Rattle.memory.specs.Memory.{wordOf}
+use Rattle.walk.specs.Walk.{readAt, readWithin}
+use mathlib.Core.Path.{ap₂, sym, _∙_, ap}
 use borrow.Author.Needs.{needs}
 use Rattle.walk.proofs.read_word.Statement.{statement}
 use Rattle.walk.proofs.read_word.Tie as tie
@@ -8,51 +8,43 @@ use Rattle.walk.proofs.read_word.Tie as tie
 locate-within-requires : tie.Need-locate-within-requires
 locate-within-requires c κs = search needs
 
-enum-known-place : tie.Need-enum-known-place
-enum-known-place c = search needs
-
 fetch-within-requires : tie.Need-fetch-within-requires
 fetch-within-requires c κs = search needs
 
 word-of-requires : tie.Need-word-of-requires
 word-of-requires c κs = search needs
 
+enum-known-place : tie.Need-enum-known-place
+enum-known-place c = search needs
+
 enum-known-place-2 : tie.Need-enum-known-place-2
 enum-known-place-2 c = search needs
-
-fetch-within-requires-2 : tie.Need-fetch-within-requires-2
-fetch-within-requires-2 c κs = search needs
-
-word-of-requires-2 : tie.Need-word-of-requires-2
-word-of-requires-2 c κs = search needs
 
 enum-told : tie.Need-enum-told
 enum-told c = search needs
 
 returns : tie.Need-returns
 unfolding readWithin
-returns c = ap₂ readAt (c .word-of .ensures ∙ ap wordOf (c .before .fetch-within .ensures .0)) (sym (c .before .before .before .place .given .1) ∙ c .before .before .before .before .before .locate-within .ensures)
+returns c = ap₂ readAt (c .before .before .before .word-of .ensures ∙ ap wordOf (c .before .before .before .before .fetch-within .ensures .0)) (sym (c .before .place .given .1) ∙ c .before .before .before .before .before .locate-within .ensures)
 
 returns-2 : tie.Need-returns-2
 unfolding readWithin
-returns-2 c = ap₂ readAt (c .word-of2 .ensures ∙ ap wordOf (c .before .fetch-within2 .ensures .0)) (sym (c .before .before .before .place2 .given .1) ∙ c .before .before .before .before .before .locate-within .ensures)
+returns-2 c = ap₂ readAt (c .before .before .before .word-of .ensures ∙ ap wordOf (c .before .before .before .before .fetch-within .ensures .0)) (sym (c .before .place2 .given .1) ∙ c .before .before .before .before .before .locate-within .ensures)
 
 returns-3 : tie.Need-returns-3
 unfolding readWithin
-returns-3 c = ap (readAt _) (sym (c .enum-told .given .1) ∙ c .before .before .locate-within .ensures)
+returns-3 c = ap (readAt _) (sym (c .enum-told .given .1) ∙ c .before .before .before .before .locate-within .ensures)
 
 pub read-word-spec : {M : Type 1} → statement M
 read-word-spec =
     tie.close
     (tie.spec
     locate-within-requires
-    enum-known-place
     fetch-within-requires
     word-of-requires
-    enum-known-place-2
-    fetch-within-requires-2
-    word-of-requires-2
-    enum-told
+    enum-known-place
     returns
+    enum-known-place-2
     returns-2
+    enum-told
     returns-3)

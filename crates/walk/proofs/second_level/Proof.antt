@@ -1,5 +1,5 @@
 use Rattle.memory.specs.declared.Reads.the-variants.{Two}
-use Rattle.walk.specs.declared.Found.{Found}
+use Rattle.descriptors.specs.declared.Found.{Found}
 use Rattle.walk.specs.Walk.{afterSecond, sourceAt}
 use mathlib.Core.Path.{sym, _∙_, ap}
 use borrow.Author.Needs.{needs}
@@ -12,6 +12,9 @@ read-word-requires c κs = search needs
 enum-told : tie.Need-enum-told
 enum-told c = search needs
 
+missing-requires : tie.Need-missing-requires
+missing-requires c κs = search needs
+
 enum-known-read : tie.Need-enum-known-read
 enum-known-read c = search needs
 
@@ -19,8 +22,8 @@ decode-second-requires : tie.Need-decode-second-requires
 decode-second-requires c κs = search needs
 
 returns : tie.Need-returns
-returns c = let a = c .before .before .before .before .before .args in
-    ap (afterSecond (a .table) (a .first) (a .at .0)) (sym (c .enum-told .given .1) ∙ c .before .before .read-word .ensures)
+returns c = let a = c .before .before .before .before .before .before .args in
+    c .missing .ensures ∙ ap (afterSecond (a .table) (a .first) (a .at .0)) (sym (c .before .enum-told .given .1) ∙ c .before .before .before .read-word .ensures)
 
 returns-2 : tie.Need-returns-2
 returns-2 c = let a = c .before .before .before .before .before .before .before .args in
@@ -33,7 +36,8 @@ second-level-spec =
     (tie.spec
     read-word-requires
     enum-told
+    missing-requires
+    returns
     enum-known-read
     decode-second-requires
-    returns
     returns-2)

@@ -8,7 +8,7 @@ smooth-requires c κs = search needs
 
 returns : tie.Need-returns
 unfolding attemptPosted
-returns c = cc
+returns c = rw (c .smooth .ensures)
 
 pub post-attempt-spec : {M : Type 1} → statement M
 post-attempt-spec = tie.close (tie.spec smooth-requires returns)

@@ -5,11 +5,11 @@ use Rattle.unit.proofs.Device.tend.Tie as tie
 tend-bank-requires : tie.Need-tend-bank-requires
 tend-bank-requires c κs = search needs
 
-with-bank-requires : tie.Need-with-bank-requires
-with-bank-requires c κs = search needs
+done-requires : tie.Need-done-requires
+done-requires c κs = search needs
 
 returns : tie.Need-returns
-returns c = rw (c .with-bank .ensures, c .before .tend-bank .ensures)
+returns c = rw (c .done .ensures, c .before .tend-bank .ensures)
 
 pub tend-spec : {M : Type 1} → statement M
-tend-spec = tie.close (tie.spec tend-bank-requires with-bank-requires returns)
+tend-spec = tie.close (tie.spec tend-bank-requires done-requires returns)

@@ -1,0 +1,108 @@
+// What the words of the tables say, the physical address that a page gives, and the distance that a shift report gives.
+use page::Kind;
+use page::PhysicalAddress;
+use page::VirtualAddress;
+ghost use mathlib.Core.Path.{_≡_};
+ghost use Rattle.descriptors.specs.Descriptors.{firstOf, pageOf, secondOf, physicalOf, distanceOf};
+
+// A page that a descriptor gives.
+pub struct Page {
+    pub kind: Kind,
+    pub frame: PhysicalAddress,
+    pub access: u32,
+}
+
+// A first-level word.
+pub enum First {
+    Fault,
+    Coarse(PhysicalAddress),
+    Whole(Page),
+    Fine(PhysicalAddress),
+}
+
+// The two kinds of second-level table.
+pub enum Table {
+    Coarse,
+    Fine,
+}
+
+// What a walk finds.
+pub enum Found {
+    Page(Page),
+    NoPage,
+    Missing,
+}
+
+// A page's upper bits and an address's lower ones.
+pub fn physical(p: Page, va: VirtualAddress) -> PhysicalAddress
+    ensures { λ r. ⌜ r ≡ physicalOf p va ⌝ }
+{
+    let kind = p.kind;
+    let frame = p.frame;
+    PhysicalAddress(page::join(kind, frame.0, va.0))
+}
+
+// Physical minus virtual.
+pub fn distance(p: PhysicalAddress, v: VirtualAddress) -> i64
+    ensures { λ r. ⌜ r ≡ distanceOf p v ⌝ }
+{
+    p.0 as i64 - v.0 as i64
+}
+
+// What a first-level word says.
+pub fn decode_first(w: u32) -> First
+    ensures { λ r. ⌜ r ≡ firstOf w ⌝ }
+{
+    let bits = w % 4;
+    if bits == 0 {
+        return First::Fault;
+    }
+    if bits == 1 {
+        return First::Coarse(PhysicalAddress(w / 1024 * 1024));
+    }
+    if bits == 2 {
+        let frame = page::page_start(Kind::Section, w);
+        return First::Whole(Page {
+            kind: Kind::Section,
+            frame: PhysicalAddress(frame),
+            access: w / 1024 % 4,
+        });
+    }
+    First::Fine(PhysicalAddress(w / 4096 * 4096))
+}
+
+// The page of a second-level word.
+fn page_of(kind: Kind, w: u32) -> Page
+    ensures { λ r. ⌜ r ≡ pageOf kind w ⌝ }
+{
+    let frame = page::page_start(kind, w);
+    Page {
+        kind: kind,
+        frame: PhysicalAddress(frame),
+        access: w / 16 % 4,
+    }
+}
+
+// What a second-level word says.
+pub fn decode_second(table: Table, w: u32) -> Found
+    ensures { λ r. ⌜ r ≡ secondOf table w ⌝ }
+{
+    let bits = w % 4;
+    match table {
+        Table::Coarse => {
+            if bits == 1 {
+                return Found::Page(page_of(Kind::Large, w));
+            }
+            if bits == 2 {
+                return Found::Page(page_of(Kind::Small, w));
+            }
+            Found::NoPage
+        }
+        Table::Fine => {
+            if bits == 3 {
+                return Found::Page(page_of(Kind::Tiny, w));
+            }
+            Found::NoPage
+        }
+    }
+}

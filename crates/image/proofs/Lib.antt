@@ -1,0 +1,3 @@
+pub mod Splices
+pub mod Filling
+pub mod Whole

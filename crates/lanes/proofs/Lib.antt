@@ -1,0 +1,4 @@
+pub mod Loops
+pub mod Searches
+pub mod Ranges
+pub mod Flushes

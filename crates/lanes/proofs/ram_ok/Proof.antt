@@ -1,0 +1,11 @@
+use Rattle.page.proofs.Picks.{and-yes}
+use borrow.Author.Tests.{lt-ltb}
+use mathlib.Core.Path.{sym}
+use Rattle.lanes.proofs.ram_ok.Statement.{statement}
+use Rattle.lanes.proofs.ram_ok.Tie as tie
+
+returns : tie.Need-returns
+returns c = sym (and-yes _ _ (lt-ltb _ _ (c .fits .w .fits)))
+
+pub ram-ok-spec : {M : Type 1} → statement M
+ram-ok-spec = tie.close (tie.spec returns)

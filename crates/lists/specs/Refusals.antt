@@ -1,0 +1,50 @@
+-- Which records of a list are refused (01, "The builder"; "When the unit says no", 10 and 11).
+use Rattle.page.specs.Ground.{ℕ, zero, suc, _+_, _/_, Bool, false, not, List, [], _∷_, leb, length}
+use Rattle.page.specs.Pick.{pick, _or_}
+use Rattle.records.specs.declared.Mapping.{Mapping}
+use Rattle.records.specs.Mappings.{recordSize, recordAt, mappingOf, mappingsFrom, overlap}
+use Rattle.records.specs.Checks.{wellFormed}
+use Rattle.lists.specs.declared.Checked.{Checked}
+use Rattle.lists.specs.declared.Checked.the-variants.{Fine, BadRecord, Overlap}
+
+-- the most records of a list
+abbrev pub most : ℕ
+most = 256
+
+-- 10: record i is past the limit, short or bad
+unfoldable pub bad : ℕ → List ℕ → ℕ → Bool
+bad n rs i = leb most i or not (wellFormed n (recordAt rs i))
+
+-- a mapping of the list overlaps m
+unfoldable pub clashes : List Mapping → Mapping → Bool
+clashes [] m = false
+clashes (x ∷ xs) m = overlap x m or clashes xs m
+
+-- 11: record i overlaps an earlier one
+unfoldable pub overlapping : List ℕ → ℕ → Bool
+overlapping rs i = clashes (mappingsFrom rs 0 i) (mappingOf (recordAt rs i))
+
+-- the first refusal among the k records from record i on
+unfoldable pub checkedFrom : ℕ → List ℕ → ℕ → ℕ → Checked
+checkedFrom n rs i zero = Fine
+checkedFrom n rs i (suc k) =
+    pick (bad n rs i) (BadRecord i) (pick (overlapping rs i) (Overlap i) (checkedFrom n rs (suc i) k))
+
+-- how many records the input begins
+abbrev pub begun : List ℕ → ℕ
+begun rs = (length rs + 11) / recordSize
+
+-- the first refusal, record by record
+unfoldable pub checked : ℕ → List ℕ → Checked
+checked n rs = checkedFrom n rs 0 (begun rs)
+
+-- the paper's number of a check, 0 where nothing is refused, and the index beside it
+abbrev pub checkedNumber : Checked → ℕ
+checkedNumber Fine = 0
+checkedNumber (BadRecord i) = 10
+checkedNumber (Overlap i) = 11
+
+abbrev pub checkedIndex : Checked → ℕ
+checkedIndex Fine = 0
+checkedIndex (BadRecord i) = i
+checkedIndex (Overlap i) = i

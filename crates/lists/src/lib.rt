@@ -1,0 +1,130 @@
+// Lists of records: which of them are refused, which record holds an address, and what a list means there.
+use page::Access;
+use page::PhysicalAddress;
+use page::VirtualAddress;
+use records::Mapping;
+ghost use mathlib.Core.Path.{_≡_};
+ghost use Prim.Native.Nat.{_+_, _*_, _≤_};
+ghost use lib.ListN.{length};
+ghost use Rattle.records.specs.Mappings.{recordSize, mappingsFrom, mappings};
+ghost use Rattle.page.specs.Words.{megabytes};
+ghost use Rattle.lists.specs.Refusals.{bad, clashes, overlapping, checked};
+ghost use Rattle.lists.specs.Meanings.{holder, heldMeaning, meaning};
+
+// The most records of a list.
+const MOST: usize = 256;
+
+// The mapping that holds an address, if one does.
+pub enum Held {
+    By(Mapping),
+    Nobody,
+}
+
+// What the check of a list finds: nothing, or the first refusal with its record's index.
+pub enum Checked {
+    Fine,
+    BadRecord(usize),
+    Overlap(usize),
+}
+
+// What a list means at an address: a physical byte, or which fault.
+pub enum Meaning {
+    Byte(PhysicalAddress),
+    Permission,
+    Translation,
+}
+
+// Whether record i is past the limit, short or bad.
+fn is_bad(records: &[u8], i: usize) -> bool
+    requires { ⌜ recordSize * i ≤ length (now records) ⌝ }
+    ensures { λ r. ⌜ r ≡ bad megabytes (now (records .entry)) i ⌝ }
+{
+    if MOST <= i {
+        return true;
+    }
+    let at = records::SIZE * i;
+    if records.len() - at < records::SIZE {
+        return true;
+    }
+    !records::well_formed(&records[at..at + records::SIZE])
+}
+
+// Whether one of the first n records overlaps a mapping.
+fn clashes_with(records: &[u8], n: usize, m: Mapping) -> bool
+    requires { ⌜ recordSize * n ≤ length (now records) ⌝ }
+    ensures { λ r. ⌜ r ≡ clashes (mappingsFrom (now (records .entry)) 0 n) m ⌝ }
+{
+    let mut j = 0;
+    while j < n {
+        if records::overlaps(records::mapping_at(records, j), m) {
+            return true;
+        }
+        j += 1;
+    }
+    false
+}
+
+// Whether record i overlaps an earlier one.
+fn is_overlapping(records: &[u8], i: usize) -> bool
+    requires { ⌜ recordSize * i + recordSize ≤ length (now records) ⌝ }
+    ensures { λ r. ⌜ r ≡ overlapping (now (records .entry)) i ⌝ }
+{
+    clashes_with(records, i, records::mapping_at(records, i))
+}
+
+// The first refusal of a list.
+pub fn check(records: &[u8]) -> Checked
+    ensures { λ r. ⌜ r ≡ checked megabytes (now (records .entry)) ⌝ }
+{
+    let len = records.len();
+    let mut i = 0;
+    while records::SIZE * i < len {
+        let next = i + 1;
+        if is_bad(records, i) {
+            return Checked::BadRecord(i);
+        }
+        if is_overlapping(records, i) {
+            return Checked::Overlap(i);
+        }
+        i = next;
+    }
+    Checked::Fine
+}
+
+// The first mapping whose region has an address.
+pub fn holder(records: &[u8], va: VirtualAddress) -> Held
+    ensures { λ r. ⌜ r ≡ holder (mappings (now (records .entry))) va ⌝ }
+{
+    let n = records::count(records);
+    let mut j = 0;
+    while j < n {
+        let m = records::mapping_at(records, j);
+        if records::holds(m, va) {
+            return Held::By(m);
+        }
+        j += 1;
+    }
+    Held::Nobody
+}
+
+// What the mapping that holds an address, if one does, means there.
+fn held_meaning(h: Held, va: VirtualAddress, a: Access) -> Meaning
+    ensures { λ r. ⌜ r ≡ heldMeaning h va a ⌝ }
+{
+    match h {
+        Held::By(m) => {
+            if page::permitted(m.access, a) {
+                return Meaning::Byte(records::byte_of(m, va));
+            }
+            Meaning::Permission
+        }
+        Held::Nobody => Meaning::Translation,
+    }
+}
+
+// What a list means at an address.
+pub fn means(records: &[u8], va: VirtualAddress, a: Access) -> Meaning
+    ensures { λ r. ⌜ r ≡ meaning (mappings (now (records .entry))) va a ⌝ }
+{
+    held_meaning(holder(records, va), va, a)
+}

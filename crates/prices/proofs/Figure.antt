@@ -1,0 +1,19 @@
+-- A word's price is one of its price's figures, so what every figure passes, it passes. Assumes nothing.
+use mathlib.Core.Path.{_≡_}
+use mathlib.Core.Bool.{Bool, true}
+use Prim.Native.Nat.{ℕ}
+use lib.Dec.{eqb}
+use lib.Ieee.{Float}
+use Rattle.page.proofs.Picks.{pick-by, and-left, and-right}
+use Rattle.prices.specs.Types.{Price, Flat, Row, LastRow, Never, At, Side}
+use Rattle.prices.specs.Prices.{every, rowPrice, wordPrice}
+
+row-figure : (test : Float → Bool) (same fresh : Float) (last : LastRow) (row : ℕ) → test same ≡ true → test fresh ≡ true → test (rowPrice same fresh last row) ≡ true
+unfolding rowPrice
+row-figure test same fresh Never row h k = k
+row-figure test same fresh (At last) row h k = pick-by (λ x. test x ≡ true) (eqb last row) same fresh (λ _. h) (λ _. k)
+
+pub charged-figure : (test : Float → Bool) (p : Price) (side : Side) (row : ℕ) → every test p ≡ true → test (wordPrice p side row) ≡ true
+unfolding every wordPrice
+charged-figure test (Flat x) side row h = h
+charged-figure test (Row same fresh) side row h = row-figure test same fresh (side .last) row (and-left _ _ h) (and-right _ _ h)

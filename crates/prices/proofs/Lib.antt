@@ -1,0 +1,4 @@
+pub mod Values
+pub mod Range
+pub mod Figure
+pub mod Rows

@@ -1,0 +1,42 @@
+-- What a run writes and answers.
+use Rattle.page.specs.Ground.{ℕ, _+_, _*_, Bool, List, [], _∷_, _++_, leb, length}
+use Rattle.page.specs.Pick.{pick, _and_}
+use Rattle.memory.specs.Memory.{Lent}
+use Rattle.prices.specs.declared.Prices.{Prices}
+use Rattle.calls.specs.Records.{callCount, callsIn, allGood}
+use Rattle.calls.specs.declared.Call.{Call}
+use Rattle.session.specs.Bench.{stepped}
+use Rattle.session.specs.declared.Bench.{Bench}
+use Rattle.wire.specs.Words.{placed}
+use Rattle.answers.specs.Answers.{answerSize, saidWords}
+use Rattle.state.specs.State.{stateSize, stateWords}
+
+-- the bytes that a run writes
+abbrev pub runSize : List ℕ → ℕ
+runSize calls = answerSize * callCount calls + stateSize
+
+-- a run is answered: prices of a kind, calls as said, and room
+unfoldable pub mayRun : List ℕ → ℕ → ℕ → ℕ → Bool
+mayRun calls onkind extkind room = leb onkind 1 and leb extkind 1 and allGood calls and leb (runSize calls) room
+
+-- what is written: an answer for each call, then the state
+unfoldable pub sessionWords : Lent → Prices → ℕ → Bench → List Call → List ℕ
+sessionWords m p handed b [] = stateWords handed b
+sessionWords m p handed b (c ∷ cs) = saidWords (stepped m p b c .said) ++ sessionWords m p handed (stepped m p b c .bench) cs
+
+-- a number and the bytes beside it
+pub record Ran : Type 0 where
+  pub answer : ℕ
+  pub bytes : List ℕ
+
+abbrev pub ran : ℕ → List ℕ → Ran
+ran n l = record { answer = n; bytes = l }
+
+-- a run from a bench
+abbrev pub ranFrom : Lent → Prices → ℕ → Bench → List ℕ → List ℕ → Ran
+ranFrom m p handed b calls out = ran (runSize calls) (placed out 0 (sessionWords m p handed b (callsIn calls)))
+
+-- the same where it is answered, 0 and nothing written where it is not
+unfoldable pub runWith : Lent → Prices → ℕ → ℕ → ℕ → Bench → List ℕ → List ℕ → Ran
+runWith m p onkind extkind handed b calls out =
+    pick (mayRun calls onkind extkind (length out)) (ranFrom m p handed b calls out) (ran 0 out)

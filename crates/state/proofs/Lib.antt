@@ -1,0 +1,4 @@
+pub mod Figures
+pub mod Lengths
+pub mod Turns
+pub mod Parts

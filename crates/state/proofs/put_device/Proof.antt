@@ -1,0 +1,69 @@
+use mathlib.Core.List.{List}
+use Rattle.wire.specs.Words.{written}
+use Rattle.state.specs.State.{registerWords, slotWords, pendingWords, lockWord}
+use Rattle.state.proofs.Lengths.{slots-length, pending-length}
+use Rattle.state.proofs.Parts.{three}
+use mathlib.Core.Path.{refl, _∙_, ap}
+use denote.Ref.{now}
+use Prim.Native.Nat.{ℕ, _+_}
+use borrow.Author.Needs.{needs}
+use Rattle.state.proofs.put_device.Statement.{statement}
+use Rattle.state.proofs.put_device.Tie as tie
+
+lock-word-requires : tie.Need-lock-word-requires
+lock-word-requires c κs = search needs
+
+register-words-requires : tie.Need-register-words-requires
+register-words-requires c κs = search needs
+
+pending-words-requires : tie.Need-pending-words-requires
+pending-words-requires c κs = search needs
+
+slice-aggregate-put : tie.Need-slice-aggregate-put
+slice-aggregate-put c = search needs
+
+put-requires : tie.Need-put-requires
+put-requires c κs = search needs
+
+add-put-slots : tie.Need-add-put-slots
+add-put-slots c = search needs
+
+put-slots-requires : tie.Need-put-slots-requires
+put-slots-requires c κs = search needs
+
+add-put : tie.Need-add-put
+add-put c = search needs
+
+slice-aggregate-put-2 : tie.Need-slice-aggregate-put-2
+slice-aggregate-put-2 c = search needs
+
+put-requires-2 : tie.Need-put-requires-2
+put-requires-2 c κs = search needs
+
+same-length : tie.Need-same-length
+same-length c = search needs
+
+returns : tie.Need-returns
+returns c = let x = c .before .before .before .before .before .before .before .before .before .before .before .before .before .before .before .before .before .before .before .before .before .before .args in let d = x .t3 in let l = now (x .out) in
+    three l (c .before .before .before .before .before .before .before .before .before .before .before .before .before .before .put .last .0) (c .before .before .before .before .before .before .before .put-slots .last .0) _ (registerWords (d .registers) (lockWord (x .handed) (d .bank .lock) (d .bank .victim))) (slotWords (d .bank .cam) (d .bank .ram) 0 32) (pendingWords (d .pending)) (x .at)
+    refl (slots-length (d .bank .cam) (d .bank .ram) 0 32) (pending-length (d .pending)) (c .before .before .before .before .before .before .before .before .before .before .before .before .before .before .before .before .before .before .before .before .before .before .pre) (c .before .before .before .before .before .before .before .before .before .before .before .before .before .before .put .kept .0) (c .before .before .before .before .before .before .before .put-slots .kept .0)
+    (c .before .before .before .before .before .before .before .before .before .before .before .before .before .before .put .ensures ∙ ap (λ (ws : List ℕ). written l (x .at) ws) (c .before .before .before .before .before .before .before .before .before .before .before .before .before .before .before .before .before .before .register-words .ensures ∙ ap (λ (w : ℕ). registerWords (d .registers) w) (c .before .before .before .before .before .before .before .before .before .before .before .before .before .before .before .before .before .before .before .lock-word .ensures)))
+    (c .before .before .before .before .before .before .before .put-slots .ensures)
+    (c .before .before .put2 .ensures ∙ ap (λ (ws : List ℕ). written (c .before .before .before .before .before .before .before .put-slots .last .0) (x .at + 284) ws) (c .before .before .before .before .before .before .before .before .before .before .before .before .before .before .before .before .before .pending-words .ensures))
+
+pub put-device-spec : {M : Type 1} → statement M
+put-device-spec =
+    tie.close
+    (tie.spec
+    lock-word-requires
+    register-words-requires
+    pending-words-requires
+    slice-aggregate-put
+    put-requires
+    add-put-slots
+    put-slots-requires
+    add-put
+    slice-aggregate-put-2
+    put-requires-2
+    same-length
+    returns)

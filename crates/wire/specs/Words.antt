@@ -1,0 +1,40 @@
+-- Words and bytes in a buffer; all numbers are little-endian.
+use Rattle.page.specs.Ground.{ℕ, _+_, _*_, _/_, _%_, _^_, List, [], _∷_, _++_, leb, length, take, drop}
+use Rattle.page.specs.Pick.{pick}
+use Rattle.memory.specs.Memory.{wordOf}
+use Rattle.image.specs.Image.{wordBytes}
+
+-- the bytes of words, one behind the other
+unfoldable pub bytesOf : List ℕ → List ℕ
+bytesOf [] = []
+bytesOf (w ∷ ws) = wordBytes w ++ bytesOf ws
+
+-- words in a buffer from an offset on, the other bytes as they were
+unfoldable pub placed : List ℕ → ℕ → List ℕ → List ℕ
+placed l at ws = take at l ++ (bytesOf ws ++ drop (at + 4 * length ws) l)
+
+-- the same where there is room for them, nothing where there is not
+unfoldable pub written : List ℕ → ℕ → List ℕ → List ℕ
+written l at ws = pick (leb (at + 4 * length ws) (length l)) (placed l at ws) l
+
+-- a number of 8 bytes as two words
+abbrev pub wide : ℕ → List ℕ
+wide x = x % 2 ^ 32 ∷ x / 2 ^ 32 ∷ []
+
+-- two numbers of 16 bits as they lie in a word
+abbrev pub halves : ℕ → ℕ → ℕ
+halves a b = a + 65536 * b
+
+-- a word whose high half lies first
+abbrev pub swapped : ℕ → ℕ
+swapped w = halves (w / 65536) (w % 65536)
+
+-- the word at an offset, and its two halves
+abbrev pub wordAt : List ℕ → ℕ → ℕ
+wordAt l at = wordOf (take 4 (drop at l))
+
+abbrev pub lowAt : List ℕ → ℕ → ℕ
+lowAt l at = wordAt l at % 65536
+
+abbrev pub highAt : List ℕ → ℕ → ℕ
+highAt l at = wordAt l at / 65536

@@ -1,0 +1,97 @@
+// Numbers as little-endian bytes: words put into a buffer and read from one.
+ghost use mathlib.Core.Path.{_≡_};
+ghost use mathlib.Core.List.{[], _∷_};
+ghost use Prim.Native.Nat.{_+_, _*_, _≤_};
+ghost use lib.Dec.{leb};
+ghost use lib.ListN.{length, getD};
+ghost use Rattle.wire.specs.Words.{placed, written, halves, swapped, wordAt, lowAt, highAt};
+
+// Two numbers of 16 bits, as they lie one behind the other.
+pub fn halves(a: u16, b: u16) -> u32
+    ensures { λ r. ⌜ r ≡ halves a b ⌝ }
+{
+    a as u32 + 65536 * (b as u32)
+}
+
+// A slot's word as it lies in register form, the high half first.
+pub fn swapped(w: u32) -> u32
+    ensures { λ r. ⌜ r ≡ swapped w ⌝ }
+{
+    w / 65536 + 65536 * (w % 65536)
+}
+
+// Whether as many words fit in a buffer from an offset on.
+pub fn room(len: usize, at: usize, n: usize) -> bool
+    ensures { λ r. ⌜ r ≡ leb (at + 4 * n) len ⌝ }
+{
+    if at > len {
+        return false;
+    }
+    n <= (len - at) / 4
+}
+
+// One word, at an offset.
+fn put_word(out: &mut [u8], at: usize, w: u32)
+    requires { ⌜ at + 4 ≤ length (now out) ⌝ }
+    ensures { λ _. ⌜ now (out .exit) ≡ placed (now (out .entry)) at (w ∷ []) ⌝ }
+{
+    out[at] = (w % 256) as u8;
+    out[at + 1] = (w / 256 % 256) as u8;
+    out[at + 2] = (w / 65536 % 256) as u8;
+    out[at + 3] = (w / 16777216 % 256) as u8;
+}
+
+// Words that have room, from an offset on.
+fn put_all(out: &mut [u8], at: usize, words: &[u32])
+    requires { ⌜ at + 4 * length (now words) ≤ length (now out) ⌝ }
+    ensures { λ _. ⌜ now (out .exit) ≡ placed (now (out .entry)) at (now (words .entry)) ⌝ }
+{
+    let n = words.len();
+    let mut i: usize = 0;
+    while i < n {
+        put_word(out, at + 4 * i, words[i]);
+        i += 1;
+    }
+}
+
+// Words from an offset on, where they have room.
+pub fn put(out: &mut [u8], at: usize, words: &[u32])
+    ensures { λ _. ⌜ now (out .exit) ≡ written (now (out .entry)) at (now (words .entry)) ⌝ }
+{
+    if room(out.len(), at, words.len()) {
+        put_all(out, at, words);
+    }
+}
+
+// The byte at an offset, 0 where there is none.
+pub fn byte_at(s: &[u8], at: usize) -> u8
+    ensures { λ r. ⌜ r ≡ getD (now (s .entry)) at 0 ⌝ }
+{
+    if at < s.len() {
+        return s[at];
+    }
+    0
+}
+
+// The word at an offset, 0 where there are no four bytes.
+pub fn word_at(s: &[u8], at: usize) -> u32
+    ensures { λ r. ⌜ r ≡ wordAt (now (s .entry)) at ⌝ }
+{
+    if !room(s.len(), at, 1) {
+        return 0;
+    }
+    memory::word_of(&s[at..at + 4])
+}
+
+// The first and the second 16 bits of the word at an offset.
+pub fn low_at(s: &[u8], at: usize) -> u16
+    ensures { λ r. ⌜ r ≡ lowAt (now (s .entry)) at ⌝ }
+{
+    (word_at(s, at) % 65536) as u16
+}
+
+pub fn high_at(s: &[u8], at: usize) -> u16
+    ensures { λ r. ⌜ r ≡ highAt (now (s .entry)) at ⌝ }
+{
+    (word_at(s, at) / 65536) as u16
+}
