@@ -15,7 +15,6 @@ use records::Mapping;
 use registers::Answer;
 use registers::Fault;
 use unit::Device;
-use unit::Outcome;
 
 // A session under way.
 struct Bench {
@@ -78,29 +77,20 @@ fn main() {
 fn report<'a>(list: &[u8], on: &'a [u8], ext: &'a [u8], len: usize) {
     show::text(b"The list\n  virtual  physical  page     access\n");
     mappings(list);
-    size(len);
-    tables(on, ext);
-    show::text(b"\nThe session: a fresh unit, and calls made for examples/box.records\n");
-    show::text(b"  call            list says  unit answers          words  what it is\n");
-    total(session(fresh(), list, on, ext));
-}
-
-// The head of the tables.
-fn size(len: usize) {
     show::text(b"\nThe tables, ");
     decimal(len as u64);
     show::text(b" bytes at ");
     hex(BASE, 8);
     show::text(b"\n  megabyte  word      what it is\n");
-}
-
-// A session that has not begun.
-fn fresh() -> Bench {
-    Bench {
+    tables(on, ext);
+    show::text(b"\nThe session: a fresh unit, and calls made for examples/box.records\n");
+    show::text(b"  call            list says  unit answers          words  what it is\n");
+    let bench = Bench {
         device: Device::fresh(),
         bill: Bill::fresh(),
         meters: Meters::zero(),
-    }
+    };
+    total(session(bench, list, on, ext));
 }
 
 // The image's length, or 0 after the line that says a refusal.
@@ -215,23 +205,13 @@ fn session<'a>(b: Bench, list: &[u8], on: &'a [u8], ext: &'a [u8]) -> Bench {
     let mut i: usize = 0;
     while i < CALLS {
         let step = SESSION[i];
-        asked(list, what_of(step), value_of(step));
+        question(what_of(step), value_of(step));
+        says(list, what_of(step), value_of(step));
         bench = call(bench, on, ext, what_of(step), value_of(step));
         remark(remark_of(step));
         i += 1;
     }
     bench
-}
-
-// A call, and what the list says of it.
-fn asked(list: &[u8], what: u32, x: u32) {
-    question(what, x);
-    show::text(b"  ");
-    match what {
-        4 => meaning(lists::means(list, VirtualAddress(x), Access::Read)),
-        5 => meaning(lists::means(list, VirtualAddress(x), Access::Write)),
-        _ => show::text(b"-          "),
-    }
 }
 
 // What a call is.
@@ -268,6 +248,16 @@ fn named(label: &[u8], x: u32, width: usize) {
     hex(x, width);
 }
 
+// What the list says of a call: a physical byte or a fault for a request, else nothing.
+fn says(list: &[u8], what: u32, x: u32) {
+    show::text(b"  ");
+    match what {
+        4 => meaning(lists::means(list, VirtualAddress(x), Access::Read)),
+        5 => meaning(lists::means(list, VirtualAddress(x), Access::Write)),
+        _ => show::text(b"-          "),
+    }
+}
+
 // What a list means at an address, as text.
 fn meaning(m: Meaning) {
     match m {
@@ -282,21 +272,15 @@ fn meaning(m: Meaning) {
 
 // One call.
 fn call<'a>(b: Bench, on: &'a [u8], ext: &'a [u8], what: u32, x: u32) -> Bench {
+    let v = (x % 65536) as u16;
     match what {
+        1 => write(b, on, ext, 0x1C, v),
+        2 => write(b, on, ext, 0x20, v),
+        3 => write(b, on, ext, 0x08, v),
         4 => request(b, on, ext, x, Access::Read),
         5 => request(b, on, ext, x, Access::Write),
-        7 => drop(b),
-        _ => write(b, on, ext, offset_of(what), (x % 65536) as u16),
-    }
-}
-
-// The register that a call writes: base high, base low, control, else acknowledge.
-fn offset_of(what: u32) -> u32 {
-    match what {
-        1 => 0x1C,
-        2 => 0x20,
-        3 => 0x08,
-        _ => 0x18,
+        6 => write(b, on, ext, 0x18, v),
+        _ => drop(b),
     }
 }
 
@@ -315,29 +299,33 @@ fn prices() -> Prices {
 fn write<'a>(b: Bench, on: &'a [u8], ext: &'a [u8], offset: u32, v: u16) -> Bench {
     let device = b.device;
     let bill = b.bill;
-    after(
-        b.meters,
-        device.write(offset, v, on, 0, ext, BASE, prices(), bill),
-    )
+    let m = b.meters;
+    let o = device.write(offset, v, on, 0, ext, BASE, prices(), bill);
+    let answer = o.answer;
+    let next = o.device;
+    let paid = o.bill;
+    let tally = o.tally;
+    let counted = meters::after(m, tally);
+    tell(answer, m.words, counted.words);
+    Bench {
+        device: next,
+        bill: paid,
+        meters: counted,
+    }
 }
 
 // A request.
 fn request<'a>(b: Bench, on: &'a [u8], ext: &'a [u8], x: u32, a: Access) -> Bench {
     let device = b.device;
     let bill = b.bill;
-    after(
-        b.meters,
-        device.request(VirtualAddress(x), a, on, 0, ext, BASE, prices(), bill),
-    )
-}
-
-// The session after a call, which is told.
-fn after(m: Meters, o: Outcome) -> Bench {
-    let counted = meters::after(m, o.tally);
+    let m = b.meters;
+    let o = device.request(VirtualAddress(x), a, on, 0, ext, BASE, prices(), bill);
     let answer = o.answer;
-    tell(answer, m.words, counted.words);
     let next = o.device;
     let paid = o.bill;
+    let tally = o.tally;
+    let counted = meters::after(m, tally);
+    tell(answer, m.words, counted.words);
     Bench {
         device: next,
         bill: paid,
@@ -347,12 +335,13 @@ fn after(m: Meters, o: Outcome) -> Bench {
 
 // The pending fault dropped.
 fn drop(b: Bench) -> Bench {
-    let m = b.meters;
-    let t = b.device.drop();
-    let answer = t.answer;
-    tell(answer, m.words, m.words);
-    let next = t.device;
+    let device = b.device;
     let bill = b.bill;
+    let m = b.meters;
+    let t = device.drop();
+    let answer = t.answer;
+    let next = t.device;
+    tell(answer, m.words, m.words);
     Bench {
         device: next,
         bill: bill,
@@ -371,31 +360,22 @@ fn tell(answer: Answer, before: u32, after: u32) {
 // An answer as text.
 fn said(answer: Answer) {
     match answer {
-        Answer::Address(at) => address(at.0),
+        Answer::Address(at) => {
+            hex(at.0, 8);
+            show::text(b"              ");
+        }
         Answer::Fault(k) => fault(k),
-        Answer::Value(v) => value(v),
+        Answer::Value(v) => {
+            hex(v as u32, 4);
+            show::text(b"                  ");
+        }
         Answer::Done => show::text(b"done                  "),
-        Answer::Refused(k) => refusal(k as u64),
+        Answer::Refused(k) => {
+            show::text(b"refused ");
+            decimal(k as u64);
+            show::text(b"             ");
+        }
     }
-}
-
-// A physical address as an answer.
-fn address(at: u32) {
-    hex(at, 8);
-    show::text(b"              ");
-}
-
-// A register's value as an answer.
-fn value(v: u16) {
-    hex(v as u32, 4);
-    show::text(b"                  ");
-}
-
-// A refusal as an answer.
-fn refusal(number: u64) {
-    show::text(b"refused ");
-    decimal(number);
-    show::text(b"             ");
 }
 
 // A fault as text.
@@ -410,75 +390,40 @@ fn fault(k: Fault) {
 
 // A remark on a call, and a line end.
 fn remark(note: u32) {
-    if note < 5 {
-        early(note);
-    } else if note < 9 {
-        memories(note);
-    } else if note < 13 {
-        tries(note);
-    } else {
-        late(note);
-    }
-}
-
-// Remarks 1 to 4, and none.
-fn early(note: u32) {
     match note {
         1 => show::text(b"      the tables' place\n"),
         2 => show::text(b"      on, walking\n"),
         3 => show::text(b"      code\n"),
         4 => show::text(b"      the same page\n"),
-        _ => show::text(b"\n"),
-    }
-}
-
-// Remarks 5 to 8.
-fn memories(note: u32) {
-    match note {
         5 => show::text(b"      heap\n"),
         6 => show::text(b"      video frames\n"),
         7 => show::text(b"      stack\n"),
-        _ => show::text(b"      stack overrun\n"),
-    }
-}
-
-// Remarks 9 to 12.
-fn tries(note: u32) {
-    match note {
+        8 => show::text(b"      stack overrun\n"),
         9 => show::text(b"      a retry\n"),
         10 => show::text(b"      given up\n"),
         11 => show::text(b"      a decoder at the keys\n"),
-        _ => show::text(b"      the keys' own task\n"),
-    }
-}
-
-// Remarks 13 to 16.
-fn late(note: u32) {
-    match note {
+        12 => show::text(b"      the keys' own task\n"),
         13 => show::text(b"      the same address\n"),
         14 => show::text(b"      product data\n"),
         15 => show::text(b"      on, not walking\n"),
-        _ => show::text(b"      audio stream\n"),
+        16 => show::text(b"      audio stream\n"),
+        _ => show::text(b"\n"),
     }
 }
 
 // Meters and bill at the end.
 fn total(b: Bench) {
-    metered(b.meters);
+    let m = b.meters;
     let paid = b.bill;
-    show::text(b"\n  nanoseconds paid  ");
-    amount(paid.total);
-    show::text(b"\nA retry is counted as a retry, never as a fresh request.\n");
-}
-
-// The three meters.
-fn metered(m: Meters) {
     show::text(b"\nThe meters and the bill\n  fresh requests    ");
     decimal(m.fresh as u64);
     show::text(b"\n  retries           ");
     decimal(m.retries as u64);
     show::text(b"\n  words read        ");
     decimal(m.words as u64);
+    show::text(b"\n  nanoseconds paid  ");
+    amount(paid.total);
+    show::text(b"\nA retry is counted as a retry, never as a fresh request.\n");
 }
 
 // An amount as a whole number, where it is one.

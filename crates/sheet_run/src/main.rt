@@ -65,28 +65,29 @@ const ASKED: u32 = 256;
 fn main() {
     let on = [0u8; 16];
     let list = LIST;
-    show::text(b"list A in 8192 bytes");
-    let image = build(&list, 8192);
-    show::text(b"list A in 8188 bytes");
-    build(&list, 8188);
+    let mut image = [0u8; 8192];
+    built(
+        b"list A in 8192 bytes",
+        builder::build(&list, BASE, &mut image),
+    );
+    let mut short = [0u8; 8188];
+    built(
+        b"list A in 8188 bytes",
+        builder::build(&list, BASE, &mut short),
+    );
     words(&on, &image);
     requests(&on, &image);
-    show::text(b"empty list in 64 bytes");
-    let bare = build(&list[0..0], 64);
-    empty(&on, &bare[0..64]);
-}
-
-// A build in the first bytes of a memory, what it answered, and the memory then.
-fn build(list: &[u8], length: usize) -> [u8; 8192] {
-    let mut m = [0u8; 8192];
-    if length <= 8192 {
-        built(builder::build(list, BASE, &mut m[0..length]));
-    }
-    m
+    let mut bare = [0u8; 64];
+    built(
+        b"empty list in 64 bytes",
+        builder::build(&list[0..0], BASE, &mut bare),
+    );
+    empty(&on, &bare);
 }
 
 // What the builder answers.
-fn built(b: Built) {
+fn built(label: &[u8], b: Built) {
+    show::text(label);
     match b {
         Built::Length(n) => show::said(0, n as u64),
         Built::BadMemory => show::said(4, 0),
@@ -98,38 +99,19 @@ fn built(b: Built) {
 
 // The word at an address.
 fn word<'a>(label: &[u8], on: &'a [u8], ext: &'a [u8], at: u32) {
-    show::text(label);
-    value(on, ext, at);
-}
-
-// Its value.
-fn value<'a>(on: &'a [u8], ext: &'a [u8], at: u32) {
-    show::value(memory::word_of(memory::fetch(on, 0, ext, BASE, PhysicalAddress(at))) as u64);
+    let w = memory::word_of(memory::fetch(on, 0, ext, BASE, PhysicalAddress(at)));
+    show::line(label, w as u64);
 }
 
 // The words that the sheet names.
 fn words<'a>(on: &'a [u8], ext: &'a [u8]) {
-    first(on, ext, 0);
-    first(on, ext, 3);
-    first(on, ext, 5);
+    word(b"word 0", on, ext, 0x20000000);
+    word(b"word 3", on, ext, 0x2000000c);
+    word(b"word 5", on, ext, 0x20000014);
     coarse(on, ext);
-    fine(on, ext, 0);
-    fine(on, ext, 1);
-    fine(on, ext, 2);
-}
-
-// A word of the first level.
-fn first<'a>(on: &'a [u8], ext: &'a [u8], i: u8) {
-    show::text(b"word ");
-    show::decimal(i as u64);
-    value(on, ext, 0x20000000 + 4 * (i as u32));
-}
-
-// A word of the fine table.
-fn fine<'a>(on: &'a [u8], ext: &'a [u8], i: u8) {
-    show::text(b"fine word ");
-    show::decimal(i as u64);
-    value(on, ext, 0x20001000 + 4 * (i as u32));
+    word(b"fine word 0", on, ext, 0x20001000);
+    word(b"fine word 1", on, ext, 0x20001004);
+    word(b"fine word 2", on, ext, 0x20001008);
 }
 
 // Coarse words 15 to 32.
@@ -143,45 +125,25 @@ fn coarse<'a>(on: &'a [u8], ext: &'a [u8]) {
 
 // The requests that the sheet names; the last follows a write of lock base 31 and victim 0.
 fn requests<'a>(on: &'a [u8], ext: &'a [u8]) {
-    read(on, ext, 0, 0x012345);
-    read(on, ext, 0, 0x3ABCDE);
-    show::text(b"write");
-    slots(ask(on, ext, 0, 0x3ABCDE, Access::Write));
-    read(on, ext, 0, 0x5007FF);
-    read(on, ext, 0, 0x500800);
-    read(on, ext, 0, 0xFFFFFF);
-    read(on, ext, 0, 0x1000000);
-    show::text(b"locked ");
-    read(on, ext, 0x7C00, 0x012345);
-}
-
-// A read after a write of the lock register, and the slots then.
-fn read<'a>(on: &'a [u8], ext: &'a [u8], lock: u16, va: u32) {
-    show::text(b"read");
-    slots(ask(on, ext, lock, va, Access::Read));
+    slots(ask(b"read", on, ext, 0, 0x012345, Access::Read));
+    slots(ask(b"read", on, ext, 0, 0x3ABCDE, Access::Read));
+    slots(ask(b"write", on, ext, 0, 0x3ABCDE, Access::Write));
+    slots(ask(b"read", on, ext, 0, 0x5007FF, Access::Read));
+    slots(ask(b"read", on, ext, 0, 0x500800, Access::Read));
+    slots(ask(b"read", on, ext, 0, 0xFFFFFF, Access::Read));
+    slots(ask(b"read", on, ext, 0, 0x1000000, Access::Read));
+    slots(ask(b"locked read", on, ext, 0x7C00, 0x012345, Access::Read));
 }
 
 // The empty list at addresses a stride apart and at the last one.
 fn empty<'a>(on: &'a [u8], ext: &'a [u8]) {
-    strides(on, ext);
-    seek(on, ext, 0xFFFFFF);
-    show::text(b"write");
-    ask(on, ext, 0, 0xFFFFFF, Access::Write);
-}
-
-// Reads at addresses a stride apart.
-fn strides<'a>(on: &'a [u8], ext: &'a [u8]) {
     let mut i: u32 = 0;
     while i < ASKED {
-        seek(on, ext, STRIDE * i);
+        ask(b"read", on, ext, 0, STRIDE * i, Access::Read);
         i += 1;
     }
-}
-
-// A read.
-fn seek<'a>(on: &'a [u8], ext: &'a [u8], va: u32) {
-    show::text(b"read");
-    ask(on, ext, 0, va, Access::Read);
+    ask(b"read", on, ext, 0, 0xFFFFFF, Access::Read);
+    ask(b"write", on, ext, 0, 0xFFFFFF, Access::Write);
 }
 
 // Prices that are good.
@@ -206,7 +168,7 @@ fn start<'a>(on: &'a [u8], ext: &'a [u8], lock: u16) -> Device {
 }
 
 // A request of such a device.
-fn ask<'a>(on: &'a [u8], ext: &'a [u8], lock: u16, va: u32, a: Access) -> Outcome {
+fn ask<'a>(label: &[u8], on: &'a [u8], ext: &'a [u8], lock: u16, va: u32, a: Access) -> Outcome {
     let d = start(on, ext, lock);
     let o = d.request(
         VirtualAddress(va),
@@ -218,16 +180,12 @@ fn ask<'a>(on: &'a [u8], ext: &'a [u8], lock: u16, va: u32, a: Access) -> Outcom
         prices(),
         Bill::fresh(),
     );
-    let answer = o.answer;
-    asked(va, answer);
-    o
-}
-
-// A request's address and answer.
-fn asked(va: u32, answer: Answer) {
+    show::text(label);
     show::text(b" ");
     io::print_hex(STDOUT_FILENO, va as u64, 6);
+    let answer = o.answer;
     tell(answer);
+    o
 }
 
 // An answer as numbers.

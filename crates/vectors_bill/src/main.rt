@@ -34,14 +34,6 @@ fn external(at: u32) -> Source {
     }
 }
 
-// A word of neither memory at an address.
-fn nowhere(at: u32) -> Source {
-    Source {
-        at: PhysicalAddress(at),
-        place: Place::Nowhere,
-    }
-}
-
 // A row price on chip, a flat one outside.
 fn prices() -> Prices {
     Prices {
@@ -72,78 +64,76 @@ fn show_rows(b: Bill) {
 
 // A price is from 0 to 4,096, ends and minus zero allowed; a bill's figures are finite.
 fn figures() {
-    figure(b"price 0", 0.0);
-    figure(b"price -0", -0.0);
-    figure(b"price 4096", 4096.0);
-    figure(b"price above 4096", 4096.000000000001);
-    bad_figures();
-    row_price();
+    show::answer(b"price 0", prices::figure_ok(0.0));
+    show::answer(b"price -0", prices::figure_ok(-0.0));
+    show::answer(b"price 4096", prices::figure_ok(4096.0));
+    show::answer(b"price above 4096", prices::figure_ok(4096.000000000001));
+    show::answer(b"price -1", prices::figure_ok(-1.0));
+    show::answer(b"price infinite", prices::figure_ok(1.0 / 0.0));
+    show::answer(b"price NaN", prices::figure_ok(0.0 / 0.0));
+    show::answer(
+        b"row 1 4097",
+        prices::price_ok(Price::Row {
+            same: 1.0,
+            fresh: 4097.0,
+        }),
+    );
     show::answer(b"fresh bill", bill::money_ok(prices(), Bill::fresh()));
-    show::answer(
-        b"misses NaN",
-        bill::money_ok(prices(), figured(0.0, 0.0 / 0.0)),
-    );
-    show::answer(
-        b"total infinite",
-        bill::money_ok(prices(), figured(1.0 / 0.0, 0.0)),
-    );
-}
-
-// Figures that are no price.
-fn bad_figures() {
-    figure(b"price -1", -1.0);
-    figure(b"price infinite", 1.0 / 0.0);
-    figure(b"price NaN", 0.0 / 0.0);
-}
-
-// Whether a figure is a price.
-fn figure(label: &[u8], x: f64) {
-    show::answer(label, prices::figure_ok(x));
-}
-
-// A row price with one figure too high.
-fn row_price() {
-    let p = Price::Row {
-        same: 1.0,
-        fresh: 4097.0,
-    };
-    show::answer(b"row 1 4097", prices::price_ok(p));
-}
-
-// A bill of two figures, with no row on either side.
-fn figured(total: f64, misses: f64) -> Bill {
     let b = Bill::fresh();
     let on = b.onchip;
     let ext = b.external;
-    Bill {
-        total: total,
-        misses: misses,
-        onchip: on,
-        external: ext,
-    }
+    show::answer(
+        b"misses NaN",
+        bill::money_ok(
+            prices(),
+            Bill {
+                total: 0.0,
+                misses: 0.0 / 0.0,
+                onchip: on,
+                external: ext,
+            },
+        ),
+    );
+    show::answer(
+        b"total infinite",
+        bill::money_ok(
+            prices(),
+            Bill {
+                total: 1.0 / 0.0,
+                misses: 0.0,
+                onchip: on,
+                external: ext,
+            },
+        ),
+    );
 }
 
 // Words one after another: a new row, the same, a flat price, another row, a word in neither memory, back to the first row.
 fn words() {
-    show_rows(Bill::fresh());
-    let b = billed(b"4", Bill::fresh(), onchip(0x20000400), 4.0);
+    let p = prices();
+    let a = Bill::fresh();
+    show_rows(a);
+    let b = a.post_word(onchip(0x20000400), p);
+    show::answer(b"4", b.total == 4.0);
     show_rows(b);
-    let c = billed(b"5.5", b, onchip(0x200007FC), 5.5);
-    let d = billed(b"7.75", c, external(0x10000000), 7.75);
+    let c = b.post_word(onchip(0x200007FC), p);
+    show::answer(b"5.5", c.total == 5.5);
+    let d = c.post_word(external(0x10000000), p);
+    show::answer(b"7.75", d.total == 7.75);
     show_rows(d);
-    more_words(d);
-}
-
-// The later ones of them.
-fn more_words(d: Bill) {
-    let e = billed(b"11.75", d, onchip(0x20000800), 11.75);
-    let f = billed(b"still 11.75", e, nowhere(0x20000400), 11.75);
+    let e = d.post_word(onchip(0x20000800), p);
+    show::answer(b"11.75", e.total == 11.75);
+    let f = e.post_word(
+        Source {
+            at: PhysicalAddress(0x20000400),
+            place: Place::Nowhere,
+        },
+        p,
+    );
+    show::answer(b"still 11.75", f.total == 11.75);
     show_rows(f);
-    other_prices(billed(b"15.75", f, onchip(0x20000400), 15.75));
-}
-
-// A word at other prices.
-fn other_prices(b: Bill) {
+    let g = f.post_word(onchip(0x20000400), p);
+    show::answer(b"15.75", g.total == 15.75);
     let dear = Prices {
         onchip: Price::Flat(1.0),
         external: Price::Row {
@@ -151,42 +141,13 @@ fn other_prices(b: Bill) {
             fresh: 8.0,
         },
     };
-    let h = b.post_word(external(0x100003FC), dear);
+    let h = g.post_word(external(0x100003FC), dear);
     show::answer(b"16, by the row of the flat word", h.total == 16.0);
     show::answer(b"no misses", h.misses == 0.0);
 }
 
-// A word billed, and whether the total is a sum then.
-fn billed(label: &[u8], b: Bill, s: Source, sum: f64) -> Bill {
-    let next = b.post_word(s, prices());
-    show::answer(label, next.total == sum);
-    next
-}
-
 // The words of a walk in order: 0.1 + 0.2 rounds up, and 0.2 + 0.5 is a tie that goes down to 0.7.
 fn walks() {
-    show::answer(b"no word, 0", walked(Reads::Nothing).total == 0.0);
-    show::answer(
-        b"one word, 0.1",
-        walked(Reads::One(onchip(0x448))).total == 0.1,
-    );
-    two_words(walked(Reads::Two(onchip(0x448), external(0x448))).total);
-    let twice = walked(Reads::Two(external(0xFFFFFFFC), external(0xFFFFFC00)));
-    show::answer(b"a row twice, 0.7", twice.total == 0.7);
-    show_rows(twice);
-}
-
-// The sum of two words.
-fn two_words(total: f64) {
-    show::answer(
-        b"two words, 0.30000000000000004",
-        total == 0.30000000000000004,
-    );
-    show::answer(b"two words, 0.3", total == 0.3);
-}
-
-// A fresh bill after the words of a walk.
-fn walked(r: Reads) -> Bill {
     let p = Prices {
         onchip: Price::Flat(0.1),
         external: Price::Row {
@@ -194,32 +155,47 @@ fn walked(r: Reads) -> Bill {
             fresh: 0.2,
         },
     };
-    Bill::fresh().post_reads(r, p)
+    let a = Bill::fresh();
+    let none = a.post_reads(Reads::Nothing, p);
+    show::answer(b"no word, 0", none.total == 0.0);
+    let one = a.post_reads(Reads::One(onchip(0x448)), p);
+    show::answer(b"one word, 0.1", one.total == 0.1);
+    let two = a.post_reads(Reads::Two(onchip(0x448), external(0x448)), p);
+    show::answer(
+        b"two words, 0.30000000000000004",
+        two.total == 0.30000000000000004,
+    );
+    show::answer(b"two words, 0.3", two.total == 0.3);
+    let twice = a.post_reads(Reads::Two(external(0xFFFFFFFC), external(0xFFFFFC00)), p);
+    show::answer(b"a row twice, 0.7", twice.total == 0.7);
+    show_rows(twice);
 }
 
 // A miss, a match, nothing, a miss.
 fn attempts() {
-    let a = tried(b"miss 0.125", Bill::fresh(), Seen::NoMatch, 0.125);
-    let b = tried(b"match 0.109375", a, Seen::Match, 0.109375);
-    let c = tried(b"nothing 0.109375", b, Seen::Nothing, 0.109375);
-    let d = tried(b"miss 0.220703125", c, Seen::NoMatch, 0.220703125);
+    let a = Bill::fresh().post_seen(Seen::NoMatch);
+    show::answer(b"miss 0.125", a.misses == 0.125);
+    let b = a.post_seen(Seen::Match);
+    show::answer(b"match 0.109375", b.misses == 0.109375);
+    let c = b.post_seen(Seen::Nothing);
+    show::answer(b"nothing 0.109375", c.misses == 0.109375);
+    let d = c.post_seen(Seen::NoMatch);
+    show::answer(b"miss 0.220703125", d.misses == 0.220703125);
     show::answer(b"total 0", d.total == 0.0);
     show_rows(d);
 }
 
-// An attempt billed, and whether the misses are a number then.
-fn tried(label: &[u8], b: Bill, s: Seen, misses: f64) -> Bill {
-    let next = b.post_seen(s);
-    show::answer(label, next.misses == misses);
-    next
-}
-
 // The largest double and 4,096 more is the largest double again.
 fn largest() {
-    let b = figured(
-        179769313486231570814527423731704356798070567525844996598917476803157260780028538760589558632766878171540458953514382464234321326889464182768467546703537516986049910576551282076245490090389328944075868508455133942304583236903222948165808559332123347747971753094124520821580379428014080.0,
-        0.0,
-    );
+    let a = Bill::fresh();
+    let on = a.onchip;
+    let ext = a.external;
+    let b = Bill {
+        total: 179769313486231570814527423731704356798070567525844996598917476803157260780028538760589558632766878171540458953514382464234321326889464182768467546703537516986049910576551282076245490090389328944075868508455133942304583236903222948165808559332123347747971753094124520821580379428014080.0,
+        misses: 0.0,
+        onchip: on,
+        external: ext,
+    };
     let dear = Prices {
         onchip: Price::Flat(4096.0),
         external: Price::Flat(4096.0),

@@ -43,47 +43,26 @@ fn last() -> Entry {
     }
 }
 
-// Registers with a value in each, five of them given.
-fn given(control: u16, base: u32, prefetch: u16, camhi: u16, ramlo: u16) -> Registers {
+// Registers with a value in each.
+fn some() -> Registers {
     Registers {
-        control: control,
-        base: PhysicalAddress(base),
-        prefetch: prefetch,
-        staged: Entry {
-            camhi: camhi,
-            camlo: 0x0405,
-            ramhi: 0x1002,
-            ramlo: 0x0300,
-        },
-        copied: Entry {
-            camhi: 3,
-            camlo: 0xFFF7,
-            ramhi: 0xFFFF,
-            ramlo: ramlo,
-        },
+        control: 0x27,
+        base: PhysicalAddress(0x20000080),
+        prefetch: 0x3FFF,
+        staged: large(),
+        copied: last(),
     }
 }
 
-// Registers with a value in each, all in range.
-fn some() -> Registers {
-    given(0x27, 0x20000080, 0x3FFF, 0, 0xFE00)
-}
-
-// A read at an offset with a fault pending or none.
-fn show_read(offset: u32, p: Pending) {
+// A read at an offset.
+fn read(offset: u32, p: Pending) {
     match values::value_at(offset, some(), 31, 5, p) {
         Answer::Value(v) => show::line(b"reads", v as u64),
         Answer::Refused(k) => show::line(b"refused", k as u64),
-        _ => show::text(b"no value\n"),
+        Answer::Address(_) => show::text(b"address\n"),
+        Answer::Fault(_) => show::text(b"fault\n"),
+        Answer::Done => show::text(b"done\n"),
     }
-}
-
-// A read at an offset, with a permission fault pending at 3ABCDE.
-fn read(offset: u32) {
-    show_read(
-        offset,
-        Pending::Held(Fault::Permission, VirtualAddress(0x3ABCDE), Access::Write),
-    );
 }
 
 // A setting.
@@ -92,31 +71,11 @@ fn set(s: Setting) {
         Setting::Control(v) => show::line(b"control", v as u64),
         Setting::BaseHigh(v) => show::line(b"base high", v as u64),
         Setting::BaseLow(v) => show::line(b"base low", v as u64),
-        Setting::CamHigh(v) => cam_high(v),
-        Setting::CamLow(v) => cam_low(v),
-        Setting::RamHigh(v) => ram_high(v),
-        Setting::RamLow(v) => ram_low(v),
+        Setting::CamHigh(v) => show::line(b"CAM high", v as u64),
+        Setting::CamLow(v) => show::line(b"CAM low", v as u64),
+        Setting::RamHigh(v) => show::line(b"RAM high", v as u64),
+        Setting::RamLow(v) => show::line(b"RAM low", v as u64),
     }
-}
-
-// The high half of a CAM.
-fn cam_high(v: u16) {
-    show::line(b"CAM high", v as u64);
-}
-
-// The low half of a CAM.
-fn cam_low(v: u16) {
-    show::line(b"CAM low", v as u64);
-}
-
-// The high half of a RAM.
-fn ram_high(v: u16) {
-    show::line(b"RAM high", v as u64);
-}
-
-// The low half of a RAM.
-fn ram_low(v: u16) {
-    show::line(b"RAM low", v as u64);
 }
 
 // What is done to the slots.
@@ -135,77 +94,63 @@ fn tend(t: Tending) {
 fn write(offset: u32, v: u16) {
     match commands::command_at(offset, v) {
         Command::Refused(k) => show::line(b"refused", k as u64),
-        Command::Nothing => done(1),
-        Command::Reset => done(2),
+        Command::Nothing => show::text(b"nothing\n"),
+        Command::Reset => show::text(b"reset\n"),
         Command::Set(s) => set(s),
         Command::Tend(t) => tend(t),
-        Command::Load => done(3),
-        Command::Copy => done(4),
+        Command::Load => show::text(b"load\n"),
+        Command::Copy => show::text(b"copy\n"),
         Command::Prefetch(w) => show::line(b"prefetch", w as u64),
         Command::Acknowledge(yes) => show::answer(b"acknowledge", yes),
-    }
-}
-
-// A command that has no value.
-fn done(command: u32) {
-    match command {
-        1 => show::text(b"nothing\n"),
-        2 => show::text(b"reset\n"),
-        3 => show::text(b"load\n"),
-        _ => show::text(b"copy\n"),
     }
 }
 
 // The registers in the order of Table 3, with a permission fault pending at 3ABCDE; then offsets without one.
 fn reads() {
     show::text(b"reads\n");
-    read(0x00);
-    read(0x04);
-    read(0x08);
-    read(0x0C);
-    read(0x10);
-    read(0x14);
-    read(0x18);
-    read(0x1C);
-    read(0x20);
-    read(0x24);
-    read(0x28);
-    read(0x2C);
-    read(0x30);
-    read(0x34);
-    read(0x38);
-    read(0x3C);
-    read(0x40);
-    read(0x44);
-    read(0x48);
-    read(0x4C);
-    read(0x50);
-    read(0x02);
-    read(0x51);
-    read(0x54);
-    read(0xFFFFFFFC);
+    let p = Pending::Held(Fault::Permission, VirtualAddress(0x3ABCDE), Access::Write);
+    read(0x00, p);
+    read(0x04, p);
+    read(0x08, p);
+    read(0x0C, p);
+    read(0x10, p);
+    read(0x14, p);
+    read(0x18, p);
+    read(0x1C, p);
+    read(0x20, p);
+    read(0x24, p);
+    read(0x28, p);
+    read(0x2C, p);
+    read(0x30, p);
+    read(0x34, p);
+    read(0x38, p);
+    read(0x3C, p);
+    read(0x40, p);
+    read(0x44, p);
+    read(0x48, p);
+    read(0x4C, p);
+    read(0x50, p);
+    read(0x02, p);
+    read(0x51, p);
+    read(0x54, p);
+    read(0xFFFFFFFC, p);
 }
 
 // Status, address high and address low of each fault and of none.
 fn faults() {
     show::text(b"faults\n");
-    held(Fault::Translation, 0xFFFFFF, Access::Read);
-    held(Fault::Miss, 0x01007F, Access::Read);
-    held(Fault::Permission, 0x0100FF, Access::Write);
-    held(Fault::Prefetch, 0x500400, Access::Read);
+    fault(Pending::Held(Fault::Translation, VirtualAddress(0xFFFFFF), Access::Read));
+    fault(Pending::Held(Fault::Miss, VirtualAddress(0x01007F), Access::Read));
+    fault(Pending::Held(Fault::Permission, VirtualAddress(0x0100FF), Access::Write));
+    fault(Pending::Held(Fault::Prefetch, VirtualAddress(0x500400), Access::Read));
     fault(Pending::Nothing);
-}
-
-// A fault at an address.
-fn held(k: Fault, at: u32, a: Access) {
-    fault(Pending::Held(k, VirtualAddress(at), a));
 }
 
 // Status, address high and address low.
 fn fault(p: Pending) {
-    show_read(0x14, p);
-    show_read(0x0C, p);
-    show_read(0x10, p);
+    read(0x14, p);
+    read(0x0C, p);
+    read(0x10, p);
 }
 
 // FFFF to each register in the order of Table 3, then to offsets without one.
@@ -276,74 +221,49 @@ fn form(e: Entry) {
 
 // The four registers of an entry.
 fn entry(e: Entry) {
-    cam_high(e.camhi);
-    cam_low(e.camlo);
-    ram_high(e.ramhi);
-    ram_low(e.ramlo);
+    show::line(b"CAM high", e.camhi as u64);
+    show::line(b"CAM low", e.camlo as u64);
+    show::line(b"RAM high", e.ramhi as u64);
+    show::line(b"RAM low", e.ramlo as u64);
 }
 
 // Base and entry from fresh registers, half by half.
 fn settings() {
     show::text(b"settings\n");
-    let r = filled(bases());
-    entry(r.staged);
-    entry(r.copied);
-    control(r.set(Setting::Control(0x27)));
-}
-
-// The base, half by half.
-fn bases() -> Registers {
-    let a = based(Registers::fresh(), Setting::BaseHigh(0x2000));
-    let b = based(a, Setting::BaseLow(0x0080));
-    based(b, Setting::BaseHigh(0x1000))
-}
-
-// The base after a setting.
-fn based(r: Registers, s: Setting) -> Registers {
-    let next = r.set(s);
-    show::line(b"base", next.base.0 as u64);
-    next
-}
-
-// The staged entry, half by half.
-fn filled(r: Registers) -> Registers {
-    r.set(Setting::CamHigh(0))
-        .set(Setting::CamLow(0x0405))
-        .set(Setting::RamHigh(0x1002))
-        .set(Setting::RamLow(0x0300))
-}
-
-// The control register, and what it says.
-fn control(r: Registers) {
-    show::line(b"control", r.control as u64);
-    show::answer(b"on", registers::is_on(r.control));
-    show::answer(b"walking", registers::is_walking(r.control));
+    let a = Registers::fresh().set(Setting::BaseHigh(0x2000));
+    show::line(b"base", a.base.0 as u64);
+    let b = a.set(Setting::BaseLow(0x0080));
+    show::line(b"base", b.base.0 as u64);
+    let c = b.set(Setting::BaseHigh(0x1000));
+    show::line(b"base", c.base.0 as u64);
+    let d = c.set(Setting::CamHigh(0));
+    let e = d.set(Setting::CamLow(0x0405));
+    let f = e.set(Setting::RamHigh(0x1002));
+    let g = f.set(Setting::RamLow(0x0300));
+    entry(g.staged);
+    entry(g.copied);
+    let h = g.set(Setting::Control(0x27));
+    show::line(b"control", h.control as u64);
+    show::answer(b"on", registers::is_on(h.control));
+    show::answer(b"walking", registers::is_walking(h.control));
 }
 
 // Slot 0 with the bench sheet's words, tended.
 fn tendings() {
     show::text(b"tendings\n");
-    locked(tended(large(), Tending::Lock(31, 5)));
-    slot(tended(last(), Tending::Flush));
-    slot(tended(last(), Tending::FlushEntry));
+    let b = Bank::fresh().load(registers::words_of(large()));
+    let k = registers::tend_bank(b, large(), Tending::Lock(31, 5));
+    show::line(b"lock", k.lock as u64);
+    show::line(b"victim", k.victim as u64);
+    slot(registers::tend_bank(b, last(), Tending::Flush));
+    slot(registers::tend_bank(b, last(), Tending::FlushEntry));
     let tag = Entry {
         camhi: 0,
         camlo: 0x0400,
         ramhi: 0,
         ramlo: 0,
     };
-    slot(tended(tag, Tending::FlushEntry));
-}
-
-// Slot 0 with the bench sheet's words, tended with an entry staged.
-fn tended(e: Entry, t: Tending) -> Bank {
-    registers::tend_bank(Bank::fresh().load(registers::words_of(large())), e, t)
-}
-
-// The lock base and the victim.
-fn locked(b: Bank) {
-    show::line(b"lock", b.lock as u64);
-    show::line(b"victim", b.victim as u64);
+    slot(registers::tend_bank(b, tag, Tending::FlushEntry));
 }
 
 // The CAM word of slot 0.
@@ -357,36 +277,30 @@ fn ranges() {
     show::text(b"ranges\n");
     show::answer(b"fresh", registers::registers_ok(Registers::fresh()));
     show::answer(b"some", registers::registers_ok(some()));
-    controls();
-    halves();
-    pending(0xFFFFFF);
-    pending(0x1000000);
-}
-
-// A control register and a base out of range.
-fn controls() {
-    range(b"control 2F", 0x2F, 0x20000080, 0x3FFF, 0, 0xFE00);
-    range(b"control 40", 0x40, 0x20000080, 0x3FFF, 0, 0xFE00);
-    range(b"base 20000040", 0x27, 0x20000040, 0x3FFF, 0, 0xFE00);
-}
-
-// A prefetch register and halves of entries out of range.
-fn halves() {
-    range(b"prefetch 4000", 0x27, 0x20000080, 0x4000, 0, 0xFE00);
-    range(b"CAM high 4", 0x27, 0x20000080, 0x3FFF, 4, 0xFE00);
-    range(b"read RAM low 0380", 0x27, 0x20000080, 0x3FFF, 0, 0x0380);
-}
-
-// Whether registers are in range: control, base, prefetch, staged CAM high, read RAM low.
-fn range(label: &[u8], control: u16, base: u32, prefetch: u16, camhi: u16, ramlo: u16) {
-    let r = given(control, base, prefetch, camhi, ramlo);
-    show::answer(label, registers::registers_ok(r));
-}
-
-// Whether a fault pending at an address is in range.
-fn pending(at: u32) {
-    show::text(b"pending ");
-    show::address(at, 6);
-    let p = Pending::Held(Fault::Miss, VirtualAddress(at), Access::Read);
-    show::verdict(registers::pending_ok(p));
+    let mut control = some();
+    control.control = 0x2F;
+    show::answer(b"control 2F", registers::registers_ok(control));
+    control.control = 0x40;
+    show::answer(b"control 40", registers::registers_ok(control));
+    let mut base = some();
+    let at = PhysicalAddress(0x20000040);
+    base.base = at;
+    show::answer(b"base 20000040", registers::registers_ok(base));
+    let mut prefetch = some();
+    prefetch.prefetch = 0x4000;
+    show::answer(b"prefetch 4000", registers::registers_ok(prefetch));
+    let mut staged = some();
+    staged.staged.camhi = 4;
+    show::answer(b"CAM high 4", registers::registers_ok(staged));
+    let mut copied = some();
+    copied.copied.ramlo = 0x0380;
+    show::answer(b"read RAM low 0380", registers::registers_ok(copied));
+    show::answer(
+        b"pending FFFFFF",
+        registers::pending_ok(Pending::Held(Fault::Miss, VirtualAddress(0xFFFFFF), Access::Read)),
+    );
+    show::answer(
+        b"pending 1000000",
+        registers::pending_ok(Pending::Held(Fault::Miss, VirtualAddress(0x1000000), Access::Read)),
+    );
 }

@@ -10,7 +10,6 @@ use prices::Prices;
 use registers::Answer;
 use registers::Fault;
 use unit::Device;
-use unit::Outcome;
 
 // A session under way.
 struct Bench {
@@ -238,27 +237,12 @@ fn fault_number(k: Fault) -> u64 {
 
 // A call as text.
 fn name(what: u32) {
-    if what < 6 {
-        plain(what);
-    } else {
-        odd(what);
-    }
-}
-
-// Calls 1 to 5.
-fn plain(what: u32) {
     match what {
         1 => show::text(b"write"),
         2 => show::text(b"read"),
         3 => show::text(b"request read"),
         4 => show::text(b"request write"),
-        _ => show::text(b"drop"),
-    }
-}
-
-// Calls 6 to 10.
-fn odd(what: u32) {
-    match what {
+        5 => show::text(b"drop"),
         6 => show::text(b"shift"),
         7 => show::text(b"request, memory at 2"),
         8 => show::text(b"request, memories that meet"),
@@ -282,22 +266,17 @@ fn tell(answer: Answer) {
 fn write<'a>(b: Bench, on: &'a [u8], ext: &'a [u8], offset: u32, v: u16) -> Bench {
     let device = b.device;
     let bill = b.bill;
-    after(
-        b.meters,
-        device.write(offset, v, on, 0, ext, BASE, prices(), bill),
-    )
-}
-
-// The session after a call, which is told.
-fn after(m: Meters, o: Outcome) -> Bench {
+    let m = b.meters;
+    let o = device.write(offset, v, on, 0, ext, BASE, prices(), bill);
     let answer = o.answer;
     tell(answer);
     let next = o.device;
     let paid = o.bill;
+    let tally = o.tally;
     Bench {
         device: next,
         bill: paid,
-        meters: meters::after(m, o.tally),
+        meters: meters::after(m, tally),
     }
 }
 
@@ -310,58 +289,41 @@ fn read(b: Bench, offset: u32) -> Bench {
     b
 }
 
-// A request.
-fn request<'a>(b: Bench, on: &'a [u8], ext: &'a [u8], what: u32, va: u32) -> Bench {
+// A request over an on-chip memory at a base, at given prices.
+fn request<'a>(
+    b: Bench,
+    on: &'a [u8],
+    onbase: u32,
+    ext: &'a [u8],
+    prices: Prices,
+    va: u32,
+    a: Access,
+) -> Bench {
     let device = b.device;
     let bill = b.bill;
-    let a = access_of(what);
-    let p = prices_of(what);
-    after(
-        b.meters,
-        device.request(
-            VirtualAddress(va),
-            a,
-            on,
-            onbase_of(what),
-            ext,
-            BASE,
-            p,
-            bill,
-        ),
-    )
-}
-
-// Call 4 writes.
-fn access_of(what: u32) -> Access {
-    if what == 4 {
-        Access::Write
-    } else {
-        Access::Read
+    let m = b.meters;
+    let o = device.request(VirtualAddress(va), a, on, onbase, ext, BASE, prices, bill);
+    let answer = o.answer;
+    tell(answer);
+    let next = o.device;
+    let paid = o.bill;
+    let tally = o.tally;
+    Bench {
+        device: next,
+        bill: paid,
+        meters: meters::after(m, tally),
     }
-}
-
-// The base of the on-chip memory: call 7 has one that is not aligned, call 8 one that meets the external memory.
-fn onbase_of(what: u32) -> u32 {
-    match what {
-        7 => 2,
-        8 => BASE,
-        _ => 0,
-    }
-}
-
-// Call 9 has a price that is too high.
-fn prices_of(what: u32) -> Prices {
-    if what == 9 { dear() } else { prices() }
 }
 
 // The pending fault dropped.
 fn drop(b: Bench) -> Bench {
-    let t = b.device.drop();
+    let device = b.device;
+    let bill = b.bill;
+    let m = b.meters;
+    let t = device.drop();
     let answer = t.answer;
     tell(answer);
     let next = t.device;
-    let bill = b.bill;
-    let m = b.meters;
     Bench {
         device: next,
         bill: bill,
@@ -416,8 +378,12 @@ fn call<'a>(b: Bench, on: &'a [u8], ext: &'a [u8], step: u64) -> Bench {
     match what {
         1 => write(b, on, ext, x, v),
         2 => read(b, x),
+        3 => request(b, on, 0, ext, prices(), x, Access::Read),
+        4 => request(b, on, 0, ext, prices(), x, Access::Write),
         5 => drop(b),
         6 => shift(b, on, ext, x),
-        _ => request(b, on, ext, what, x),
+        7 => request(b, on, 2, ext, prices(), x, Access::Read),
+        8 => request(b, on, BASE, ext, prices(), x, Access::Read),
+        _ => request(b, on, 0, ext, dear(), x, Access::Read),
     }
 }

@@ -24,14 +24,23 @@ what-of-requires c κs = search needs
 value-of-requires : tie.Need-value-of-requires Inv-loop μ-loop
 value-of-requires c κs = search needs
 
-asked-requires : tie.Need-asked-requires Inv-loop μ-loop
-asked-requires c κs = search needs
+question-requires : tie.Need-question-requires Inv-loop μ-loop
+question-requires c κs = search needs
 
 what-of-requires-2 : tie.Need-what-of-requires-2 Inv-loop μ-loop
 what-of-requires-2 c κs = search needs
 
 value-of-requires-2 : tie.Need-value-of-requires-2 Inv-loop μ-loop
 value-of-requires-2 c κs = search needs
+
+says-requires : tie.Need-says-requires Inv-loop μ-loop
+says-requires c κs = search needs
+
+what-of-requires-3 : tie.Need-what-of-requires-3 Inv-loop μ-loop
+what-of-requires-3 c κs = search needs
+
+value-of-requires-3 : tie.Need-value-of-requires-3 Inv-loop μ-loop
+value-of-requires-3 c κs = search needs
 
 call-requires : tie.Need-call-requires Inv-loop μ-loop
 call-requires c κs = search needs
@@ -65,9 +74,12 @@ session-spec =
     array-read-step
     what-of-requires
     value-of-requires
-    asked-requires
+    question-requires
     what-of-requires-2
     value-of-requires-2
+    says-requires
+    what-of-requires-3
+    value-of-requires-3
     call-requires
     remark-of-requires
     remark-requires
