@@ -30,48 +30,51 @@ pub const ROWS_AT: usize = 320;
 /// A price as it crosses: kind (0 flat, 1 row) and two figures.
 pub type Quote = (u32, f64, f64);
 
+/// What is lent beside the calls: the two memories at their bases, and a price for each.
+#[derive(Clone, Copy, Debug)]
+pub struct Lending<'a> {
+    pub on: &'a [u8],
+    pub on_base: u32,
+    pub external: &'a [u8],
+    pub external_base: u32,
+    pub on_price: Quote,
+    pub external_price: Quote,
+}
+
+impl<'a> Lending<'a> {
+    /// One on-chip memory, and a price of 1 for each word.
+    pub fn plain(on: &'a [u8], on_base: u32) -> Lending<'a> {
+        let flat = (0, 1.0, 0.0);
+        let external: &[u8] = &[];
+        Lending { on, on_base, external, external_base: 0, on_price: flat, external_price: flat }
+    }
+
+    fn memories(&self) -> Memories<'a> {
+        Memories::new(self.on, self.on_base, self.external, self.external_base)
+    }
+}
+
+/// The bill's total and miss figure, which cross beside a state.
+pub type Figures = (f64, f64);
+
 /// The four functions of the boundary, of whichever program.
-#[allow(clippy::too_many_arguments)]
 pub trait Program {
     fn name(&self) -> &'static str;
 
     fn build(&self, records: &[u8], base: u32, memory: &mut [u8]) -> u64;
 
-    fn run(
-        &self,
-        calls: &[u8],
-        on_chip: &[u8],
-        on_chip_base: u32,
-        external: &[u8],
-        external_base: u32,
-        on_chip_price: Quote,
-        external_price: Quote,
-        out: &mut [u8],
-    ) -> u64;
+    fn run(&self, lending: &Lending, calls: &[u8], out: &mut [u8]) -> u64;
 
     fn from(
         &self,
+        lending: &Lending,
         state: &[u8],
-        total: f64,
-        misses: f64,
+        figures: Figures,
         calls: &[u8],
-        on_chip: &[u8],
-        on_chip_base: u32,
-        external: &[u8],
-        external_base: u32,
-        on_chip_price: Quote,
-        external_price: Quote,
         out: &mut [u8],
     ) -> u64;
 
-    fn fetch(
-        &self,
-        on_chip: &[u8],
-        on_chip_base: u32,
-        external: &[u8],
-        external_base: u32,
-        address: u32,
-    ) -> u64;
+    fn fetch(&self, lending: &Lending, address: u32) -> u64;
 }
 
 /// This program.
@@ -87,67 +90,23 @@ impl Program for Second {
         build(records, base, memory)
     }
 
-    fn run(
-        &self,
-        calls: &[u8],
-        on_chip: &[u8],
-        on_chip_base: u32,
-        external: &[u8],
-        external_base: u32,
-        on_chip_price: Quote,
-        external_price: Quote,
-        out: &mut [u8],
-    ) -> u64 {
-        run(
-            calls,
-            on_chip,
-            on_chip_base,
-            external,
-            external_base,
-            on_chip_price,
-            external_price,
-            out,
-        )
+    fn run(&self, lending: &Lending, calls: &[u8], out: &mut [u8]) -> u64 {
+        run(lending, calls, out)
     }
 
     fn from(
         &self,
+        lending: &Lending,
         state: &[u8],
-        total: f64,
-        misses: f64,
+        figures: Figures,
         calls: &[u8],
-        on_chip: &[u8],
-        on_chip_base: u32,
-        external: &[u8],
-        external_base: u32,
-        on_chip_price: Quote,
-        external_price: Quote,
         out: &mut [u8],
     ) -> u64 {
-        from(
-            state,
-            total,
-            misses,
-            calls,
-            on_chip,
-            on_chip_base,
-            external,
-            external_base,
-            on_chip_price,
-            external_price,
-            out,
-        )
+        from(lending, state, figures, calls, out)
     }
 
-    fn fetch(
-        &self,
-        on_chip: &[u8],
-        on_chip_base: u32,
-        external: &[u8],
-        external_base: u32,
-        address: u32,
-    ) -> u64 {
-        fetch(on_chip, on_chip_base, external, external_base, address)
+    fn fetch(&self, lending: &Lending, address: u32) -> u64 {
+        fetch(lending, address)
     }
 }
 
@@ -160,14 +119,8 @@ pub fn build(records: &[u8], base: u32, memory: &mut [u8]) -> u64 {
 }
 
 /// Memory * 2^60 + offset * 2^32 + word; 0 where the four bytes are nowhere.
-pub fn fetch(
-    on_chip: &[u8],
-    on_chip_base: u32,
-    external: &[u8],
-    external_base: u32,
-    address: u32,
-) -> u64 {
-    let memories = Memories::new(on_chip, on_chip_base, external, external_base);
+pub fn fetch(lending: &Lending, address: u32) -> u64 {
+    let memories = lending.memories();
     match memories.word(address) {
         None => 0,
         Some((role, word)) => {
@@ -181,19 +134,8 @@ pub fn fetch(
 }
 
 /// Runs calls from a fresh device, meters and bill. The bytes written, or 0.
-#[allow(clippy::too_many_arguments)]
-pub fn run(
-    calls: &[u8],
-    on_chip: &[u8],
-    on_chip_base: u32,
-    external: &[u8],
-    external_base: u32,
-    on_chip_price: Quote,
-    external_price: Quote,
-    out: &mut [u8],
-) -> u64 {
-    let memories = Memories::new(on_chip, on_chip_base, external, external_base);
-    let Some((lent, out)) = open(calls, memories, on_chip_price, external_price, out) else {
+pub fn run(lending: &Lending, calls: &[u8], out: &mut [u8]) -> u64 {
+    let Some((lent, out)) = open(lending, calls, out) else {
         return 0;
     };
     let (answers, state) = out.split_at_mut(out.len() - STATE);
@@ -205,25 +147,17 @@ pub fn run(
 }
 
 /// The same from a handed-in state.
-#[allow(clippy::too_many_arguments)]
 pub fn from(
+    lending: &Lending,
     state: &[u8],
-    total: f64,
-    misses: f64,
+    (total, misses): Figures,
     calls: &[u8],
-    on_chip: &[u8],
-    on_chip_base: u32,
-    external: &[u8],
-    external_base: u32,
-    on_chip_price: Quote,
-    external_price: Quote,
     out: &mut [u8],
 ) -> u64 {
-    let memories = Memories::new(on_chip, on_chip_base, external, external_base);
     let Some((image, mut books)) = decode(state, total, misses) else {
         return 0;
     };
-    let Some((lent, out)) = open(calls, memories, on_chip_price, external_price, out) else {
+    let Some((lent, out)) = open(lending, calls, out) else {
         return 0;
     };
     let (answers, state) = out.split_at_mut(out.len() - STATE);
@@ -246,13 +180,11 @@ pub fn from(
 /// What has to hold for a list to be run at all: `None` where it does not.
 /// Gives what is lent, and the part of `out` that will be written.
 fn open<'a, 'b>(
+    lending: &Lending<'a>,
     calls: &[u8],
-    memories: Memories<'a>,
-    on_chip_price: Quote,
-    external_price: Quote,
     out: &'b mut [u8],
 ) -> Option<(Lent<'a>, &'b mut [u8])> {
-    let prices = Prices::new(price(on_chip_price)?, price(external_price)?);
+    let prices = Prices::new(price(lending.on_price)?, price(lending.external_price)?);
     let records = calls.chunks_exact(CALL);
     // Kind, offset or access, two zero bytes, address, value below 65,536; what a kind does not use is zero.
     let as_said = |call: &[u8]| {
@@ -272,7 +204,7 @@ fn open<'a, 'b>(
         return None;
     }
     let out = out.get_mut(..records.len() * ANSWER + STATE)?;
-    Some((Lent { memories, prices }, out))
+    Some((Lent { memories: lending.memories(), prices }, out))
 }
 
 fn price((kind, a, b): Quote) -> Option<Price> {

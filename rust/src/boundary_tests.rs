@@ -11,8 +11,18 @@ fn call(kind: u8, second: u8, address: u32, value: u32) -> [u8; 12] {
 
 const FLAT: Quote = (0, 1.0, f64::NAN);
 
+/// Two empty memories.
+const NOTHING: Lending = Lending {
+    on: &[],
+    on_base: 0,
+    external: &[],
+    external_base: 0,
+    on_price: FLAT,
+    external_price: FLAT,
+};
+
 fn run_fresh(calls: &[u8], out: &mut [u8]) -> u64 {
-    run(calls, &[], 0, &[], 0, FLAT, FLAT, out)
+    run(&NOTHING, calls, out)
 }
 
 #[test]
@@ -97,8 +107,10 @@ fn lists_that_are_not_as_said() {
     }
     let mut out = [0xAA; 16 + STATE];
     assert_eq!(run_fresh(&good, &mut out[1..]), 0);
-    assert_eq!(run(&good, &[], 0, &[], 0, (2, 0.0, 0.0), FLAT, &mut out), 0);
-    assert_eq!(run(&good, &[], 0, &[], 0, FLAT, (9, 0.0, 0.0), &mut out), 0);
+    let on = Lending { on_price: (2, 0.0, 0.0), ..NOTHING };
+    assert_eq!(run(&on, &good, &mut out), 0);
+    let external = Lending { external_price: (9, 0.0, 0.0), ..NOTHING };
+    assert_eq!(run(&external, &good, &mut out), 0);
     assert_eq!(out, [0xAA; 16 + STATE]);
 }
 
@@ -117,7 +129,8 @@ fn states_are_handed_through() {
     .concat();
     let mut out = vec![0xAA; 5 * 16 + STATE];
     let nan = f64::from_bits(0xFFF0_0000_0000_0001);
-    let n = from(&state, nan, -0.0, &calls, &[], 1, &[], 2, FLAT, FLAT, &mut out);
+    let lending = Lending { on_base: 1, external_base: 2, ..NOTHING };
+    let n = from(&lending, &state, (nan, -0.0), &calls, &mut out);
     assert_eq!(n, out.len() as u64);
     for answer in out[..80].chunks(16) {
         assert_eq!(answer, [8, 0, 0, 0, 0, 0, 0, 0, 0, 0, 0, 0, 0, 0, 0, 0]);
@@ -128,23 +141,30 @@ fn states_are_handed_through() {
     for (at, byte) in [(PENDING_AT, 3), (PENDING_AT, 16), (PENDING_AT + 1, 2)] {
         let mut bad = state;
         bad[at] = byte;
-        assert_eq!(from(&bad, 0.0, 0.0, &[], &[], 0, &[], 0, FLAT, FLAT, &mut out), 0);
+        assert_eq!(from(&NOTHING, &bad, (0.0, 0.0), &[], &mut out), 0);
     }
-    assert_eq!(from(&state[1..], 0.0, 0.0, &[], &[], 0, &[], 0, FLAT, FLAT, &mut out), 0);
+    assert_eq!(from(&NOTHING, &state[1..], (0.0, 0.0), &[], &mut out), 0);
 }
 
 #[test]
 fn fetched_words() {
     let on = [1, 2, 3, 4, 5, 6, 7, 8];
     let external = [9, 10, 11, 12];
-    let go = |address| fetch(&on, 0x100, &external, 0x108, address);
+    let at = |external_base| Lending {
+        on: &on,
+        on_base: 0x100,
+        external: &external,
+        external_base,
+        ..NOTHING
+    };
+    let go = |address| fetch(&at(0x108), address);
     assert_eq!(go(0x100), 0x1000_0000_0403_0201);
     assert_eq!(go(0x104), 0x1000_0004_0807_0605);
     assert_eq!(go(0x103), 0x1000_0003_0706_0504);
     assert_eq!(go(0x108), 0x2000_0000_0C0B_0A09);
     assert_eq!(go(0x105), 0);
     assert_eq!(go(0x10C), 0);
-    assert_eq!(fetch(&on, 0x100, &external, 0x104, 0x100), 0);
+    assert_eq!(fetch(&at(0x104), 0x100), 0);
 }
 
 #[test]

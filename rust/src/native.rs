@@ -3,7 +3,7 @@
 //! It is there where the build found its archive (see `build.rs`); `linked`
 //! gives it, or `None`.
 
-use crate::boundary::{Program, Quote};
+use crate::boundary::{Figures, Lending, Program};
 
 /// The proved implementation. There is no value of it where it is not linked.
 #[derive(Clone, Copy, Debug)]
@@ -112,33 +112,23 @@ impl Program for Native {
         }
     }
 
-    fn run(
-        &self,
-        calls: &[u8],
-        on_chip: &[u8],
-        on_chip_base: u32,
-        external: &[u8],
-        external_base: u32,
-        on_chip_price: Quote,
-        external_price: Quote,
-        out: &mut [u8],
-    ) -> u64 {
+    fn run(&self, lent: &Lending, calls: &[u8], out: &mut [u8]) -> u64 {
         unsafe {
             c::nx_run(
                 calls.as_ptr(),
                 calls.len(),
-                on_chip.as_ptr(),
-                on_chip.len(),
-                on_chip_base,
-                external.as_ptr(),
-                external.len(),
-                external_base,
-                on_chip_price.0,
-                on_chip_price.1,
-                on_chip_price.2,
-                external_price.0,
-                external_price.1,
-                external_price.2,
+                lent.on.as_ptr(),
+                lent.on.len(),
+                lent.on_base,
+                lent.external.as_ptr(),
+                lent.external.len(),
+                lent.external_base,
+                lent.on_price.0,
+                lent.on_price.1,
+                lent.on_price.2,
+                lent.external_price.0,
+                lent.external_price.1,
+                lent.external_price.2,
                 out.as_mut_ptr(),
                 out.len(),
             )
@@ -147,16 +137,10 @@ impl Program for Native {
 
     fn from(
         &self,
+        lent: &Lending,
         state: &[u8],
-        total: f64,
-        misses: f64,
+        (total, misses): Figures,
         calls: &[u8],
-        on_chip: &[u8],
-        on_chip_base: u32,
-        external: &[u8],
-        external_base: u32,
-        on_chip_price: Quote,
-        external_price: Quote,
         out: &mut [u8],
     ) -> u64 {
         unsafe {
@@ -167,40 +151,33 @@ impl Program for Native {
                 misses,
                 calls.as_ptr(),
                 calls.len(),
-                on_chip.as_ptr(),
-                on_chip.len(),
-                on_chip_base,
-                external.as_ptr(),
-                external.len(),
-                external_base,
-                on_chip_price.0,
-                on_chip_price.1,
-                on_chip_price.2,
-                external_price.0,
-                external_price.1,
-                external_price.2,
+                lent.on.as_ptr(),
+                lent.on.len(),
+                lent.on_base,
+                lent.external.as_ptr(),
+                lent.external.len(),
+                lent.external_base,
+                lent.on_price.0,
+                lent.on_price.1,
+                lent.on_price.2,
+                lent.external_price.0,
+                lent.external_price.1,
+                lent.external_price.2,
                 out.as_mut_ptr(),
                 out.len(),
             )
         }
     }
 
-    fn fetch(
-        &self,
-        on_chip: &[u8],
-        on_chip_base: u32,
-        external: &[u8],
-        external_base: u32,
-        address: u32,
-    ) -> u64 {
+    fn fetch(&self, lent: &Lending, address: u32) -> u64 {
         unsafe {
             c::nx_fetch(
-                on_chip.as_ptr(),
-                on_chip.len(),
-                on_chip_base,
-                external.as_ptr(),
-                external.len(),
-                external_base,
+                lent.on.as_ptr(),
+                lent.on.len(),
+                lent.on_base,
+                lent.external.as_ptr(),
+                lent.external.len(),
+                lent.external_base,
                 address,
             )
         }
@@ -217,38 +194,15 @@ impl Program for Native {
         match self.0 {}
     }
 
-    fn run(
-        &self,
-        _: &[u8],
-        _: &[u8],
-        _: u32,
-        _: &[u8],
-        _: u32,
-        _: Quote,
-        _: Quote,
-        _: &mut [u8],
-    ) -> u64 {
+    fn run(&self, _: &Lending, _: &[u8], _: &mut [u8]) -> u64 {
         match self.0 {}
     }
 
-    fn from(
-        &self,
-        _: &[u8],
-        _: f64,
-        _: f64,
-        _: &[u8],
-        _: &[u8],
-        _: u32,
-        _: &[u8],
-        _: u32,
-        _: Quote,
-        _: Quote,
-        _: &mut [u8],
-    ) -> u64 {
+    fn from(&self, _: &Lending, _: &[u8], _: Figures, _: &[u8], _: &mut [u8]) -> u64 {
         match self.0 {}
     }
 
-    fn fetch(&self, _: &[u8], _: u32, _: &[u8], _: u32, _: u32) -> u64 {
+    fn fetch(&self, _: &Lending, _: u32) -> u64 {
         match self.0 {}
     }
 }

@@ -166,8 +166,8 @@ impl Step<'_> {
             buffer.clear();
             buffer.resize(*room, *dirt);
         }
-        let first = self.lending.from(&Second, self.state, self.bill, self.calls, out);
-        let second = self.lending.from(rival, self.state, self.bill, self.calls, other);
+        let first = Second.from(&self.lending, self.state, self.bill, self.calls, out);
+        let second = rival.from(&self.lending, self.state, self.bill, self.calls, other);
         if first != second || out != other {
             panic!("{}", self.difference(rival, place, first, second, out, other));
         }
@@ -438,7 +438,7 @@ fn whole_lists() {
         for _ in 0..1 + dice.below(300) {
             let state = &states[states.len() - 1];
             let call = caller.next(&mut dice, &world, View(state));
-            let written = lending.from(&*rival, state, bill_of(state), &call, &mut out);
+            let written = rival.from(&lending, state, bill_of(state), &call, &mut out);
             assert_eq!(written, out.len() as u64);
             *numbers.entry(answer(&out, 0).0).or_insert(0) += 1;
             answers.extend_from_slice(&out[..ANSWER]);
@@ -452,7 +452,7 @@ fn whole_lists() {
             let expected = [&answers[..length * ANSWER], &states[length]].concat();
             for program in [&Second as &dyn Program, &*rival] {
                 let mut out = vec![0x3C; expected.len() + 5];
-                let written = lending.run(program, &list[..length * CALL], &mut out);
+                let written = program.run(&lending, &list[..length * CALL], &mut out);
                 let place = format!("list {round}, {length} calls, {}", program.name());
                 assert_eq!(written, expected.len() as u64, "{place}");
                 let (written, rest) = out.split_at(expected.len());
@@ -482,12 +482,12 @@ fn not_as_said() {
         for program in [&Second as &dyn Program, &*rival] {
             let name = program.name();
             let mut out = vec![0xC3; room];
-            let written = lending.from(program, state, (0.0, 0.0), calls, &mut out);
+            let written = program.from(&lending, state, (0.0, 0.0), calls, &mut out);
             assert_eq!(written == 0, zero, "{name}: {}", hex(calls));
             assert_eq!(out.iter().all(|&byte| byte == 0xC3), zero, "{name}");
             if state == fresh {
                 let mut out = vec![0xC3; room];
-                let written = lending.run(program, calls, &mut out);
+                let written = program.run(&lending, calls, &mut out);
                 assert_eq!(written == 0, zero, "{name}: {}", hex(calls));
                 assert_eq!(out.iter().all(|&byte| byte == 0xC3), zero, "{name}");
             }
@@ -555,7 +555,12 @@ fn unused_fields() {
                 let mut other = plain.clone();
                 other[at] = 0xFF;
                 let mut out = vec![0xC3; 5 * ANSWER + STATE];
-                assert_eq!(lending.run(program, &other, &mut out), 0, "{} at byte {at}", program.name());
+                assert_eq!(
+                    program.run(&lending, &other, &mut out),
+                    0,
+                    "{} at byte {at}",
+                    program.name()
+                );
                 assert!(out.iter().all(|&byte| byte == 0xC3), "{} at byte {at}", program.name());
             }
         }
@@ -616,8 +621,8 @@ fn fetches() {
                 2 => base.wrapping_add(dice.below(length as u32 + 1)),
                 _ => dice.pick(&[0, 1, 3, 0xFFFF_FFFC, 0xFFFF_FFFD, u32::MAX]),
             };
-            let expected = lending.fetch(&Second, address);
-            assert_eq!(lending.fetch(&*rival, address), expected, "{address:x}, round {round}");
+            let expected = Second.fetch(&lending, address);
+            assert_eq!(rival.fetch(&lending, address), expected, "{address:x}, round {round}");
             seen.see(["nowhere", "on-chip", "external"][(expected >> 60) as usize]);
             seen.see_if(expected != 0 && address % 4 != 0, "unaligned");
         }

@@ -2,19 +2,17 @@
 use bill::Bill;
 use builder::Built;
 use libc::STDIN_FILENO;
-use libc::STDOUT_FILENO;
-use lists::Meaning;
 use meters::Meters;
 use page::Access;
-use page::Kind;
 use page::PhysicalAddress;
 use page::VirtualAddress;
 use prices::Price;
 use prices::Prices;
 use records::Mapping;
 use registers::Answer;
-use registers::Fault;
 use unit::Device;
+
+mod text;
 
 // A session under way.
 struct Bench {
@@ -78,9 +76,9 @@ fn report<'a>(list: &[u8], on: &'a [u8], ext: &'a [u8], len: usize) {
     show::text(b"The list\n  virtual  physical  page     access\n");
     mappings(list);
     show::text(b"\nThe tables, ");
-    decimal(len as u64);
+    text::decimal(len as u64);
     show::text(b" bytes at ");
-    hex(BASE, 8);
+    text::hex(BASE, 8);
     show::text(b"\n  megabyte  word      what it is\n");
     tables(on, ext);
     show::text(b"\nThe session: a fresh unit, and calls made for examples/box.records\n");
@@ -107,21 +105,11 @@ fn length_of(built: Built) -> usize {
 // A refusal's line, and the length of its image.
 fn refused(number: u64, at: u64) -> usize {
     show::text(b"refused ");
-    decimal(number);
+    text::decimal(number);
     show::text(b" at ");
-    decimal(at);
+    text::decimal(at);
     show::text(b"\n");
     0
-}
-
-// A number in decimal.
-fn decimal(n: u64) {
-    io::print_decimal(STDOUT_FILENO, n);
-}
-
-// A number in hexadecimal, with zeros in front up to a width.
-fn hex(n: u32, width: usize) {
-    io::print_hex(STDOUT_FILENO, n as u64, width);
 }
 
 // The mappings of a list, a line each.
@@ -140,24 +128,14 @@ fn mapping(m: Mapping) {
     let to = m.to;
     let k = m.kind;
     show::text(b"  ");
-    hex(at.0, 6);
+    text::hex(at.0, 6);
     show::text(b"   ");
-    hex(to.0, 8);
-    kind(k);
+    text::hex(to.0, 8);
+    text::kind(k);
     if m.access == 3 {
         show::text(b"  both\n");
     } else {
         show::text(b"  read\n");
-    }
-}
-
-// A kind of page as text.
-fn kind(k: Kind) {
-    match k {
-        Kind::Section => show::text(b"  section"),
-        Kind::Large => show::text(b"  large  "),
-        Kind::Small => show::text(b"  small  "),
-        Kind::Tiny => show::text(b"  tiny   "),
     }
 }
 
@@ -181,9 +159,9 @@ fn first_level(mb: u32, w: u32) {
         return;
     }
     show::text(b"  ");
-    hex(mb, 1);
+    text::hex(mb, 1);
     show::text(b"         ");
-    hex(w, 8);
+    text::hex(w, 8);
     match w % 4 {
         0 => show::text(b"  -\n"),
         1 => table(b"  coarse table at offset ", w),
@@ -195,7 +173,7 @@ fn first_level(mb: u32, w: u32) {
 // What a word says that leads to a table of the image.
 fn table(label: &[u8], w: u32) {
     show::text(label);
-    hex(w % 65536 / 1024 * 1024, 4);
+    text::hex(w % 65536 / 1024 * 1024, 4);
     show::text(b"\n");
 }
 
@@ -205,10 +183,10 @@ fn session<'a>(b: Bench, list: &[u8], on: &'a [u8], ext: &'a [u8]) -> Bench {
     let mut i: usize = 0;
     while i < CALLS {
         let step = SESSION[i];
-        question(what_of(step), value_of(step));
+        text::question(what_of(step), value_of(step));
         says(list, what_of(step), value_of(step));
         bench = call(bench, on, ext, what_of(step), value_of(step));
-        remark(remark_of(step));
+        text::remark(remark_of(step));
         i += 1;
     }
     bench
@@ -229,44 +207,13 @@ fn value_of(step: u64) -> u32 {
     (step % 4294967296) as u32
 }
 
-// A call as text.
-fn question(what: u32, x: u32) {
-    match what {
-        1 => named(b"  base high ", x, 4),
-        2 => named(b"  base low  ", x, 4),
-        3 => named(b"  control   ", x, 4),
-        4 => named(b"  read    ", x, 6),
-        5 => named(b"  write   ", x, 6),
-        6 => named(b"  acknowledge  ", x, 1),
-        _ => show::text(b"  drop          "),
-    }
-}
-
-// A label and a number.
-fn named(label: &[u8], x: u32, width: usize) {
-    show::text(label);
-    hex(x, width);
-}
-
 // What the list says of a call: a physical byte or a fault for a request, else nothing.
 fn says(list: &[u8], what: u32, x: u32) {
     show::text(b"  ");
     match what {
-        4 => meaning(lists::means(list, VirtualAddress(x), Access::Read)),
-        5 => meaning(lists::means(list, VirtualAddress(x), Access::Write)),
+        4 => text::meaning(lists::means(list, VirtualAddress(x), Access::Read)),
+        5 => text::meaning(lists::means(list, VirtualAddress(x), Access::Write)),
         _ => show::text(b"-          "),
-    }
-}
-
-// What a list means at an address, as text.
-fn meaning(m: Meaning) {
-    match m {
-        Meaning::Byte(at) => {
-            hex(at.0, 8);
-            show::text(b"   ");
-        }
-        Meaning::Permission => show::text(b"fault 23   "),
-        Meaning::Translation => show::text(b"fault 21   "),
     }
 }
 
@@ -351,63 +298,9 @@ fn drop(b: Bench) -> Bench {
 
 // An answer, and by how much the words metered before a call differ from those after it.
 fn tell(answer: Answer, before: u32, after: u32) {
-    said(answer);
+    text::said(answer);
     if before <= after {
-        decimal((after - before) as u64);
-    }
-}
-
-// An answer as text.
-fn said(answer: Answer) {
-    match answer {
-        Answer::Address(at) => {
-            hex(at.0, 8);
-            show::text(b"              ");
-        }
-        Answer::Fault(k) => fault(k),
-        Answer::Value(v) => {
-            hex(v as u32, 4);
-            show::text(b"                  ");
-        }
-        Answer::Done => show::text(b"done                  "),
-        Answer::Refused(k) => {
-            show::text(b"refused ");
-            decimal(k as u64);
-            show::text(b"             ");
-        }
-    }
-}
-
-// A fault as text.
-fn fault(k: Fault) {
-    match k {
-        Fault::Translation => show::text(b"fault 21 translation  "),
-        Fault::Miss => show::text(b"fault 22 miss         "),
-        Fault::Permission => show::text(b"fault 23 permission   "),
-        Fault::Prefetch => show::text(b"fault 24 prefetch     "),
-    }
-}
-
-// A remark on a call, and a line end.
-fn remark(note: u32) {
-    match note {
-        1 => show::text(b"      the tables' place\n"),
-        2 => show::text(b"      on, walking\n"),
-        3 => show::text(b"      code\n"),
-        4 => show::text(b"      the same page\n"),
-        5 => show::text(b"      heap\n"),
-        6 => show::text(b"      video frames\n"),
-        7 => show::text(b"      stack\n"),
-        8 => show::text(b"      stack overrun\n"),
-        9 => show::text(b"      a retry\n"),
-        10 => show::text(b"      given up\n"),
-        11 => show::text(b"      a decoder at the keys\n"),
-        12 => show::text(b"      the keys' own task\n"),
-        13 => show::text(b"      the same address\n"),
-        14 => show::text(b"      product data\n"),
-        15 => show::text(b"      on, not walking\n"),
-        16 => show::text(b"      audio stream\n"),
-        _ => show::text(b"\n"),
+        text::decimal((after - before) as u64);
     }
 }
 
@@ -416,11 +309,11 @@ fn total(b: Bench) {
     let m = b.meters;
     let paid = b.bill;
     show::text(b"\nThe meters and the bill\n  fresh requests    ");
-    decimal(m.fresh as u64);
+    text::decimal(m.fresh as u64);
     show::text(b"\n  retries           ");
-    decimal(m.retries as u64);
+    text::decimal(m.retries as u64);
     show::text(b"\n  words read        ");
-    decimal(m.words as u64);
+    text::decimal(m.words as u64);
     show::text(b"\n  nanoseconds paid  ");
     amount(paid.total);
     show::text(b"\nA retry is counted as a retry, never as a fresh request.\n");
@@ -437,7 +330,7 @@ fn amount(x: f64) {
 
 // A whole part, and whether there is more.
 fn whole(n: u64, x: f64) {
-    decimal(n);
+    text::decimal(n);
     if std::num::nearest_u64_to_f64(n) != x {
         show::text(b" and a fraction");
     }

@@ -4,7 +4,7 @@
 //! quartiles, and the median of the rounds' own ratios. Before that the two are
 //! seen to write the same bytes.
 
-use second::boundary::{self, Program, Quote, Second, ANSWER, STATE};
+use second::boundary::{self, Lending, Program, Second, ANSWER, STATE};
 use second::dice::Dice;
 use second::native;
 use std::hint::black_box;
@@ -59,18 +59,15 @@ impl Work {
     fn go(&mut self, program: &dyn Program) {
         match self {
             Work::Run { calls, on_chip, external, out } => {
-                let on_price: Quote = (0, 3.5, 0.0);
-                let external_price: Quote = (1, 10.0, 45.0);
-                let written = program.run(
-                    black_box(calls),
-                    on_chip,
-                    BASE,
+                let lending = Lending {
+                    on: on_chip,
+                    on_base: BASE,
                     external,
-                    EXTERNAL,
-                    on_price,
-                    external_price,
-                    out,
-                );
+                    external_base: EXTERNAL,
+                    on_price: (0, 3.5, 0.0),
+                    external_price: (1, 10.0, 45.0),
+                };
+                let written = program.run(&lending, black_box(calls), out);
                 assert_eq!(written as usize, out.len());
                 black_box(out);
             }

@@ -7,7 +7,9 @@ pub mod lists;
 pub mod rows;
 pub mod worlds;
 
-use second::boundary::{self, Program, Quote, Second};
+use second::boundary::{self, Program, Second};
+
+pub use second::boundary::Lending;
 use second::native;
 use std::sync::{Mutex, MutexGuard, PoisonError};
 
@@ -207,66 +209,6 @@ impl View<'_> {
 
     pub fn row(&self, role: usize) -> u32 {
         word(self.0, boundary::ROWS_AT + 4 * role)
-    }
-}
-
-/// What is lent beside the calls.
-#[derive(Clone, Copy, Debug)]
-pub struct Lending<'a> {
-    pub on: &'a [u8],
-    pub on_base: u32,
-    pub external: &'a [u8],
-    pub external_base: u32,
-    pub on_price: Quote,
-    pub external_price: Quote,
-}
-
-impl<'a> Lending<'a> {
-    /// One on-chip memory, and a price of 1 for each word.
-    pub fn plain(on: &'a [u8], on_base: u32) -> Lending<'a> {
-        let flat = (0, 1.0, 0.0);
-        let external: &[u8] = &[];
-        Lending { on, on_base, external, external_base: 0, on_price: flat, external_price: flat }
-    }
-
-    pub fn run(&self, program: &dyn Program, calls: &[u8], out: &mut [u8]) -> u64 {
-        program.run(
-            calls,
-            self.on,
-            self.on_base,
-            self.external,
-            self.external_base,
-            self.on_price,
-            self.external_price,
-            out,
-        )
-    }
-
-    pub fn from(
-        &self,
-        program: &dyn Program,
-        state: &[u8],
-        (total, misses): (f64, f64),
-        calls: &[u8],
-        out: &mut [u8],
-    ) -> u64 {
-        program.from(
-            state,
-            total,
-            misses,
-            calls,
-            self.on,
-            self.on_base,
-            self.external,
-            self.external_base,
-            self.on_price,
-            self.external_price,
-            out,
-        )
-    }
-
-    pub fn fetch(&self, program: &dyn Program, address: u32) -> u64 {
-        program.fetch(self.on, self.on_base, self.external, self.external_base, address)
     }
 }
 

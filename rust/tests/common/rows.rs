@@ -31,7 +31,7 @@ pub fn play(
     let start = start();
     let all = [&start[..], calls].concat();
     let mut out = vec![0xA5; all.len() * 16 + STATE];
-    let written = lending.run(program, &all.concat(), &mut out);
+    let written = program.run(&lending, &all.concat(), &mut out);
     assert_eq!(written, out.len() as u64);
     let answers: Vec<(u32, i64)> = (0..all.len()).map(|index| answer(&out, index)).collect();
     assert!(answers[..start.len()].iter().all(|&answer| answer == (0, 0)));
@@ -92,7 +92,7 @@ pub fn bench_sheet(program: &dyn Program) {
     let mut other = memory.clone();
     put_word(&mut other, 0x448, 0x7777_0031);
     assert_eq!(answers(program, &other, &[request(0, 0x01_2345)]), [address(0x7777_2345)]);
-    let fetched = Lending::plain(&memory, BASE).fetch(program, 0x2000_0448);
+    let fetched = program.fetch(&Lending::plain(&memory, BASE), 0x2000_0448);
     assert_eq!(fetched, 1 << 60 | 0x448 << 32 | 0x1002_0031);
 
     // Reads and writes.
@@ -141,7 +141,7 @@ pub fn empty_list(program: &dyn Program) {
     for page in 0..1_u32 << 14 {
         for low in [0, 1_023, page * 37 % 1_024] {
             let calls = request(page as u8 >> 1 & 1, page << 10 | low);
-            let written = lending.from(program, &begun, (0.0, 0.0), &calls, &mut out);
+            let written = program.from(&lending, &begun, (0.0, 0.0), &calls, &mut out);
             assert_eq!(written, out.len() as u64);
             assert_eq!(answer(&out, 0), (21, 0), "page {page:x}");
         }
@@ -221,7 +221,7 @@ pub fn faults_are_not_cached(program: &dyn Program) {
     put_word(&mut changed, 0x1008, 0x1234_5433);
     let mut out = [0; 16 + STATE];
     let lending = Lending::plain(&changed, BASE);
-    lending.from(program, &after, (0.0, 0.0), &request(0, 0x50_0ABC), &mut out);
+    program.from(&lending, &after, (0.0, 0.0), &request(0, 0x50_0ABC), &mut out);
     assert_eq!(answer(&out, 0), address(0x1234_56BC));
 }
 
