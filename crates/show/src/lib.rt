@@ -7,10 +7,15 @@ pub fn line(label: &[u8], n: u64) {
     value(n);
 }
 
-// A space, a number in hexadecimal, and a line end.
-pub fn value(n: u64) {
+// A space and a number in hexadecimal.
+pub fn number(n: u64) {
     text(b" ");
     io::print_hex(STDOUT_FILENO, n, 1);
+}
+
+// A space, a number in hexadecimal, and a line end.
+pub fn value(n: u64) {
+    number(n);
     text(b"\n");
 }
 
@@ -31,19 +36,15 @@ pub fn verdict(yes: bool) {
 
 // Two numbers in hexadecimal, each after a space.
 pub fn numbers(a: u64, b: u64) {
-    text(b" ");
-    io::print_hex(STDOUT_FILENO, a, 1);
-    text(b" ");
-    io::print_hex(STDOUT_FILENO, b, 1);
+    number(a);
+    number(b);
 }
 
 // A colon, a number of the paper in decimal, a value in hexadecimal, and a line end.
-pub fn said(number: u64, value: u64) {
+pub fn said(k: u64, n: u64) {
     text(b": ");
-    io::print_decimal(STDOUT_FILENO, number);
-    text(b" ");
-    io::print_hex(STDOUT_FILENO, value, 1);
-    text(b"\n");
+    io::print_decimal(STDOUT_FILENO, k);
+    value(n);
 }
 
 // A number in decimal.
