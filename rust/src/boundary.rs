@@ -6,7 +6,8 @@ use crate::bill::{Bill, Price, Prices};
 use crate::builder::{self, Refused};
 use crate::memory::{Memories, Role};
 use crate::meters::Meters;
-use crate::unit::{Access, Books, Image, Lent, Pending, Unit, SLOTS};
+use crate::slots::SLOTS;
+use crate::unit::{Access, Books, Image, Lent, Pending, Unit};
 
 /// Bytes of one call, of one answer, and of the state.
 pub const CALL: usize = 12;

@@ -12,5 +12,7 @@ pub mod dice;
 pub mod memory;
 pub mod meters;
 pub mod native;
+pub mod registers;
+pub mod slots;
 pub mod unit;
 pub mod walk;

@@ -3,8 +3,11 @@
 
 #![allow(dead_code)]
 
+pub mod callers;
+pub mod coverage;
 pub mod lists;
 pub mod rows;
+pub mod states;
 pub mod worlds;
 
 use second::boundary::{self, Program, Second};

@@ -1,0 +1,125 @@
+//! What a run of the differential tests has seen, counted by name.
+
+use super::*;
+use std::collections::BTreeMap;
+use std::fmt::Write as _;
+
+/// How often something was seen, by name.
+#[derive(Default)]
+pub struct Coverage(BTreeMap<String, u64>);
+
+impl Coverage {
+    pub fn see(&mut self, name: impl AsRef<str>) {
+        match self.0.get_mut(name.as_ref()) {
+            Some(count) => *count += 1,
+            None => {
+                self.0.insert(name.as_ref().into(), 1);
+            }
+        }
+    }
+
+    pub fn see_if(&mut self, seen: bool, name: &str) {
+        if seen {
+            self.see(name);
+        }
+    }
+
+    pub fn count(&self, name: &str) -> u64 {
+        self.0.get(name).copied().unwrap_or(0)
+    }
+
+    /// Prints all counts, and fails where one of these is below `least`.
+    pub fn demand(&self, least: u64, names: &[String]) {
+        let mut table = String::new();
+        for (name, count) in &self.0 {
+            writeln!(table, "  {count:>9}  {name}").unwrap();
+        }
+        println!("{table}");
+        let short: Vec<_> = names.iter().filter(|name| self.count(name) < least).collect();
+        assert!(short.is_empty(), "seen fewer than {least} times: {short:?}");
+    }
+}
+
+/// What one call was, seen from its answer and the states around it.
+pub fn see_step(seen: &mut Coverage, call: &[u8], answer: (u32, i64), before: &[u8], after: &[u8]) {
+    let (number, value) = answer;
+    let (old, new) = (View(before), View(after));
+    let words = new.words().wrapping_sub(old.words());
+    seen.see(format!("answer {number:03}"));
+    let kind = ["", "write", "read", "request", "drop", "shift report"][call[0] as usize];
+    seen.see(format!("{kind} answered {number:03}"));
+    let slots = 0..32;
+    let filled = (0..32).find(|&slot| old.slot(slot) != new.slot(slot));
+    if matches!(call[0], 1 | 2) && call[1].is_multiple_of(4) && call[1] <= 0x50 {
+        let how = if matches!(number, 6 | 8) { " refused" } else { "" };
+        seen.see(format!("{kind} of {:02x}{how}", call[1]));
+    }
+    let attempt = call[0] == 3 || call[0] == 1 && call[1] == ACKNOWLEDGE;
+    let retry = call[0] == 1 && call[1] == ACKNOWLEDGE;
+    if attempt && matches!(number, 21 | 22 | 23 | 100) {
+        seen.see_if(number == 100 && old.on() && words == 0, "hit");
+        seen.see_if(number == 100 && words > 0, "miss, walked and found");
+        seen.see_if(number == 100 && words == 1, "section found");
+        seen.see_if(number == 100 && words == 2, "page of a table found");
+        seen.see_if(number == 21 && words == 1, "fault at the first level");
+        seen.see_if(number == 21 && words == 2, "fault at the second level");
+        seen.see_if(number == 23 && words == 0, "permission fault on a match");
+        seen.see_if(number == 23 && words > 0, "permission fault after a walk");
+        seen.see_if(!old.on(), "attempt while off");
+        seen.see_if(retry && number == 100, "retry got an address");
+        seen.see_if(retry && number != 100, "retry got a fault");
+        seen.see_if(retry && !old.on(), "retry while off");
+        let came = number.wrapping_sub(21);
+        seen.see_if(
+            retry && number != 100 && old.pending().0 != 1 << came,
+            "retry got another fault",
+        );
+        seen.see_if(number == 100 && value > 0x7FFF_FFFF, "address with bit 31");
+        let meter = if retry { old.retries() } else { old.fresh() };
+        seen.see_if(meter == u32::MAX, "attempt meter at its stop");
+        seen.see_if(words > 0 && old.words() > u32::MAX - 2, "words meter at its stop");
+        seen.see_if(old.misses() < 0.0, "smoothing from below zero");
+        for role in 0..2 {
+            seen.see_if(words > 0 && old.row(role) != new.row(role), "a row moved");
+            seen.see_if(words > 0 && old.row(role) == u32::MAX, "no row before");
+        }
+    }
+    if call[0] == 1 && call[1] == PREFETCH {
+        seen.see_if(number == 0 && words == 0, "prefetch on a match");
+        seen.see_if(number == 0 && words > 0, "prefetch filled");
+        seen.see_if(number == 24, "prefetch fault");
+    }
+    if retry && number == 0 {
+        seen.see_if(old.pending().0 == 8 && new.pending().0 == 0, "pending prefetch dropped");
+        seen.see_if(call[8] & 1 == 0, "acknowledge with bit 0 clear");
+    }
+    if words > 0 && old.words() <= u32::MAX - 2 {
+        if let Some(slot) = filled {
+            seen.see_if(slot == 31, "fill of slot 31");
+            seen.see_if(old.victim() < old.lock_base(), "fill with the victim below the base");
+            seen.see_if(slot == 31 && new.victim() == old.lock_base(), "victim back to the base");
+            let [_, low, _, _] = new.slot(slot);
+            seen.see(format!("fill of type {}", low & 3));
+        }
+    }
+    if call[0] == 1 && call[1] == GLOBAL_FLUSH && call[8] & 1 != 0 {
+        let valid = |view: &View, slot| view.slot(slot)[1] & 4 != 0;
+        let locked = usize::from(old.lock_base());
+        for slot in slots.clone() {
+            let kept = valid(&new, slot);
+            seen.see_if(valid(&old, slot) && !kept && slot < locked, "locked slot flushed");
+            seen.see_if(valid(&old, slot) && kept && slot >= locked, "unlocked slot preserved");
+        }
+    }
+    if call[0] == 1 && call[1] == ENTRY_FLUSH && call[8] & 1 != 0 {
+        let cleared = slots.filter(|&slot| old.slot(slot) != new.slot(slot)).count();
+        seen.see_if(cleared == 1, "entry flush of one slot");
+        seen.see_if(cleared > 1, "entry flush of more slots");
+    }
+    seen.see_if(call[0] == 1 && call[1] == CONTROL && call[8] & 1 == 0 && number == 0, "reset");
+    seen.see_if(call[0] == 1 && call[1] == LOAD && call[8] & 3 == 1 && number == 0, "load");
+    seen.see_if(call[0] == 1 && call[1] == LOAD && call[8] & 3 == 2 && number == 0, "copy");
+    seen.see_if(number == 102 && value < 0, "distance below zero");
+    seen.see_if(number == 102 && value > 0, "distance above zero");
+    seen.see_if(number == 3 && old.pending().0 != 0 && retry, "retry refused 3");
+}
