@@ -1,2 +1,1 @@
-pub mod Complement
 pub mod Lengths

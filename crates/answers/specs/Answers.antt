@@ -1,5 +1,5 @@
 -- What a call said as 16 bytes: a number, a zero word, and a value of 8 bytes in two's complement.
-use Rattle.page.specs.Ground.{ℕ, _-_, _^_, List, _∷_}
+use Rattle.page.specs.Ground.{ℕ, List, _∷_}
 use Rattle.registers.specs.Answers.{faultNumber}
 use Rattle.registers.specs.declared.Answer.{Answer}
 use Rattle.registers.specs.declared.Answer.the-variants as A
@@ -7,7 +7,7 @@ use Rattle.decision.specs.declared.Shift.{Shift}
 use Rattle.decision.specs.declared.Shift.the-variants as H
 use Rattle.session.specs.declared.Said.{Said}
 use Rattle.session.specs.declared.Said.the-variants.{Answered, Reported}
-use lib.IntN.{ℤ, pos, negsuc}
+use Rattle.signed.specs.Signed.{twos}
 use Rattle.wire.specs.Words.{wide}
 
 -- the numbers of what the paper gives none: a physical address, a register's value, a distance
@@ -34,11 +34,6 @@ answerValue (A.Value x) = x
 answerValue A.Done = 0
 answerValue (A.Refused k) = 0
 
--- 64 bits in two's complement: -1 - n is 2^64 - 1 - n
-abbrev pub twos : ℤ → ℕ
-twos (pos n) = n
-twos (negsuc n) = 2 ^ 64 - 1 - n
-
 abbrev pub shiftNumber : Shift → ℕ
 shiftNumber (H.Distance z) = aDistance
 shiftNumber H.Fault = 21
@@ -48,10 +43,6 @@ abbrev pub shiftValue : Shift → ℕ
 shiftValue (H.Distance z) = twos z
 shiftValue H.Fault = 0
 shiftValue (H.Refused k) = 0
-
--- the bytes of an answer
-abbrev pub answerSize : ℕ
-answerSize = 16
 
 -- a number and its value
 abbrev pub pairWords : ℕ → ℕ → List ℕ

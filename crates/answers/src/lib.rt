@@ -6,7 +6,7 @@ use session::Said;
 ghost use mathlib.Core.Path.{_≡_};
 ghost use Rattle.registers.specs.Answers.{faultNumber};
 ghost use Rattle.wire.specs.Words.{written};
-ghost use Rattle.answers.specs.Answers.{answerNumber, answerValue, twos, shiftNumber, shiftValue, pairWords, saidWords};
+ghost use Rattle.answers.specs.Answers.{answerNumber, answerValue, shiftNumber, shiftValue, pairWords, saidWords};
 
 // The number of a fault.
 fn fault_number(k: Fault) -> u32
@@ -57,22 +57,12 @@ fn shift_number(s: Shift) -> u32
     }
 }
 
-// A distance in two's complement.
-fn twos(d: i64) -> u64
-    ensures { λ r. ⌜ r ≡ twos d ⌝ }
-{
-    if d < 0 {
-        return 18446744073709551615 - (-1 - d) as u64;
-    }
-    d as u64
-}
-
 // The value beside a shift report's number.
 fn shift_value(s: Shift) -> u64
     ensures { λ r. ⌜ r ≡ shiftValue s ⌝ }
 {
     match s {
-        Shift::Distance(d) => twos(d),
+        Shift::Distance(d) => signed::twos(d),
         Shift::Fault => 0,
         Shift::Refused(_) => 0,
     }

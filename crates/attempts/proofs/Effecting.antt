@@ -7,8 +7,10 @@ use Rattle.memory.specs.Reads.{wordCount}
 use Rattle.registers.specs.Fields.{withPrefetch}
 use Rattle.decision.specs.Decisions.{tallyOf}
 use Rattle.decision.specs.Prefetches.{pageAt, prefetchKept}
-use Rattle.attempts.specs.Types.{Access, VirtualAddress, Tally, Bill, Prices, Bank, Pending, Decision, Registers, Effect}
-use Rattle.attempts.specs.Effects.{ended, attempted, prefetchEnded}
+use Rattle.effects.specs.Types.{Access, VirtualAddress, Tally, Bill, Prices, Bank, Pending, Decision, Registers}
+use Rattle.effects.specs.declared.Effect.{Effect}
+use Rattle.effects.specs.Effects.{ended}
+use Rattle.attempts.specs.Effects.{attempted, prefetchEnded}
 
 abbrev counted : ℕ → Tally
 counted n = record { fresh = 0; retries = 0; words = n }

@@ -1,15 +1,15 @@
 -- Banks in range, and what keeps them there. Assumes nothing.
-use mathlib.Core.Path.{_≡_, sym, _∙_}
-use mathlib.Core.Bool.{Bool, true, false}
+use mathlib.Core.Path.{_≡_, _∙_, ap₂}
+use mathlib.Core.Bool.{Bool, true, _&&_}
 use Prim.Native.Nat.{ℕ, _+_, _<_, _≤_}
 use native.Mathlib.Omega.{arith}
 use lib.Dec.{ltb}
-use borrow.Author.Tests.{lt-ltb, le-ltb, ltb-true}
+use borrow.Author.Tests.{lt-ltb, ltb-true}
 use Rattle.page.specs.Pick.{_and_}
 use Rattle.page.specs.Words.{wordFlushed, wordFlushedAt}
 use Rattle.page.specs.declared.VirtualAddress.{VirtualAddress}
 use Rattle.page.specs.declared.Words.{Words}
-use Rattle.page.proofs.Picks.{pick-by, and-yes, and-no, and-left, and-right}
+use Rattle.page.proofs.Picks.{pick-by, and-yes, and-left, and-right, all-four}
 use Rattle.lanes.specs.Lanes.{slots, camLimit, camOk, ramOk, camsOk, ramsOk, flushedAll, flushedEntry}
 use Rattle.lanes.proofs.Ranges.{all-each, all-set, all-map, flushed-ok, flushedAt-ok}
 use Rattle.bank.specs.declared.Bank.{Bank}
@@ -42,25 +42,10 @@ module _ (b : Bank) where
   unfolding bankOk
   ranged r = and-yes _ _ (lt-ltb _ _ (r .lock)) ∙ and-yes _ _ (lt-ltb _ _ (r .victim)) ∙ and-yes _ _ (r .cams) ∙ r .rams
 
--- the code's tests, in its order
-module _ (b : Bank) where
-  pub lock-out : slots ≤ b .lock → false ≡ bankOk b
-  unfolding bankOk
-  lock-out h = sym (and-no _ _ (le-ltb _ _ h))
-
-  module _ (l : b .lock < slots) where
-    pub victim-out : slots ≤ b .victim → false ≡ bankOk b
-    unfolding bankOk
-    victim-out h = sym (and-yes _ _ (lt-ltb _ _ l) ∙ and-no _ _ (le-ltb _ _ h))
-
-    module _ (v : b .victim < slots) where
-      pub cams-out : camsOk camLimit (b .cam) ≡ false → false ≡ bankOk b
-      unfolding bankOk
-      cams-out h = sym (and-yes _ _ (lt-ltb _ _ l) ∙ and-yes _ _ (lt-ltb _ _ v) ∙ and-no _ _ h)
-
-      pub cams-in : camsOk camLimit (b .cam) ≡ true → ramsOk (b .ram) ≡ bankOk b
-      unfolding bankOk
-      cams-in h = sym (and-yes _ _ (lt-ltb _ _ l) ∙ and-yes _ _ (lt-ltb _ _ v) ∙ and-yes _ _ h)
+-- the code's tests, as the machine joins them
+pub ok-is : (b : Bank) (cams rams : Bool) → cams ≡ camsOk camLimit (b .cam) → rams ≡ ramsOk (b .ram) → (((ltb (b .lock) slots && ltb (b .victim) slots) && cams) && rams) ≡ bankOk b
+unfolding bankOk
+ok-is b cams rams p q = all-four _ _ _ _ ∙ ap₂ (λ (x y : Bool). ltb (b .lock) slots and ltb (b .victim) slots and x and y) p q
 
 pub nextSlot-lt : (n victim lock : ℕ) → victim < n → lock < n → nextSlot victim lock < n
 unfolding nextSlot

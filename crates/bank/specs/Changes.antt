@@ -1,20 +1,12 @@
 -- What changes the slots: fill, load, flushes, lock (01, "The walk", "Registers").
-use Rattle.page.specs.Ground.{ℕ, _+_, List, ltb, getD, set}
-use Rattle.page.specs.Pick.{pick}
+use Rattle.page.specs.Ground.{ℕ, List, getD, set}
 use Rattle.page.specs.declared.VirtualAddress.{VirtualAddress}
 use Rattle.page.specs.declared.Words.{Words}
-use Rattle.lanes.specs.Lanes.{slots, flushedAll, flushedEntry}
+use Rattle.lanes.specs.Lanes.{flushedAll, flushedEntry}
+unfoldable pub use Rattle.victim.specs.Victim.{nextSlot, nextVictim}
 use Rattle.bank.specs.declared.Bank.{Bank}
 use Rattle.bank.specs.declared.Fill.{Fill}
 use Rattle.bank.specs.declared.Fill.the-variants.{Nothing, Slot}
-
--- a fill takes the larger of victim and lock base
-unfoldable pub nextSlot : ℕ → ℕ → ℕ
-nextSlot victim lock = pick (ltb victim lock) lock victim
-
--- after it the victim is the slot after, or the lock base after the last slot
-unfoldable pub nextVictim : ℕ → ℕ → ℕ
-nextVictim slot lock = pick (ltb (slot + 1) slots) (slot + 1) lock
 
 -- the words in slot i
 abbrev pub storedAt : Bank → ℕ → Words → Bank

@@ -5,7 +5,7 @@ use page::VirtualAddress;
 use page::Words;
 ghost use mathlib.Core.Path.{_≡_};
 ghost use Rattle.bank.specs.Slots.{bankOk, freshBank};
-ghost use Rattle.bank.specs.Changes.{nextSlot, nextVictim, storedAt, filled, entryFilled, loaded, copied, lockedAt, bankFlushed, bankFlushedAt};
+ghost use Rattle.bank.specs.Changes.{storedAt, filled, entryFilled, loaded, copied, lockedAt, bankFlushed, bankFlushedAt};
 
 pub struct Bank {
     pub cam: [u32; SLOTS],
@@ -18,24 +18,6 @@ pub struct Bank {
 pub enum Fill {
     Nothing,
     Slot(Words),
-}
-
-// The slot that the next fill takes.
-fn next_slot(victim: u8, lock: u8) -> u8
-    ensures { λ r. ⌜ r ≡ nextSlot victim lock ⌝ }
-{
-    if victim < lock { lock } else { victim }
-}
-
-// The victim after a fill of a slot.
-fn next_victim(at: u8, lock: u8) -> u8
-    ensures { λ r. ⌜ r ≡ nextVictim at lock ⌝ }
-{
-    if at as usize + 1 < SLOTS {
-        at + 1
-    } else {
-        lock
-    }
 }
 
 impl Bank {
@@ -55,16 +37,10 @@ impl Bank {
     pub fn in_range(self) -> bool
         ensures { λ r. ⌜ r ≡ bankOk self ⌝ }
     {
-        if SLOTS <= self.lock as usize {
-            return false;
-        }
-        if SLOTS <= self.victim as usize {
-            return false;
-        }
-        if !lanes::cams_ok(&self.cam, CAM_LIMIT) {
-            return false;
-        }
-        lanes::rams_ok(&self.ram)
+        let mut ok = (self.lock as usize) < SLOTS;
+        ok = ok & ((self.victim as usize) < SLOTS);
+        ok = ok & lanes::cams_ok(&self.cam, CAM_LIMIT);
+        ok & lanes::rams_ok(&self.ram)
     }
 
     // The words in a slot; no change where there is no such slot.
@@ -85,8 +61,8 @@ impl Bank {
     pub fn fill(self, words: Words) -> Bank
         ensures { λ r. ⌜ r ≡ filled self words ⌝ }
     {
-        let at = next_slot(self.victim, self.lock);
-        let next = next_victim(at, self.lock);
+        let at = victim::next_slot(self.victim, self.lock);
+        let next = victim::next_victim(at, self.lock);
         let mut e = self.store_at(at, words);
         e.victim = next;
         e
@@ -97,8 +73,8 @@ impl Bank {
         ensures { λ r. ⌜ r ≡ entryFilled self fill ⌝ }
     {
         match fill {
-            Fill::Nothing => self,
-            Fill::Slot(w) => self.fill(w),
+            Fill::Nothing => return self,
+            Fill::Slot(w) => return self.fill(w),
         }
     }
 

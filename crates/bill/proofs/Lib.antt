@@ -1,6 +1,2 @@
-pub mod Values
-pub mod Finite
-pub mod Largest
-pub mod Smoothing
 pub mod Posting
 pub mod Stays

@@ -17,8 +17,8 @@ use Rattle.prices.proofs.Values.{zero-is}
 use Rattle.prices.proofs.Range.{in-range}
 use Rattle.prices.proofs.Figure.{charged-figure}
 use Rattle.bill.specs.Bill.{billOk, moneyOk, placePosted, wordPosted, wordsPosted, readsPosted, attemptPosted, seenPosted, freshBill, Good}
-use Rattle.bill.proofs.Largest.{word-finite}
-use Rattle.bill.proofs.Smoothing.{smoothed-finite, smoothed-fits}
+use Rattle.figures.proofs.Largest.{word-finite}
+use Rattle.figures.proofs.Smoothing.{smoothed-finite, smoothed-fits}
 
 holds : {t : Bool} → t ≡ true → T t
 holds e = subst T (sym e) tt

@@ -2,18 +2,12 @@
 -- IEEE 754, in the order written here.
 use Rattle.page.specs.Ground.{ℕ, _≡_, Bool, true, false, List, [], _∷_}
 use Rattle.page.specs.Pick.{_and_}
-use Rattle.bill.specs.Types.{Float, binary64, Place, OnChip, External, Nowhere, Source, Reads, Prices, Seen, Nothing, Match, NoMatch, Bill}
+use Rattle.bill.specs.Types.{binary64, Place, OnChip, External, Nowhere, Source, Reads, Prices, Seen, Nothing, Match, NoMatch, Bill}
 use Rattle.memory.specs.Reads.{sources}
 use Rattle.prices.specs.Prices.{f0, pricesOk, rowOf, wordPrice, sideRead, freshSide}
-use lib.Ieee.{ofBits, add, sub, mul, fits}
-pub use lib.Ieee.Scale.{finite}
-
--- 1 and 1/8 as bit patterns of an f64
-abbrev pub f1 : Float
-f1 = ofBits binary64 0x3ff0_0000_0000_0000
-
-abbrev pub f⅛ : Float
-f⅛ = ofBits binary64 0x3fc0_0000_0000_0000
+use lib.Ieee.{add, fits}
+pub use Rattle.figures.specs.Figures.{finite, f1, f⅛, outcomeOf}
+unfoldable pub use Rattle.figures.specs.Figures.{smoothed}
 
 -- neither figure is infinite or NaN
 abbrev pub billOk : Bill → Bool
@@ -50,15 +44,6 @@ wordsPosted p b (s ∷ rest) = wordsPosted p (wordPosted p b s) rest
 -- the words of a walk
 abbrev pub readsPosted : Prices → Bill → Reads → Bill
 readsPosted p b r = wordsPosted p b (sources r)
-
--- 1 on no match, else 0
-abbrev pub outcomeOf : Bool → Float
-outcomeOf true = f1
-outcomeOf false = f0
-
--- mean + (x - mean) * 0.125
-unfoldable pub smoothed : Float → Bool → Float
-smoothed mean missed = add binary64 mean (mul binary64 (sub binary64 (outcomeOf missed) mean) f⅛)
 
 -- a metered request or retry while the unit is on
 unfoldable pub attemptPosted : Bill → Bool → Bill

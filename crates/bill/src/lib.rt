@@ -5,7 +5,7 @@ use memory::Source;
 use prices::Prices;
 use prices::Side;
 ghost use mathlib.Core.Path.{_≡_};
-ghost use Rattle.bill.specs.Bill.{finite, billOk, moneyOk, wordPosted, readsPosted, outcomeOf, smoothed, attemptPosted, seenPosted, freshBill};
+ghost use Rattle.bill.specs.Bill.{billOk, moneyOk, wordPosted, readsPosted, attemptPosted, seenPosted, freshBill};
 
 // The running total in nanoseconds, the smoothed miss figure, and the two sides.
 pub struct Bill {
@@ -22,36 +22,11 @@ pub enum Seen {
     NoMatch,
 }
 
-// Whether a figure is neither infinite nor NaN.
-fn is_finite(x: f64) -> bool
-    ensures { λ r. ⌜ r ≡ finite x ⌝ }
-{
-    x - x == 0.0
-}
-
 // Refusal 9: false where it holds.
 pub fn money_ok(prices: Prices, bill: Bill) -> bool
     ensures { λ r. ⌜ r ≡ moneyOk prices bill ⌝ }
 {
-    if prices::prices_ok(prices) {
-        bill.ok()
-    } else {
-        false
-    }
-}
-
-// What the smoothing takes an attempt for: 1 on no match, else 0.
-fn outcome(missed: bool) -> f64
-    ensures { λ r. ⌜ r ≡ outcomeOf missed ⌝ }
-{
-    if missed { 1.0 } else { 0.0 }
-}
-
-// The miss figure after an attempt.
-fn smooth(mean: f64, missed: bool) -> f64
-    ensures { λ r. ⌜ r ≡ smoothed mean missed ⌝ }
-{
-    mean + (outcome(missed) - mean) * 0.125
+    prices::prices_ok(prices) & bill.ok()
 }
 
 impl Bill {
@@ -71,11 +46,7 @@ impl Bill {
     pub fn ok(self) -> bool
         ensures { λ r. ⌜ r ≡ billOk self ⌝ }
     {
-        if is_finite(self.total) {
-            is_finite(self.misses)
-        } else {
-            false
-        }
+        figures::is_finite(self.total) & figures::is_finite(self.misses)
     }
 
     // The bill after a word that was read, by the price of the memory that holds it.
@@ -88,27 +59,21 @@ impl Bill {
         match place {
             Place::OnChip(_) => {
                 let side = self.onchip;
-                let other = self.external;
                 let price = prices.onchip;
-                Bill {
-                    total: self.total + prices::word_price(price, side, row),
-                    misses: self.misses,
-                    onchip: side.read(row),
-                    external: other,
-                }
+                let mut e = self;
+                e.total = self.total + prices::word_price(price, side, row);
+                e.onchip = side.read(row);
+                return e;
             }
             Place::External(_) => {
                 let side = self.external;
-                let other = self.onchip;
                 let price = prices.external;
-                Bill {
-                    total: self.total + prices::word_price(price, side, row),
-                    misses: self.misses,
-                    onchip: other,
-                    external: side.read(row),
-                }
+                let mut e = self;
+                e.total = self.total + prices::word_price(price, side, row);
+                e.external = side.read(row);
+                return e;
             }
-            Place::Nowhere => self,
+            Place::Nowhere => return self,
         }
     }
 
@@ -117,9 +82,9 @@ impl Bill {
         ensures { λ r. ⌜ r ≡ readsPosted prices self reads ⌝ }
     {
         match reads {
-            Reads::Nothing => self,
-            Reads::One(a) => self.post_word(a, prices),
-            Reads::Two(a, b) => self.post_word(a, prices).post_word(b, prices),
+            Reads::Nothing => return self,
+            Reads::One(a) => return self.post_word(a, prices),
+            Reads::Two(a, b) => return self.post_word(a, prices).post_word(b, prices),
         }
     }
 
@@ -127,14 +92,9 @@ impl Bill {
     pub fn post_attempt(self, missed: bool) -> Bill
         ensures { λ r. ⌜ r ≡ attemptPosted self missed ⌝ }
     {
-        let onchip = self.onchip;
-        let external = self.external;
-        Bill {
-            total: self.total,
-            misses: smooth(self.misses, missed),
-            onchip: onchip,
-            external: external,
-        }
+        let mut e = self;
+        e.misses = figures::smooth(self.misses, missed);
+        e
     }
 
     // The bill after an attempt, by what it did with the slots.
@@ -142,9 +102,9 @@ impl Bill {
         ensures { λ r. ⌜ r ≡ seenPosted self seen ⌝ }
     {
         match seen {
-            Seen::Nothing => self,
-            Seen::Match => self.post_attempt(false),
-            Seen::NoMatch => self.post_attempt(true),
+            Seen::Nothing => return self,
+            Seen::Match => return self.post_attempt(false),
+            Seen::NoMatch => return self.post_attempt(true),
         }
     }
 }

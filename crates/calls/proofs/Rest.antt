@@ -6,7 +6,7 @@ use Prim.Native.Nat.{ℕ, zero, suc, _+_, _*_, _-_, _<_, _≤_}
 use native.Mathlib.Omega.{arith}
 use Rattle.page.specs.Pick.{_and_}
 use Rattle.page.proofs.Picks.{and-yes, and-no}
-use Rattle.calls.specs.declared.Call.{Call}
+use Rattle.forms.specs.declared.Call.{Call}
 use Rattle.calls.specs.Records.{callSize, callAt, callsFrom, isGood, goodCalls}
 
 -- record i, then those behind it

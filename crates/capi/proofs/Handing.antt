@@ -10,7 +10,8 @@ use Rattle.page.proofs.Picks.{and-yes}
 use Rattle.memory.specs.Memory.{Lent}
 use Rattle.prices.specs.declared.Prices.{Prices}
 use Rattle.handed.specs.Handed.{isState, benchIn, lockIn}
-use Rattle.run.specs.Run.{mayRun, ran, ranFrom, runWith}
+use Rattle.asked.specs.Asked.{mayRun}
+use Rattle.run.specs.Run.{ran, ranFrom, runWith}
 use Rattle.capi.specs.Boundary.{fromOf}
 
 pub from-state : (m : Lent) (p : Prices) (onkind extkind : ℕ) (s : List ℕ) (total misses : Float) (calls out : List ℕ) → isState s ≡ true

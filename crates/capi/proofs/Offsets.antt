@@ -1,24 +1,33 @@
--- An offset in a memory takes fewer than 28 bits. Assumes nothing.
-use mathlib.Core.Path.{_≡_, refl, sym, subst}
+-- An offset in a memory has 28 bits. Assumes nothing.
+use mathlib.Core.Path.{_≡_, refl, sym, ap, ap₂, _∙_, subst}
 use mathlib.Core.Bool.{Bool, true, false}
-use Prim.Native.Nat.{ℕ, _^_, _<_, _≤_}
+use Prim.Native.Nat.{ℕ, _%_, _^_, _≤_}
 use native.Mathlib.Omega.{arith}
 use lib.ListN.{length}
-use Rattle.memory.specs.Memory.{Lent, longest, lentOk, placeIn, Inside}
+use Rattle.memory.specs.Memory.{Lent, longest, lentOk, placeIn, fetchedIn, wordOf, Inside}
 use Rattle.memory.specs.declared.Place.{Place}
 use Rattle.memory.specs.declared.Place.the-variants.{OnChip, External, Nowhere}
 use Rattle.memory.proofs.Places.{ok-short, on-ok, ext-ok, place-refused, inside}
-use Rattle.capi.specs.Boundary.{offsetOf}
+use Rattle.numbers.specs.Numbers.{placeNumber, cutPlace}
+use Rattle.capi.specs.Boundary.{fetchOf}
+
+short : (k : ℕ) → k ≤ longest → k % 2 ^ 28 ≡ k
+short k h = omega arith
 
 module _ (m : Lent) (a : ℕ) where
-  within : (p : Place) → Inside m a p → length (m .on) ≤ longest → length (m .ext) ≤ longest → offsetOf p < 2 ^ 28
-  within (OnChip k) i u v = omega (arith, i .0)
-  within (External k) i u v = omega (arith, i .0)
-  within Nowhere i u v = omega arith
+  within : (p : Place) → Inside m a p → length (m .on) ≤ longest → length (m .ext) ≤ longest → cutPlace p ≡ p
+  within (OnChip k) i u v = ap OnChip (short k (omega (arith, i .0)))
+  within (External k) i u v = ap External (short k (omega (arith, i .0)))
+  within Nowhere i u v = refl
 
-  by-refusal : (t : Bool) → lentOk m ≡ t → offsetOf (placeIn m a) < 2 ^ 28
+  by-refusal : (t : Bool) → lentOk m ≡ t → cutPlace (placeIn m a) ≡ placeIn m a
   by-refusal true e = within (placeIn m a) (inside m a) (ok-short _ _ (on-ok m e)) (ok-short _ _ (ext-ok m e))
-  by-refusal false e = subst (λ (p : Place). offsetOf p < 2 ^ 28) (sym (place-refused m a e)) (omega arith)
+  by-refusal false e = subst (λ (p : Place). cutPlace p ≡ p) (sym (place-refused m a e)) refl
 
-  pub offset-small : offsetOf (placeIn m a) < 2 ^ 28
-  offset-small = by-refusal (lentOk m) refl
+  place-whole : cutPlace (placeIn m a) ≡ placeIn m a
+  place-whole = by-refusal (lentOk m) refl
+
+  pub fetched-number : (p : Place) (w r : ℕ) → r ≡ placeNumber (cutPlace p) w → p ≡ placeIn m a → w ≡ wordOf (fetchedIn m a) → r ≡ fetchOf m a
+  unfolding fetchOf
+  fetched-number p w r e f g =
+      e ∙ ap₂ (λ (q : Place) (v : ℕ). placeNumber (cutPlace q) v) f g ∙ ap (λ (q : Place). placeNumber q (wordOf (fetchedIn m a))) place-whole

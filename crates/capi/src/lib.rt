@@ -1,54 +1,18 @@
 // The byte boundary: the builder, sessions and the fetch for callers that speak C, over numbers and bytes alone.
-use builder::Built;
-use memory::Place;
 use page::PhysicalAddress;
 use session::Bench;
 ghost use mathlib.Core.Path.{_≡_};
-ghost use Prim.Native.Nat.{_+_, _*_, _/_, _%_, _^_, _≤_, _<_};
 ghost use Rattle.memory.specs.Memory.{lent};
 ghost use Rattle.handed.specs.Handed.{pricesOf};
 ghost use Rattle.run.specs.Run.{ran};
-ghost use Rattle.capi.specs.Boundary.{runOf, fromOf, offsetOf, placeNumber, fetchOf, builtWord, buildRan};
-
-// A refusal of the builder, in one number.
-fn refusal(number: u64, i: usize) -> u64
-    requires { ⌜ number ≤ 12 ⌝ }
-    ensures { λ r. ⌜ r ≡ 2 ^ 63 + number * 2 ^ 32 + i % 2 ^ 32 ⌝ }
-{
-    9223372036854775808 + number * 4294967296 + (i % 4294967296) as u64
-}
-
-// The answer of a build, in one number.
-fn built_number(b: Built) -> u64
-    ensures { λ r. ⌜ r ≡ builtWord b ⌝ }
-{
-    match b {
-        Built::Length(n) => n as u64,
-        Built::BadMemory => refusal(4, 0),
-        Built::BadRecord(i) => refusal(10, i),
-        Built::Overlap(i) => refusal(11, i),
-        Built::TooLong(n) => refusal(12, n),
-    }
-}
-
-// Where four bytes lie and the word they are, in one number.
-fn place_number(p: Place, word: u32) -> u64
-    requires { ⌜ offsetOf p < 2 ^ 28 ⌝ }
-    ensures { λ r. ⌜ r ≡ placeNumber p word ⌝ }
-{
-    match p {
-        Place::OnChip(k) => 1152921504606846976 + k as u64 * 4294967296 + word as u64,
-        Place::External(k) => 2305843009213693952 + k as u64 * 4294967296 + word as u64,
-        Place::Nowhere => 0,
-    }
-}
+ghost use Rattle.capi.specs.Boundary.{runOf, fromOf, fetchOf, buildRan};
 
 // Builds the tables of a list in a memory.
 #[no_mangle]
 pub extern "C" fn nx_build(records: &[u8], base: u32, memory: &mut [u8]) -> u64
     ensures { λ r. ⌜ ran r (now (memory .exit)) ≡ buildRan (now (records .entry)) base (now (memory .entry)) ⌝ }
 {
-    built_number(builder::build(records, base, memory))
+    numbers::built_number(builder::build(records, base, memory))
 }
 
 // Runs calls from a fresh bench.
@@ -139,7 +103,7 @@ pub extern "C" fn nx_fetch<'a>(
 {
     let at = PhysicalAddress(address);
     let part = memory::fetch(on, onbase, ext, extbase, at);
-    place_number(
+    numbers::place_number(
         memory::locate(on, onbase, ext, extbase, at),
         memory::word_of(part),
     )

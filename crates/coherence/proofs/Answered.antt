@@ -5,7 +5,7 @@ use mathlib.Core.Bool.{Bool, true, false, not}
 use lib.Dec.{eqb}
 use borrow.Author.Tests.{eq-eqb, lt-leb}
 use Rattle.page.specs.Pick.{pick, _and_, _or_}
-use Rattle.page.proofs.Picks.{pick-yes, pick-no, pick-by}
+use Rattle.page.proofs.Picks.{pick-yes, pick-no, pick-by, and-rest}
 use Rattle.descriptors.specs.Statements.{isMissing}
 use Rattle.descriptors.specs.declared.Found.the-variants as D
 use Rattle.registers.specs.Answers.{idle, isPrefetch, isRefusal}
@@ -18,10 +18,11 @@ use Rattle.unit.specs.declared.Outcome.{Outcome}
 use Rattle.unit.specs.Refusals.{Clear}
 use Rattle.unit.specs.Device.{refusedWith, attemptOf}
 use Rattle.unit.specs.Calls.{lacks, retryLacks, writeLacks, isMalformed, isUntimely, acknowledgeAt, requestRefusals, requestOf, writeRefusals, writeOf, retried}
-use Rattle.coherence.specs.Agreement.{Look, Coherent}
+use Rattle.coherence.specs.Agreement.{Coherent}
+use Rattle.walk.specs.Uniform.{Look}
 use Rattle.coherence.specs.Sessions.{lookFrom}
 use Rattle.coherence.specs.Answered.{Ready, Answered, RequestAnswered, RetryAnswered}
-use Rattle.coherence.proofs.Refusing.{clear-goes-on, and-rest}
+use Rattle.unit.proofs.Refusing.{clear-goes-on}
 use Rattle.coherence.proofs.Attempts.{same-walk, attempt-answers}
 
 access-answers : (bits : ℕ) (at : PhysicalAddress) (a : Access) → isRefusal (byAccess bits at a) ≡ false

@@ -3,7 +3,7 @@ use Prim.Native.Nat.{ℕ, _*_, _%_, _^_, _<_}
 use native.Mathlib.Omega.{arith}
 use mathlib.Core.Path.{_≡_, refl, sym, _∙_, ap, subst}
 use mathlib.Core.Bool.{Bool}
-use Rattle.page.specs.Words.{madeWords}
+use Rattle.page.specs.Words.{madeWords, limit}
 use Rattle.page.specs.declared.Access.the-variants.{Read}
 use Rattle.page.proofs.Picks.{pick-yes}
 use Rattle.descriptors.specs.Statements.{Proper}
@@ -15,7 +15,6 @@ use Rattle.bank.specs.Changes.{filled, entryFilled}
 use Rattle.lanes.specs.declared.Matched.the-variants as M
 use Rattle.bank.proofs.Ranges.{InRange}
 use Rattle.lanes.proofs.Searches.{Lowest, lowest}
-use Rattle.registers.specs.Fields.{limit}
 use Rattle.registers.specs.declared.Answer.the-variants as A
 use Rattle.decision.specs.Decisions.{byFound, byWalk, byMatched, settled}
 use Rattle.decision.specs.Prefetches.{pageAt, prefetchFound, prefetchMatched, prefetchDecided}
@@ -25,7 +24,8 @@ use Rattle.decision.specs.declared.Decision.{Decision}
 use Rattle.unit.specs.declared.Device.{Device}
 use Rattle.unit.specs.Device.{look, applied, decidedBy, attemptOf}
 use Rattle.unit.specs.Calls.{prefetched}
-use Rattle.coherence.specs.Agreement.{Look, plain, Uniform, Below, Coherent}
+use Rattle.coherence.specs.Agreement.{plain, Below, Coherent}
+use Rattle.walk.specs.Uniform.{Look, Uniform}
 use Rattle.coherence.specs.Sessions.{lookFrom}
 use Rattle.coherence.proofs.Slots.{Held, made-agrees, fill-agrees}
 
@@ -64,7 +64,7 @@ module _ (m : Lent) (base : ℕ) where
     pub attempt-answers : decision .answer ≡ plain walked va a
     attempt-answers = ap (λ (x : Decision). x .answer) decision-is ∙ matched-answers (lookedUp (d .bank .cam) va) (lowest (d .bank .cam) va)
 
-  module _ (u : Uniform walked) (d : Device) (h : Coherent walked base d) (r : InRange (d .bank)) (va : VirtualAddress) (l : va .0 < limit) where
+  module _ (u : Uniform limit walked) (d : Device) (h : Coherent walked base d) (r : InRange (d .bank)) (va : VirtualAddress) (l : va .0 < limit) where
     abbrev Fits : Decision → Type 0
     Fits x = Held walked (entryFilled (d .bank) (x .fill))
 
@@ -116,7 +116,7 @@ module _ (m : Lent) (base : ℕ) where
     unfolding prefetchDecided
     prefetch-fits = prefetch-matched-fits (lookedUp (d .bank .cam) va)
 
-  pub prefetch-keeps : Uniform walked → (d : Device) → Coherent walked base d → InRange (d .bank) → (p : Prices) (b : Bill) (v : ℕ) → Coherent walked base (prefetched m p b d v .device)
+  pub prefetch-keeps : Uniform limit walked → (d : Device) → Coherent walked base d → InRange (d .bank) → (p : Prices) (b : Bill) (v : ℕ) → Coherent walked base (prefetched m p b d v .device)
   prefetch-keeps u d h r p b v =
       let at = pageAt v in
       let l : v % 2 ^ 14 * 2 ^ 10 < limit = omega arith in

@@ -1,4 +1,3 @@
-pub mod Refusing
 pub mod Slots
 pub mod Attempts
 pub mod Writes

@@ -10,7 +10,8 @@ use Rattle.page.specs.Pick.{pick, _and_}
 use Rattle.page.proofs.Picks.{pick-yes, and-left, and-right}
 use Rattle.bank.proofs.Ranges.{InRange, in-range}
 use Rattle.registers.specs.Answers.{isPrefetch, isRefusal}
-use Rattle.registers.specs.Fields.{limit, isOn, isWalking, registersOk, pendingOk}
+use Rattle.page.specs.Words.{limit}
+use Rattle.registers.specs.Fields.{isOn, isWalking, registersOk, pendingOk}
 use Rattle.registers.specs.Table.{listed, commandOf}
 use Rattle.registers.specs.declared.Pending.the-variants.{Nothing, Held}
 use Rattle.registers.specs.declared.Command.{Command}
@@ -23,9 +24,10 @@ use Rattle.unit.specs.declared.Told.{Told}
 use Rattle.unit.specs.Device.{inRange, cleared, toldRefused, doneWith, refusedWith, attemptOf}
 use Rattle.unit.specs.Calls.{acknowledgeAt, requestRefusals, requestOf, writeRefusals, writeOf, retried, carried, readRefusals, readOf, dropRefusals, dropOf}
 use Rattle.unit.specs.Machine.{Call, request, write, read, drop-fault, shift, Said, answered, reported, step}
-use Rattle.coherence.specs.Agreement.{Look, plain, Uniform, Below, Coherent}
+use Rattle.coherence.specs.Agreement.{plain, Below, Coherent}
+use Rattle.walk.specs.Uniform.{Look, Uniform}
 use Rattle.coherence.specs.Sessions.{Billed, after, admitted, Admitted, asks, nothing, retriedOf, asked, started, lookFrom, CacheNeverShows}
-use Rattle.coherence.proofs.Refusing.{refuses-by}
+use Rattle.unit.proofs.Refusing.{refuses-by}
 use Rattle.coherence.proofs.Slots.{fresh-agrees}
 use Rattle.coherence.proofs.Attempts.{attempt-answers, attempt-keeps}
 use Rattle.coherence.proofs.Writes.{tame, cleared-keeps, carried-keeps}
@@ -39,7 +41,7 @@ module _ (m : Lent) (base : ℕ) where
   abbrev walked : Look
   walked = lookFrom m base
 
-  module _ (u : Uniform walked) where
+  module _ (u : Uniform limit walked) where
     abbrev Ends : Outcome → Type 0
     Ends x = Coherent walked base (x .device)
 
@@ -133,7 +135,7 @@ pub coherent-started : (look : Look) (control base : ℕ) → isOn control ≡ t
 coherent-started look control base on walking =
     record { on = on; walking = walking; base-is = refl; lanes = fresh-agrees look; below = tt }
 
-module _ (m : Lent) (control base : ℕ) (on : isOn control ≡ true) (walking : isWalking control ≡ true) (u : Uniform (lookFrom m base)) where
+module _ (m : Lent) (control base : ℕ) (on : isOn control ≡ true) (walking : isWalking control ≡ true) (u : Uniform limit (lookFrom m base)) where
   -- after any admitted calls every slot agrees
   pub coherent-after : (cs : List Billed) → Admitted cs → Coherent (lookFrom m base) base (after m (started control base) cs)
   coherent-after cs e = after-keeps m base u cs (started control base) e (coherent-started (lookFrom m base) control base on walking)

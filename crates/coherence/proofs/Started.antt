@@ -22,7 +22,7 @@ use Rattle.unit.specs.Device.{freshDevice, inRange, doneWith, refusedWith}
 use Rattle.unit.specs.Calls.{isMalformed, isUntimely, writeLacks, writeRefusals, writeOf, carried}
 use Rattle.coherence.specs.Sessions.{controlAt, baseHighAt, baseLowAt, started}
 use Rattle.coherence.specs.Started.{startControl, StartedByWrites}
-use Rattle.coherence.proofs.Refusing.{clear-goes-on}
+use Rattle.unit.proofs.Refusing.{clear-goes-on}
 
 -- a started device is in range
 fresh-bank-ok : bankOk freshBank ≡ true

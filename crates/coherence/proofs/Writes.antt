@@ -7,6 +7,7 @@ use Rattle.page.specs.Pick.{pick, _and_, _or_}
 use Rattle.page.proofs.Picks.{pick-by, and-yes, or-yes}
 use Rattle.bank.specs.Changes.{withCams}
 use Rattle.bank.proofs.Ranges.{InRange}
+use Rattle.page.specs.Words.{limit}
 use Rattle.registers.specs.Fields.{isWalking, camAddress, setting}
 use Rattle.registers.specs.Table.{listed, lockCommand, loadCommand, whenBit, commandOf, tended}
 use Rattle.registers.specs.declared.Pending.the-variants.{Nothing, Held}
@@ -22,7 +23,8 @@ use Rattle.unit.specs.declared.Device.{Device}
 use Rattle.unit.specs.declared.Outcome.{Outcome}
 use Rattle.unit.specs.Device.{setRegisters, setBank, cleared}
 use Rattle.unit.specs.Calls.{isUntimely, retried, carried}
-use Rattle.coherence.specs.Agreement.{Uniform, Lanes, Below, Coherent}
+use Rattle.coherence.specs.Agreement.{Lanes, Below, Coherent}
+use Rattle.walk.specs.Uniform.{Uniform}
 use Rattle.coherence.specs.Sessions.{isFixed, lookFrom}
 use Rattle.coherence.proofs.Slots.{flush-agrees, flushAt-agrees}
 use Rattle.coherence.proofs.Attempts.{attempt-keeps, prefetch-keeps}
@@ -94,7 +96,7 @@ module _ (v : ℕ) where
         (λ _ _. tt)
         (λ o g _ _. subst Tame (sym (command-elsewhere o v g)) tt)
 
-module _ (m : Lent) (base : ℕ) (u : Uniform (lookFrom m base)) (d : Device) (h : Coherent (lookFrom m base) base d) where
+module _ (m : Lent) (base : ℕ) (u : Uniform limit (lookFrom m base)) (d : Device) (h : Coherent (lookFrom m base) base d) where
   abbrev Keeps : Device → Type 0
   Keeps e = Coherent (lookFrom m base) base e
 

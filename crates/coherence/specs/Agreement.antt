@@ -1,28 +1,18 @@
--- What the slots hold never shows: the plain answer, tables that agree with themselves, slots that agree with them (01, demand 3).
-use Rattle.page.specs.Ground.{ℕ, _/_, _^_, _<_, _≡_, true, List, getD, length}
-use Rattle.page.specs.Words.{lowBits, wordMatches, wordAccess, wordAddress}
+-- What the slots hold never shows: the plain answer, and slots that agree with it (01, demand 3).
+use Rattle.page.specs.Ground.{ℕ, _<_, _≡_, true, List, getD, length}
+use Rattle.page.specs.Words.{wordMatches, wordAccess, wordAddress, limit}
 use Rattle.lanes.specs.Lanes.{slots}
-use Rattle.registers.specs.Fields.{limit, isOn, isWalking}
+use Rattle.registers.specs.Fields.{isOn, isWalking}
 use Rattle.registers.specs.declared.Pending.{Pending}
 use Rattle.registers.specs.declared.Pending.the-variants.{Nothing, Held}
-use Rattle.descriptors.specs.declared.Found.the-variants as D
-use Rattle.decision.specs.Types.{Access, VirtualAddress, Page, Walked, Answer}
+use Rattle.walk.specs.Uniform.{Look}
+use Rattle.decision.specs.Types.{Access, VirtualAddress, Answer}
 use Rattle.decision.specs.Decisions.{byAccess, byWalk}
 use Rattle.unit.specs.declared.Device.{Device}
-
--- what the plain walk gives at each address
-abbrev pub Look : Type 0
-Look = VirtualAddress → Walked
 
 -- what the walk alone answers
 abbrev pub plain : Look → VirtualAddress → Access → Answer
 plain look va a = byWalk va a (look va) .answer
-
--- where the walk finds a page, it finds the same page at every address of that page
-abbrev pub Uniform : Look → Type 0
-Uniform look =
-    (va va′ : VirtualAddress) (p : Page) → va .0 < limit → look va .found ≡ D.Page p →
-    va′ .0 / 2 ^ lowBits (p .kind) ≡ va .0 / 2 ^ lowBits (p .kind) → look va′ .found ≡ D.Page p
 
 -- a slot answers, at every address that it matches, what the walk answers
 abbrev pub Agrees : Look → ℕ → ℕ → Type 0

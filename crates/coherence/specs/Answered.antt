@@ -3,13 +3,14 @@ use Rattle.page.specs.Ground.{ℕ, _%_, _<_, _≡_, true, false}
 use Rattle.descriptors.specs.Statements.{isMissing}
 use Rattle.bill.specs.Bill.{moneyOk}
 use Rattle.registers.specs.Answers.{isPrefetch, isRefusal}
-use Rattle.registers.specs.Fields.{limit}
+use Rattle.page.specs.Words.{limit}
 use Rattle.registers.specs.declared.Pending.the-variants.{Nothing, Held}
 use Rattle.decision.specs.Types.{Access, VirtualAddress, Lent, lentOk, Bill, Prices, Fault, Answer}
 use Rattle.unit.specs.declared.Device.{Device}
 use Rattle.unit.specs.Device.{inRange}
 use Rattle.unit.specs.Calls.{acknowledgeAt, requestOf, writeOf}
-use Rattle.coherence.specs.Agreement.{Look, plain, Coherent}
+use Rattle.coherence.specs.Agreement.{plain, Coherent}
+use Rattle.walk.specs.Uniform.{Look}
 use Rattle.coherence.specs.Sessions.{lookFrom}
 
 -- neither 8 nor 4 nor 9 holds

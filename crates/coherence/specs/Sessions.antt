@@ -1,20 +1,21 @@
 -- A session: any calls but writes to control or base, each with its own prices and bill, and what each asks (01, demand 3).
 use Rattle.page.specs.Ground.{ℕ, _%_, _<_, _≡_, Bool, true, false, not, List, [], _∷_, eqb}
 use Rattle.page.specs.Pick.{pick, _and_}
-use Rattle.page.specs.Words.{physical}
+use Rattle.page.specs.Words.{physical, limit}
 use Rattle.memory.specs.Memory.{Lent}
 use Rattle.walk.specs.Walk.{walkIn}
 use Rattle.bill.specs.declared.Bill.{Bill}
 use Rattle.bank.specs.Slots.{freshBank}
 use Rattle.registers.specs.Answers.{isPrefetch, isRefusal}
-use Rattle.registers.specs.Fields.{limit, noEntry}
+use Rattle.registers.specs.Fields.{noEntry}
 use Rattle.registers.specs.declared.Pending.{Pending}
 use Rattle.registers.specs.declared.Pending.the-variants.{Nothing, Held}
 use Rattle.decision.specs.Types.{Access, VirtualAddress, Answer}
 use Rattle.unit.specs.declared.Device.{Device}
 use Rattle.unit.specs.Calls.{acknowledgeAt, oneOf}
 use Rattle.unit.specs.Machine.{Call, request, write, read, drop-fault, shift, answered, step}
-use Rattle.coherence.specs.Agreement.{Look, plain}
+use Rattle.coherence.specs.Agreement.{plain}
+use Rattle.walk.specs.Uniform.{Look}
 
 -- a call with the bill that it is handed
 abbrev pub Billed : Type 0

@@ -20,7 +20,7 @@ use Rattle.unit.specs.Machine.{Call, request, write, read, drop-fault, shift, S
 use Rattle.conduct.specs.Types.{Access, VirtualAddress, PhysicalAddress, Lent, Reads, Found, Walked, Bill, Matched, Fault, Answer, Decision, Device, Outcome, Told}
 use Rattle.conduct.specs.Asked.{Asked, walksFor}
 use Rattle.conduct.specs.Filled.{FaultNotCached}
-use Rattle.conduct.proofs.Firsts.{refuses-by}
+use Rattle.unit.proofs.Refusing.{refuses-by}
 use Rattle.conduct.proofs.Attempts.{decided-still, decided-walks}
 use Rattle.conduct.proofs.Writes.{write-by}
 

@@ -20,7 +20,7 @@ use Rattle.conduct.specs.Types.{VirtualAddress, Lent, Bill, Bank, Fill, 
 use Rattle.conduct.specs.Refused.{saidRefused, Accepted}
 use Rattle.conduct.specs.Asked.{Asked, nothing, attempt, prefetch, writeAsked, asked, AsksFor, mayFill}
 use Rattle.conduct.specs.Filled.{pageFill, fillFor, fillAsked, LockedKept, FilledBy, LanesFit, OneSlotFilled, NoPageNoFill}
-use Rattle.conduct.proofs.Firsts.{refuses-by}
+use Rattle.unit.proofs.Refusing.{refuses-by}
 use Rattle.conduct.proofs.Writes.{write-by}
 use Rattle.conduct.proofs.Refused.{nothing-changes, accepted-in-range}
 use Rattle.conduct.proofs.Calls.{attempt-bank, prefetch-bank, accepted-request, accepted-write}

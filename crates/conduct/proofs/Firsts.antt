@@ -5,6 +5,7 @@ use mathlib.Core.List.{[], _∷_}
 use mathlib.Core.Logic.{_⊎_, inl, inr}
 use Prim.Native.Nat.{ℕ}
 use Rattle.page.proofs.Picks.{pick-yes, pick-no}
+use Rattle.unit.proofs.Refusing.{clear-goes-on, refuses-by}
 use Rattle.unit.specs.Refusals.{Refusals, refuses, First, Clear}
 use Rattle.unit.specs.Machine.{Said}
 use Rattle.conduct.specs.Refused.{saidRefused, RefusedWith}
@@ -35,22 +36,9 @@ module _ {A : Type 0} (say : ℕ → A) (else : A) where
   first-refuses (r ∷ rs) k (inl f) = pick-yes _ _ _ (f .0) ∙ ap say (f .1)
   first-refuses (r ∷ rs) k (inr f) = pick-no _ _ _ (f .0) ∙ first-refuses rs k (f .1)
 
-  pub clear-goes-on : (rs : Refusals) → Clear rs → refuses rs say else ≡ else
-  unfolding refuses
-  clear-goes-on [] c = refl
-  clear-goes-on (r ∷ rs) c = pick-no _ _ _ (c .0) ∙ clear-goes-on rs (c .1)
-
-  -- what holds of each refusal, and of what follows where none comes, holds of the call
-  pub refuses-by : (P : A → Type 0) (rs : Refusals) → ((k : ℕ) → P (say k)) → (Clear rs → P else) → P (refuses rs say else)
-  refuses-by P rs f g = by (first-or-clear rs)
-    where
-      by : ((k : ℕ) × First rs k) ⊎ Clear rs → P (refuses rs say else)
-      by (inl h) = subst P (sym (first-refuses rs (h .0) (h .1))) (f (h .0))
-      by (inr c) = subst P (sym (clear-goes-on rs c)) (g c)
-
   -- what holds where no condition does holds of a call that is not refused
   pub accepted-by : (P : A → Type 0) (said : A → Said) (rs : Refusals) → ((k : ℕ) → saidRefused (said (say k)) ≡ true) → (Clear rs → P else) → saidRefused (said (refuses rs say else)) ≡ false → P (refuses rs say else)
-  accepted-by P said rs f g = refuses-by (λ (x : A). saidRefused (said x) ≡ false → P x) rs (λ k h. absurd (true≢false (sym (f k) ∙ h))) (λ c _. g c)
+  accepted-by P said rs f g = refuses-by say else (λ (x : A). saidRefused (said x) ≡ false → P x) rs (λ k h. absurd (true≢false (sym (f k) ∙ h))) (λ c _. g c)
 
   -- where each refusal says its number, and what follows is none, a number is said exactly where its condition holds first
   module _ (rs : Refusals) (said : A → Said) (goes-on : Clear rs → saidRefused (said else) ≡ false) where
@@ -59,7 +47,7 @@ module _ {A : Type 0} (say : ℕ → A) (else : A) where
       where
         by : ((k : ℕ) × First rs k) ⊎ Clear rs → (k : ℕ) × First rs k
         by (inl f) = f
-        by (inr c) = absurd (true≢false (sym h ∙ ap (λ (x : A). saidRefused (said x)) (clear-goes-on rs c) ∙ goes-on c))
+        by (inr c) = absurd (true≢false (sym h ∙ ap (λ (x : A). saidRefused (said x)) (clear-goes-on say else rs c) ∙ goes-on c))
 
     -- so it is one of the refusals, and changes what they change
     pub refused-by : (P : A → Type 0) → ((k : ℕ) → P (say k)) → saidRefused (said (refuses rs say else)) ≡ true → P (refuses rs say else)
@@ -79,7 +67,7 @@ module _ {A : Type 0} (say : ℕ → A) (else : A) where
             subst (First rs) (sym (there (f .0) (f .1) .1) ∙ h .1) (f .1)
 
     pub accepted-clear : ((k : ℕ) → RefusedWith (said (say k)) k) → (saidRefused (said (refuses rs say else)) ≡ false → Clear rs) × (Clear rs → saidRefused (said (refuses rs say else)) ≡ false)
-    accepted-clear says = (λ h. by h (first-or-clear rs), λ c. ap (λ (x : A). saidRefused (said x)) (clear-goes-on rs c) ∙ goes-on c)
+    accepted-clear says = (λ h. by h (first-or-clear rs), λ c. ap (λ (x : A). saidRefused (said x)) (clear-goes-on say else rs c) ∙ goes-on c)
       where
         by : saidRefused (said (refuses rs say else)) ≡ false → ((k : ℕ) × First rs k) ⊎ Clear rs → Clear rs
         by h (inl f) = absurd (true≢false (sym (exactly-first says (f .0) .1 (f .1) .0) ∙ h))

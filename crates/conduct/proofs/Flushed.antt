@@ -19,7 +19,7 @@ use Rattle.unit.specs.Device.{inRange, setBank, refusedWith}
 use Rattle.unit.specs.Calls.{isMalformed, isUntimely, writeLacks, writeRefusals, carried, writeOf}
 use Rattle.conduct.specs.Types.{VirtualAddress, Lent, Bill, Prices, Command, Tending, Device, Outcome}
 use Rattle.conduct.specs.Flushed.{flushAt, entryFlushAt, camAt, ValidWhere, Flushes, FlushExact}
-use Rattle.conduct.proofs.Firsts.{clear-goes-on, refuses-by}
+use Rattle.unit.proofs.Refusing.{clear-goes-on, refuses-by}
 
 -- a flushed word keeps all but V
 abbrev Rest : ℕ → ℕ → Type 0

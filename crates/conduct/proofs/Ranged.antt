@@ -14,7 +14,8 @@ use Rattle.bank.specs.Slots.{bankOk}
 use Rattle.lanes.specs.declared.Matched.the-variants as M
 use Rattle.lanes.proofs.Ranges.{madeCam-ok, madeRam-ok}
 use Rattle.bank.proofs.Ranges.{fillOk, entry-ok}
-use Rattle.registers.specs.Fields.{limit, registersOk, pendingOk}
+use Rattle.page.specs.Words.{limit}
+use Rattle.registers.specs.Fields.{registersOk, pendingOk}
 use Rattle.registers.specs.Table.{commandOf, valueAt}
 use Rattle.registers.specs.declared.Pending.the-variants as P
 use Rattle.registers.specs.declared.Answer.the-variants as A
@@ -27,7 +28,7 @@ use Rattle.unit.specs.Calls.{requestRefusals, requestOf, writeRefusals, prefetc
 use Rattle.unit.specs.Machine.{request, write, read, drop-fault, shift}
 use Rattle.conduct.specs.Types.{Access, VirtualAddress, Lent, Reads, Found, Walked, Bill, Prices, Matched, Fault, Pending, Answer, Decision, Command, Device, Outcome, Told}
 use Rattle.conduct.specs.Refused.{BytesFit, RangeKept}
-use Rattle.conduct.proofs.Firsts.{refuses-by}
+use Rattle.unit.proofs.Refusing.{refuses-by}
 use Rattle.conduct.proofs.Frames.{FrameFits, walk-fits}
 
 -- a device in range, by its parts

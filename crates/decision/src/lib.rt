@@ -1,10 +1,8 @@
-// What a request, a retry, a prefetch or a shift report comes to, by the state and the memories alone.
+// What a slot or a walk comes to: the parts of every decision.
 use bank::Fill;
 use bill::Seen;
 use descriptors::Found;
 use descriptors::Page;
-use lanes::Matched;
-use lanes::SLOTS;
 use memory::Reads;
 use page::Access;
 use page::PhysicalAddress;
@@ -13,10 +11,7 @@ use registers::Answer;
 use registers::Fault;
 use walk::Walked;
 ghost use mathlib.Core.Path.{_≡_};
-ghost use Rattle.memory.specs.Memory.{lent};
-ghost use Rattle.walk.specs.Walk.{walkWithin};
-ghost use Rattle.decision.specs.Decisions.{byAccess, plainly, byMatch, missingWord, noPage, withPage, byFound, byWalk, decided};
-ghost use Rattle.decision.specs.Prefetches.{prefetchFound, prefetchDecided, shiftBy};
+ghost use Rattle.decision.specs.Decisions.{byAccess, plainly, byMatch, missingWord, noPage, withPage, byWalk};
 
 // What an attempt comes to: its answer, what it puts into the slots, the words it read and what it did with the slots.
 pub struct Decision {
@@ -44,7 +39,7 @@ fn by_access(bits: u32, at: PhysicalAddress, a: Access) -> Answer
 }
 
 // A decision that reads no word and fills nothing.
-fn plain(answer: Answer, seen: Seen) -> Decision
+pub fn plain(answer: Answer, seen: Seen) -> Decision
     ensures { λ r. ⌜ r ≡ plainly answer seen ⌝ }
 {
     Decision {
@@ -56,7 +51,7 @@ fn plain(answer: Answer, seen: Seen) -> Decision
 }
 
 // What a matching slot's words come to.
-fn by_match(cam: u32, ram: u32, va: VirtualAddress, a: Access) -> Decision
+pub fn by_match(cam: u32, ram: u32, va: VirtualAddress, a: Access) -> Decision
     ensures { λ r. ⌜ r ≡ byMatch cam ram va a ⌝ }
 {
     let at = page::translated(cam, ram, va);
@@ -65,14 +60,14 @@ fn by_match(cam: u32, ram: u32, va: VirtualAddress, a: Access) -> Decision
 }
 
 // A word that the walk needs is in neither memory.
-fn missing() -> Decision
+pub fn missing() -> Decision
     ensures { λ r. ⌜ r ≡ missingWord ⌝ }
 {
     plain(Answer::Refused(3), Seen::Nothing)
 }
 
 // A walk that found no page.
-fn no_page(reads: Reads, fault: Fault, seen: Seen) -> Decision
+pub fn no_page(reads: Reads, fault: Fault, seen: Seen) -> Decision
     ensures { λ r. ⌜ r ≡ noPage reads fault seen ⌝ }
 {
     Decision {
@@ -84,7 +79,7 @@ fn no_page(reads: Reads, fault: Fault, seen: Seen) -> Decision
 }
 
 // A walk that found a page, which fills a slot.
-fn with_page(p: Page, va: VirtualAddress, reads: Reads, answer: Answer, seen: Seen) -> Decision
+pub fn with_page(p: Page, va: VirtualAddress, reads: Reads, answer: Answer, seen: Seen) -> Decision
     ensures { λ r. ⌜ r ≡ withPage p va reads answer seen ⌝ }
 {
     let kind = p.kind;
@@ -99,7 +94,7 @@ fn with_page(p: Page, va: VirtualAddress, reads: Reads, answer: Answer, seen: Se
 }
 
 // What a walk comes to: a page fills a slot, then access is checked.
-fn by_walk(w: Walked, va: VirtualAddress, a: Access) -> Decision
+pub fn by_walk(w: Walked, va: VirtualAddress, a: Access) -> Decision
     ensures { λ r. ⌜ r ≡ byWalk va a w ⌝ }
 {
     let found = w.found;
@@ -111,82 +106,5 @@ fn by_walk(w: Walked, va: VirtualAddress, a: Access) -> Decision
             let answer = by_access(p.access, descriptors::physical(p, va), a);
             with_page(p, va, reads, answer, Seen::NoMatch)
         }
-    }
-}
-
-// What an attempt comes to, for a caller that has tried the memories.
-pub fn decide<'a>(
-    cam: &'a [u32; SLOTS],
-    ram: &'a [u32; SLOTS],
-    control: u16,
-    base: PhysicalAddress,
-    on: &'a [u8],
-    onbase: u32,
-    ext: &'a [u8],
-    extbase: u32,
-    va: VirtualAddress,
-    a: Access,
-) -> Decision
-    ensures { λ r. ⌜ r ≡ decided (walkWithin (lent (now (on .entry)) onbase (now (ext .entry)) extbase) (base .0) (va .0)) control (now (cam .entry)) (now (ram .entry)) va a ⌝ }
-{
-    if !registers::is_on(control) {
-        return plain(Answer::Address(PhysicalAddress(va.0)), Seen::Nothing);
-    }
-    let m = lanes::lookup(cam, va);
-    match m {
-        Matched::At(i) => by_match(cam[i], ram[i], va, a),
-        Matched::Nothing => {
-            if !registers::is_walking(control) {
-                return plain(Answer::Fault(Fault::Miss), Seen::NoMatch);
-            }
-            let w = walk::walk_within(on, onbase, ext, extbase, base, va);
-            by_walk(w, va, a)
-        }
-    }
-}
-
-// What a prefetch's walk comes to.
-fn prefetch_walk(w: Walked, va: VirtualAddress) -> Decision
-    ensures { λ r. ⌜ r ≡ prefetchFound va (w .reads) (w .found) ⌝ }
-{
-    let found = w.found;
-    let reads = w.reads;
-    match found {
-        Found::Missing => missing(),
-        Found::NoPage => no_page(reads, Fault::Prefetch, Seen::Nothing),
-        Found::Page(p) => with_page(p, va, reads, Answer::Done, Seen::Nothing),
-    }
-}
-
-// What a prefetch comes to, for a caller that has tried the memories.
-pub fn prefetch_decide<'a>(
-    cam: &'a [u32; SLOTS],
-    base: PhysicalAddress,
-    on: &'a [u8],
-    onbase: u32,
-    ext: &'a [u8],
-    extbase: u32,
-    va: VirtualAddress,
-) -> Decision
-    ensures { λ r. ⌜ r ≡ prefetchDecided (walkWithin (lent (now (on .entry)) onbase (now (ext .entry)) extbase) (base .0) (va .0)) (now (cam .entry)) va ⌝ }
-{
-    let m = lanes::lookup(cam, va);
-    match m {
-        Matched::At(_) => plain(Answer::Done, Seen::Nothing),
-        Matched::Nothing => {
-            let w = walk::walk_within(on, onbase, ext, extbase, base, va);
-            prefetch_walk(w, va)
-        }
-    }
-}
-
-// The shift of an address by what its plain walk found.
-pub fn shift_by(found: Found, va: VirtualAddress) -> Shift
-    ensures { λ r. ⌜ r ≡ shiftBy va found ⌝ }
-{
-    match found {
-        Found::Missing => Shift::Refused(3),
-        Found::NoPage => Shift::Fault,
-        Found::Page(p) => Shift::Distance(descriptors::distance(descriptors::physical(p, va), va)),
     }
 }

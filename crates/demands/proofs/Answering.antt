@@ -7,7 +7,7 @@ use native.Mathlib.Omega.{arith}
 use Rattle.memory.specs.Memory.{Lent, lentOk}
 use Rattle.records.specs.Mappings.{mappings}
 use Rattle.lists.specs.Meanings.{holder}
-use Rattle.registers.specs.Fields.{limit}
+use Rattle.page.specs.Words.{limit}
 use Rattle.registers.specs.declared.Pending.the-variants.{Nothing, Held}
 use Rattle.decision.specs.Types.{VirtualAddress}
 use Rattle.unit.specs.declared.Device.{Device}

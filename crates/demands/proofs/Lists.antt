@@ -6,7 +6,7 @@ use Prim.Native.Nat.{ℕ, _+_, _*_, _/_, _%_, _^_, _<_, _≤_}
 use native.Mathlib.Omega.{arith}
 use Rattle.page.proofs.Picks.{pick-by}
 use Rattle.page.specs.Pick.{pick}
-use Rattle.page.specs.Words.{permits, megabytes}
+use Rattle.page.specs.Words.{permits, megabytes, limit}
 use Rattle.memory.specs.Memory.{Lent, lentOk}
 use Rattle.descriptors.specs.Descriptors.{physicalOf}
 use Rattle.descriptors.specs.Statements.{isMissing}
@@ -31,7 +31,8 @@ use Rattle.unit.specs.declared.Device.{Device}
 use Rattle.unit.specs.declared.Outcome.{Outcome}
 use Rattle.unit.specs.Device.{freshDevice}
 use Rattle.unit.specs.Machine.{write, step}
-use Rattle.coherence.specs.Agreement.{Look, plain, Uniform}
+use Rattle.coherence.specs.Agreement.{plain}
+use Rattle.walk.specs.Uniform.{Look, Uniform}
 use Rattle.coherence.specs.Sessions.{started, lookFrom, controlAt, baseHighAt, baseLowAt}
 use Rattle.coherence.specs.Started.{startControl}
 use Rattle.coherence.proofs.Started.{started-by-writes}
@@ -66,7 +67,7 @@ gives-found (By m) va D.Missing g = absurd g
 gives-found Nobody va D.Missing g = absurd g
 
 -- over refused memories a walk finds nothing at all
-pub refused-uniform : (m : Lent) (base : ℕ) → lentOk m ≡ false → Uniform (lookFrom m base)
+pub refused-uniform : (m : Lent) (base : ℕ) → lentOk m ≡ false → Uniform limit (lookFrom m base)
 refused-uniform m base e va va′ p low f s = absurd (none (sym (ap (λ (w : Walked). w .found) (walk-refused m e base (va .0))) ∙ f))
   where
     none : D.Missing ≡ D.Page p → ⊥

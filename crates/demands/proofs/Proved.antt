@@ -1,5 +1,5 @@
 -- The three demands hold. Assumes nothing.
-use Rattle.page.specs.Words.{megabytes}
+use Rattle.page.specs.Words.{megabytes, limit}
 use mathlib.Core.Path.{_≡_, refl, sym, _∙_, ap, subst}
 use mathlib.Core.Bool.{Bool, true, false, false≢true, true≢false}
 use mathlib.Core.List.{List}
@@ -16,7 +16,8 @@ use Rattle.builder.specs.Build.{answerOf, buildOf, builtNumber, leaves}
 use Rattle.registers.specs.Answers.{isRefusal}
 use Rattle.unit.specs.declared.Device.{Device}
 use Rattle.unit.specs.Machine.{answered, step}
-use Rattle.coherence.specs.Agreement.{Uniform, plain}
+use Rattle.coherence.specs.Agreement.{plain}
+use Rattle.walk.specs.Uniform.{Uniform}
 use Rattle.coherence.specs.Sessions.{after, asked, asks, started, lookFrom, CacheNeverShows}
 use Rattle.coherence.specs.Started.{startControl}
 use Rattle.coherence.proofs.Sessions.{cache-never-shows}
@@ -74,7 +75,7 @@ demand-3 rs base room len m v p b₀ cs b c va a r bytes acc standing on adm =
     (sym (start-is rs base room len acc m v p b₀ on))
     (by (lentOk m) refl)
   where
-    never : Uniform (lookFrom m base) → CacheNeverShows m (startControl v) base
+    never : Uniform limit (lookFrom m base) → CacheNeverShows m (startControl v) base
     never = cache-never-shows m (startControl v) base (start-on v) (start-walking v)
 
     by : (t : Bool) → lentOk m ≡ t → asked (after m (started (startControl v) base) cs) c ≡ asks va a →

@@ -1,5 +1,5 @@
 -- What keeps demand 3 from being hollow: each request that the paper does not refuse is in fact answered, and so is each retry.
-use Rattle.page.specs.Words.{megabytes}
+use Rattle.page.specs.Words.{megabytes, limit}
 use Rattle.page.specs.Ground.{ℕ, _%_, _<_, _≡_, true, false, List, [], _∷_}
 use Rattle.memory.specs.Memory.{Lent, lentOk}
 use Rattle.bill.specs.Bill.{moneyOk}
@@ -7,7 +7,6 @@ use Rattle.records.specs.Mappings.{mappings}
 use Rattle.builder.specs.declared.Built.the-variants.{Length}
 use Rattle.image.specs.Image.{image}
 use Rattle.builder.specs.Build.{answerOf}
-use Rattle.registers.specs.Fields.{limit}
 use Rattle.registers.specs.Answers.{isPrefetch}
 use Rattle.registers.specs.declared.Pending.the-variants.{Nothing, Held}
 use Rattle.decision.specs.Types.{Access, VirtualAddress, Bill, Prices, Fault}

@@ -1,25 +1,17 @@
 // A list of records on standard input; on standard output, in one page, its mappings, its tables, a session over them and what the session cost.
-use bill::Bill;
 use builder::Built;
+use forms::Call;
 use libc::STDIN_FILENO;
-use meters::Meters;
 use page::Access;
-use page::PhysicalAddress;
 use page::VirtualAddress;
 use prices::Price;
 use prices::Prices;
 use records::Mapping;
-use registers::Answer;
-use unit::Device;
+use session::Bench;
+use session::Said;
+use session::Stepped;
 
 mod text;
-
-// A session under way.
-struct Bench {
-    device: Device,
-    bill: Bill,
-    meters: Meters,
-}
 
 // The address at which the image stands.
 const BASE: u32 = 0x20000000;
@@ -28,87 +20,84 @@ const BASE: u32 = 0x20000000;
 const INPUT: usize = 3073;
 
 // The words of the first-level table.
-const FIRST: u32 = 16;
+const FIRST: usize = 16;
 
 // How many calls the session has.
 const CALLS: usize = 21;
 
-// The session, a number a call: what it is, two digits of remark, eight of address or value.
+// The session, a number a call: two digits of remark, two of what it is, eight of offset or
+// address, four of value (0 a read, 1 a write).
 const SESSION: [u64; 21] = [
-    0x01_01_0000_2000,
-    0x02_00_0000_0000,
-    0x03_02_0000_0007,
-    0x04_03_0000_0100,
-    0x04_04_0000_0200,
-    0x05_05_0010_0010,
-    0x05_06_0041_2345,
-    0x05_07_001f_f800,
-    0x05_08_001f_dffc,
-    0x06_09_0000_0001,
-    0x07_0a_0000_0000,
-    0x05_0b_00f0_0404,
-    0x07_0a_0000_0000,
-    0x04_0b_00f0_0404,
-    0x05_0c_00f0_0004,
-    0x05_0d_00f0_0004,
-    0x04_0e_00f8_0c10,
-    0x03_0f_0000_0003,
-    0x04_10_0071_0123,
-    0x03_02_0000_0007,
-    0x06_09_0000_0001,
+    0x01_01_0000_001c_2000,
+    0x00_01_0000_0020_0000,
+    0x02_01_0000_0008_0007,
+    0x03_03_0000_0100_0000,
+    0x04_03_0000_0200_0000,
+    0x05_03_0010_0010_0001,
+    0x06_03_0041_2345_0001,
+    0x07_03_001f_f800_0001,
+    0x08_03_001f_dffc_0001,
+    0x09_01_0000_0018_0001,
+    0x0a_05_0000_0000_0000,
+    0x0b_03_00f0_0404_0001,
+    0x0a_05_0000_0000_0000,
+    0x0b_03_00f0_0404_0000,
+    0x0c_03_00f0_0004_0001,
+    0x0d_03_00f0_0004_0001,
+    0x0e_03_00f8_0c10_0000,
+    0x0f_01_0000_0008_0003,
+    0x10_03_0071_0123_0000,
+    0x02_01_0000_0008_0007,
+    0x09_01_0000_0018_0001,
 ];
 
 fn main() {
     let mut list = [0u8; INPUT];
-    let mut memory = io::large_buffer();
-    let on = [0u8; 16];
     let n = io::read_full(STDIN_FILENO, &mut list);
-    let built = builder::build(&list[..n], BASE, &mut memory);
-    let len = length_of(built);
-    if len == 0 {
-        return;
+    page(&list[..n]);
+}
+
+// The page for a list, or the line that says a refusal.
+fn page(list: &[u8]) {
+    let mut memory = io::large_buffer();
+    let len = length_of(builder::build(list, BASE, &mut memory));
+    if len != 0 {
+        report(list, &memory, len);
     }
-    report(&list[..n], &on, &memory, len);
 }
 
 // The page for a list whose image is the first bytes of the external memory.
-fn report<'a>(list: &[u8], on: &'a [u8], ext: &'a [u8], len: usize) {
-    show::text(b"The list\n  virtual  physical  page     access\n");
+fn report(list: &[u8], ext: &[u8], len: usize) {
+    text::heading(0);
     mappings(list);
-    show::text(b"\nThe tables, ");
+    text::heading(1);
     text::decimal(len as u64);
-    show::text(b" bytes at ");
+    text::heading(2);
     text::hex(BASE, 8);
-    show::text(b"\n  megabyte  word      what it is\n");
-    tables(on, ext);
-    show::text(b"\nThe session: a fresh unit, and calls made for examples/box.records\n");
-    show::text(b"  call            list says  unit answers          words  what it is\n");
-    let bench = Bench {
-        device: Device::fresh(),
-        bill: Bill::fresh(),
-        meters: Meters::zero(),
-    };
-    total(session(bench, list, on, ext));
+    text::heading(3);
+    tables(ext);
+    text::heading(4);
+    session(list, ext);
 }
 
 // The image's length, or 0 after the line that says a refusal.
 fn length_of(built: Built) -> usize {
     match built {
-        Built::Length(n) => n,
-        Built::BadMemory => refused(4, 0),
-        Built::BadRecord(i) => refused(10, i as u64),
-        Built::Overlap(i) => refused(11, i as u64),
-        Built::TooLong(c) => refused(12, c as u64),
+        Built::Length(n) => return n,
+        Built::BadMemory => return refused(4, 0),
+        Built::BadRecord(i) => return refused(10, i as u64),
+        Built::Overlap(i) => return refused(11, i as u64),
+        Built::TooLong(c) => return refused(12, c as u64),
     }
 }
 
 // A refusal's line, and the length of its image.
 fn refused(number: u64, at: u64) -> usize {
-    show::text(b"refused ");
+    text::heading(5);
     text::decimal(number);
-    show::text(b" at ");
+    text::heading(6);
     text::decimal(at);
-    show::text(b"\n");
+    text::heading(7);
     0
 }
 
@@ -127,28 +116,18 @@ fn mapping(m: Mapping) {
     let at = m.at;
     let to = m.to;
     let k = m.kind;
-    show::text(b"  ");
+    text::word(0);
     text::hex(at.0, 6);
-    show::text(b"   ");
+    text::word(1);
     text::hex(to.0, 8);
-    text::kind(k);
-    if m.access == 3 {
-        show::text(b"  both\n");
-    } else {
-        show::text(b"  read\n");
-    }
+    text::kind(page::type_of(k), m.access);
 }
 
 // The first-level words that are not zero, a line each.
-fn tables<'a>(on: &'a [u8], ext: &'a [u8]) {
-    let mut i: u32 = 0;
+fn tables(ext: &[u8]) {
+    let mut i: usize = 0;
     while i < FIRST {
-        let offset = 4 * i;
-        let at = BASE + offset;
-        first_level(
-            i,
-            memory::word_of(memory::fetch(on, 0, ext, BASE, PhysicalAddress(at))),
-        );
+        first_level(i as u32, wire::word_at(ext, 4 * i));
         i += 1;
     }
 }
@@ -158,76 +137,111 @@ fn first_level(mb: u32, w: u32) {
     if w == 0 {
         return;
     }
-    show::text(b"  ");
+    text::word(0);
     text::hex(mb, 1);
-    show::text(b"         ");
+    text::word(2);
     text::hex(w, 8);
-    match w % 4 {
-        0 => show::text(b"  -\n"),
-        1 => table(b"  coarse table at offset ", w),
-        2 => show::text(b"  section\n"),
-        _ => table(b"  fine table at offset ", w),
+    text::word(9 + w % 4);
+    if w % 2 == 1 {
+        text::hex(w % 65536 / 1024 * 1024, 4);
+        text::heading(7);
     }
 }
 
-// What a word says that leads to a table of the image.
-fn table(label: &[u8], w: u32) {
-    show::text(label);
-    text::hex(w % 65536 / 1024 * 1024, 4);
-    show::text(b"\n");
-}
-
-// The calls of the session in order, a line each.
-fn session<'a>(b: Bench, list: &[u8], on: &'a [u8], ext: &'a [u8]) -> Bench {
-    let mut bench = b;
+// The calls of the session in order, a line each, and what they cost.
+fn session(list: &[u8], ext: &[u8]) {
+    let mut b = Bench::fresh();
     let mut i: usize = 0;
     while i < CALLS {
-        let step = SESSION[i];
-        text::question(what_of(step), value_of(step));
-        says(list, what_of(step), value_of(step));
-        bench = call(bench, on, ext, what_of(step), value_of(step));
-        text::remark(remark_of(step));
+        let step = step_at(i);
+        asked(list, what_of(step), place_of(step), value_of(step));
+        b = after(b, ext, step);
         i += 1;
     }
-    bench
+    total(b);
+    paid(b);
 }
 
-// What a call is.
-fn what_of(step: u64) -> u32 {
-    (step / 1099511627776) as u32
-}
-
-// The number of its remark.
-fn remark_of(step: u64) -> u32 {
-    (step / 4294967296 % 256) as u32
-}
-
-// Its address or value.
-fn value_of(step: u64) -> u32 {
-    (step % 4294967296) as u32
-}
-
-// What the list says of a call: a physical byte or a fault for a request, else nothing.
-fn says(list: &[u8], what: u32, x: u32) {
-    show::text(b"  ");
-    match what {
-        4 => text::meaning(lists::means(list, VirtualAddress(x), Access::Read)),
-        5 => text::meaning(lists::means(list, VirtualAddress(x), Access::Write)),
-        _ => show::text(b"-          "),
+// A call of the session, by its place.
+fn step_at(i: usize) -> u64 {
+    if i < CALLS {
+        return SESSION[i];
     }
+    0
 }
 
-// One call.
-fn call<'a>(b: Bench, on: &'a [u8], ext: &'a [u8], what: u32, x: u32) -> Bench {
-    let v = (x % 65536) as u16;
+// The number of a call's remark.
+fn remark_of(step: u64) -> u32 {
+    (step / 72057594037927936 % 256) as u32
+}
+
+// What it is: 1 a register write, 3 a request, 5 the pending fault dropped.
+fn what_of(step: u64) -> u32 {
+    (step / 281474976710656 % 256) as u32
+}
+
+// Its offset or address.
+fn place_of(step: u64) -> u32 {
+    (step / 65536 % 4294967296) as u32
+}
+
+// Its value.
+fn value_of(step: u64) -> u16 {
+    (step % 65536) as u16
+}
+
+// A call, and what the list says of it: a physical byte or a fault for a request, else nothing.
+fn asked(list: &[u8], what: u32, x: u32, v: u16) {
+    if what == 3 {
+        text::request(x, v as u32);
+        meant(list, x, v);
+        return;
+    }
+    if what == 1 {
+        text::setting(x, v as u32);
+    } else {
+        text::call(what);
+    }
+    text::reply(0);
+}
+
+// What the list means at a request's address.
+fn meant(list: &[u8], x: u32, v: u16) {
+    text::meaning(lists::means(list, VirtualAddress(x), access_of(v)));
+}
+
+// The access that a value says.
+fn access_of(v: u16) -> Access {
+    forms::access_of((v % 256) as u8)
+}
+
+// The bench after a call, whose answer and words are shown.
+fn after(b: Bench, ext: &[u8], step: u64) -> Bench {
+    let s = stepped(
+        b,
+        ext,
+        call_of(what_of(step), place_of(step), value_of(step)),
+    );
+    let said = s.said;
+    let next = s.bench;
+    told(said);
+    text::words(words(b), words(next));
+    text::remark(remark_of(step));
+    next
+}
+
+// A call made.
+fn stepped(b: Bench, ext: &[u8], call: Call) -> Stepped {
+    let on = [0u8; 16];
+    b.step(call, &on, 0, ext, BASE, prices())
+}
+
+// A call.
+fn call_of(what: u32, x: u32, v: u16) -> Call {
     match what {
-        1 => write(b, on, ext, 0x1C, v),
-        2 => write(b, on, ext, 0x20, v),
-        3 => write(b, on, ext, 0x08, v),
-        4 => request(b, on, ext, x, Access::Read),
-        5 => request(b, on, ext, x, Access::Write),
-        6 => write(b, on, ext, 0x18, v),
-        _ => drop(b),
+        1 => return Call::Write(x, v),
+        3 => return Call::Request(VirtualAddress(x), access_of(v)),
+        _ => return Call::Drop,
     }
 }
 
@@ -242,96 +256,43 @@ fn prices() -> Prices {
     }
 }
 
-// A register write.
-fn write<'a>(b: Bench, on: &'a [u8], ext: &'a [u8], offset: u32, v: u16) -> Bench {
-    let device = b.device;
-    let bill = b.bill;
+// What the unit answered.
+fn told(said: Said) {
+    let mut out = [0u8; 16];
+    answers::put_said(&mut out, 0, said);
+    text::said(wire::word_at(&out, 0), wire::word_at(&out, 8));
+}
+
+// How many words were metered.
+fn words(b: Bench) -> u64 {
     let m = b.meters;
-    let o = device.write(offset, v, on, 0, ext, BASE, prices(), bill);
-    let answer = o.answer;
-    let next = o.device;
-    let paid = o.bill;
-    let tally = o.tally;
-    let counted = meters::after(m, tally);
-    tell(answer, m.words, counted.words);
-    Bench {
-        device: next,
-        bill: paid,
-        meters: counted,
-    }
+    m.words as u64
 }
 
-// A request.
-fn request<'a>(b: Bench, on: &'a [u8], ext: &'a [u8], x: u32, a: Access) -> Bench {
-    let device = b.device;
-    let bill = b.bill;
-    let m = b.meters;
-    let o = device.request(VirtualAddress(x), a, on, 0, ext, BASE, prices(), bill);
-    let answer = o.answer;
-    let next = o.device;
-    let paid = o.bill;
-    let tally = o.tally;
-    let counted = meters::after(m, tally);
-    tell(answer, m.words, counted.words);
-    Bench {
-        device: next,
-        bill: paid,
-        meters: counted,
-    }
-}
-
-// The pending fault dropped.
-fn drop(b: Bench) -> Bench {
-    let device = b.device;
-    let bill = b.bill;
-    let m = b.meters;
-    let t = device.drop();
-    let answer = t.answer;
-    let next = t.device;
-    tell(answer, m.words, m.words);
-    Bench {
-        device: next,
-        bill: bill,
-        meters: m,
-    }
-}
-
-// An answer, and by how much the words metered before a call differ from those after it.
-fn tell(answer: Answer, before: u32, after: u32) {
-    text::said(answer);
-    if before <= after {
-        text::decimal((after - before) as u64);
-    }
-}
-
-// Meters and bill at the end.
+// The meters at the end.
 fn total(b: Bench) {
     let m = b.meters;
-    let paid = b.bill;
-    show::text(b"\nThe meters and the bill\n  fresh requests    ");
+    text::heading(8);
     text::decimal(m.fresh as u64);
-    show::text(b"\n  retries           ");
+    text::heading(9);
     text::decimal(m.retries as u64);
-    show::text(b"\n  words read        ");
+    text::heading(10);
     text::decimal(m.words as u64);
-    show::text(b"\n  nanoseconds paid  ");
-    amount(paid.total);
-    show::text(b"\nA retry is counted as a retry, never as a fresh request.\n");
 }
 
-// An amount as a whole number, where it is one.
+// The bill at the end.
+fn paid(b: Bench) {
+    let bill = b.bill;
+    text::heading(11);
+    amount(bill.total);
+    text::heading(12);
+}
+
+// The whole part of an amount, which is all of it where the prices are whole.
 fn amount(x: f64) {
     if x > -1.0 {
         if x < 18446744073709551616.0 {
-            whole(std::num::truncating_f64_to_u64(x), x);
+            text::decimal(std::num::truncating_f64_to_u64(x));
         }
-    }
-}
-
-// A whole part, and whether there is more.
-fn whole(n: u64, x: f64) {
-    text::decimal(n);
-    if std::num::nearest_u64_to_f64(n) != x {
-        show::text(b" and a fraction");
     }
 }

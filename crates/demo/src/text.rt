@@ -1,9 +1,6 @@
 // How the page words numbers, kinds, calls, answers and remarks.
 use libc::STDOUT_FILENO;
 use lists::Meaning;
-use page::Kind;
-use registers::Answer;
-use registers::Fault;
 
 // A number in decimal.
 pub fn decimal(n: u64) {
@@ -15,97 +12,128 @@ pub fn hex(n: u32, width: usize) {
     io::print_hex(STDOUT_FILENO, n as u64, width);
 }
 
-// A kind of page as text.
-pub fn kind(k: Kind) {
-    match k {
-        Kind::Section => show::text(b"  section"),
-        Kind::Large => show::text(b"  large  "),
-        Kind::Small => show::text(b"  small  "),
-        Kind::Tiny => show::text(b"  tiny   "),
+// The words between the numbers of the page, in its order; 5 to 7 are a refusal's.
+pub fn heading(n: u32) {
+    labels::part(
+        b"The list\n  virtual  physical  page     access\n|\nThe tables, | bytes at \
+          |\n  megabyte  word      what it is\n\
+          |\nThe session: a fresh unit, and calls made for examples/box.records\n  call            list says  unit answers          words  what it is\n\
+          |refused | at |\n|\nThe meters and the bill\n  fresh requests    |\n  retries           \
+          |\n  words read        |\n  nanoseconds paid  \
+          |\nA retry is counted as a retry, never as a fresh request.\n",
+        n,
+    );
+}
+
+// The words of the list and of the tables: blanks, the kinds, the accesses, and from 9 on what a first-level word is.
+pub fn word(n: u32) {
+    labels::part(
+        b"  |   |         |  section|  large  |  small  |  tiny   |  read\n|  both\n|  -\n\
+          |  coarse table at offset |  section\n|  fine table at offset ",
+        n,
+    );
+}
+
+// A kind of page and its access.
+pub fn kind(k: u32, access: u32) {
+    word(3 + k % 4);
+    word(5 + access % 4);
+}
+
+// A register write as text.
+pub fn setting(offset: u32, v: u32) {
+    call(offset / 4);
+    if offset == 0x18 {
+        hex(v, 1);
+    } else {
+        hex(v, 4);
     }
 }
 
-// A call as text.
-pub fn question(what: u32, x: u32) {
-    match what {
-        1 => named(b"  base high ", x, 4),
-        2 => named(b"  base low  ", x, 4),
-        3 => named(b"  control   ", x, 4),
-        4 => named(b"  read    ", x, 6),
-        5 => named(b"  write   ", x, 6),
-        6 => named(b"  acknowledge  ", x, 1),
-        _ => show::text(b"  drop          "),
-    }
+// A request as text.
+pub fn request(va: u32, write: u32) {
+    call(3 + write % 2);
+    hex(va, 6);
 }
 
-// A label and a number.
-fn named(label: &[u8], x: u32, width: usize) {
-    show::text(label);
-    hex(x, width);
+// The name of the register at a word's place, or 3 to 5 of another call.
+pub fn call(n: u32) {
+    labels::part(
+        b"||  control   |  read    |  write   |  drop          |  acknowledge  |  base high |  base low  ",
+        n,
+    );
 }
 
 // What a list means at an address, as text.
 pub fn meaning(m: Meaning) {
     match m {
-        Meaning::Byte(at) => {
-            hex(at.0, 8);
-            show::text(b"   ");
-        }
-        Meaning::Permission => show::text(b"fault 23   "),
-        Meaning::Translation => show::text(b"fault 21   "),
+        Meaning::Byte(at) => byte(at.0),
+        Meaning::Permission => reply(2),
+        Meaning::Translation => reply(1),
     }
 }
 
-// An answer as text.
-pub fn said(answer: Answer) {
-    match answer {
-        Answer::Address(at) => {
-            hex(at.0, 8);
-            show::text(b"              ");
-        }
-        Answer::Fault(k) => fault(k),
-        Answer::Value(v) => {
-            hex(v as u32, 4);
-            show::text(b"                  ");
-        }
-        Answer::Done => show::text(b"done                  "),
-        Answer::Refused(k) => {
-            show::text(b"refused ");
-            decimal(k as u64);
-            show::text(b"             ");
-        }
-    }
+// A physical byte as text.
+fn byte(at: u32) {
+    word(0);
+    hex(at, 8);
+    word(1);
 }
 
-// A fault as text.
-fn fault(k: Fault) {
-    match k {
-        Fault::Translation => show::text(b"fault 21 translation  "),
-        Fault::Miss => show::text(b"fault 22 miss         "),
-        Fault::Permission => show::text(b"fault 23 permission   "),
-        Fault::Prefetch => show::text(b"fault 24 prefetch     "),
+// The words of what a list says, and from 3 on of an answer: its blanks, done, and the faults.
+pub fn reply(n: u32) {
+    labels::part(
+        b"  -          |  fault 21   |  fault 23   |              |                  \
+          |done                  |fault 21 translation  |fault 22 miss         |fault 23 permission   \
+          |fault 24 prefetch     |refused |             ",
+        n,
+    );
+}
+
+// An answer as text, from its number and its value.
+pub fn said(n: u32, x: u32) {
+    if n == 100 {
+        hex(x, 8);
+        reply(3);
+        return;
+    }
+    if n == 101 {
+        hex(x, 4);
+        reply(4);
+        return;
+    }
+    if n == 0 {
+        reply(5);
+        return;
+    }
+    if n > 20 {
+        reply(n - 15);
+        return;
+    }
+    refusal(n);
+}
+
+// A refusal as text.
+fn refusal(n: u32) {
+    reply(10);
+    decimal(n as u64);
+    reply(11);
+}
+
+// By how much the words metered before a call differ from those after it.
+pub fn words(before: u64, after: u64) {
+    if before <= after {
+        decimal(after - before);
     }
 }
 
 // A remark on a call, and a line end.
 pub fn remark(note: u32) {
-    match note {
-        1 => show::text(b"      the tables' place\n"),
-        2 => show::text(b"      on, walking\n"),
-        3 => show::text(b"      code\n"),
-        4 => show::text(b"      the same page\n"),
-        5 => show::text(b"      heap\n"),
-        6 => show::text(b"      video frames\n"),
-        7 => show::text(b"      stack\n"),
-        8 => show::text(b"      stack overrun\n"),
-        9 => show::text(b"      a retry\n"),
-        10 => show::text(b"      given up\n"),
-        11 => show::text(b"      a decoder at the keys\n"),
-        12 => show::text(b"      the keys' own task\n"),
-        13 => show::text(b"      the same address\n"),
-        14 => show::text(b"      product data\n"),
-        15 => show::text(b"      on, not walking\n"),
-        16 => show::text(b"      audio stream\n"),
-        _ => show::text(b"\n"),
-    }
+    labels::part(
+        b"\n|      the tables' place\n|      on, walking\n|      code\n|      the same page\n|      heap\n\
+          |      video frames\n|      stack\n|      stack overrun\n|      a retry\n|      given up\n\
+          |      a decoder at the keys\n|      the keys' own task\n|      the same address\n\
+          |      product data\n|      on, not walking\n|      audio stream\n",
+        note,
+    );
 }

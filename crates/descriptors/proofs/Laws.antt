@@ -1,22 +1,42 @@
 -- What the descriptors give. Assumes nothing.
-use mathlib.Core.Path.{_≡_, refl}
+use mathlib.Core.Path.{_≡_, refl, sym, _∙_}
 use mathlib.Core.Bool.{false}
 use Prim.Native.Nat.{ℕ, _/_, _%_, _^_, _<_}
 use native.Mathlib.Omega.{arith}
 use lib.Dec.{lit<}
 use Rattle.page.specs.Low.{upper}
-use Rattle.page.specs.Words.{lowBits}
+use Rattle.page.specs.Words.{physical, lowBits}
 use Rattle.page.specs.declared.Kind.{Kind}
 use Rattle.page.specs.declared.Kind.the-variants.{Large, Small, Tiny}
 use Rattle.page.specs.declared.VirtualAddress.{VirtualAddress}
-use Rattle.page.proofs.Picks.{pick-by}
+use borrow.Author.Tests.{eq-eqb, ne-eqb}
+use Rattle.page.proofs.Picks.{pick-yes, pick-no, pick-by}
 use Rattle.page.proofs.Lower.{upper-lt, upper-upper, joined-low, joined-high}
 use Rattle.descriptors.specs.declared.Page.{Page}
+use Rattle.descriptors.specs.declared.First.the-variants as F
 use Rattle.descriptors.specs.declared.Found.{Found}
+use Rattle.descriptors.specs.declared.Found.the-variants as D
 use Rattle.descriptors.specs.declared.Table.{Table}
 use Rattle.descriptors.specs.declared.Table.the-variants as T
 use Rattle.descriptors.specs.Descriptors.{sectionOf, firstOf, pageOf, secondOf, physicalOf, Room}
 use Rattle.descriptors.specs.Statements.{ProperPage, ProperFirst, Proper, isMissing}
+
+-- a word that the code tells by its two lowest bits, where the definition asks for others first
+module _ (w : ℕ) where
+  pub first-coarse : w % 4 ≡ 1 → F.Coarse (physical (upper 10 w)) ≡ firstOf w
+  unfolding firstOf
+  first-coarse e = sym (pick-no _ _ _ (ne-eqb (w % 4) 0 (λ q. omega (arith, q, e))) ∙ pick-yes _ _ _ (eq-eqb _ _ e))
+
+  pub first-section : w % 4 ≡ 2 → F.Whole (sectionOf w) ≡ firstOf w
+  unfolding firstOf
+  first-section e =
+      sym (pick-no _ _ _ (ne-eqb (w % 4) 0 (λ q. omega (arith, q, e)))
+      ∙ pick-no _ _ _ (ne-eqb (w % 4) 1 (λ q. omega (arith, q, e)))
+      ∙ pick-yes _ _ _ (eq-eqb _ _ e))
+
+  pub second-small : w % 4 ≡ 2 → D.Page (pageOf Small w) ≡ secondOf T.Coarse w
+  unfolding secondOf
+  second-small e = sym (pick-no _ _ _ (ne-eqb (w % 4) 1 (λ q. omega (arith, q, e))) ∙ pick-yes _ _ _ (eq-eqb _ _ e))
 
 -- a first-level word's table ends below 2^32
 pub room : (w : ℕ) → w < 2 ^ 32 → Room (firstOf w)

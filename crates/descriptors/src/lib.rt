@@ -3,7 +3,7 @@ use page::Kind;
 use page::PhysicalAddress;
 use page::VirtualAddress;
 ghost use mathlib.Core.Path.{_≡_};
-ghost use Rattle.descriptors.specs.Descriptors.{firstOf, pageOf, secondOf, physicalOf, distanceOf};
+ghost use Rattle.descriptors.specs.Descriptors.{sectionOf, firstOf, pageOf, secondOf, physicalOf, distanceOf};
 
 // A page that a descriptor gives.
 pub struct Page {
@@ -49,26 +49,28 @@ pub fn distance(p: PhysicalAddress, v: VirtualAddress) -> i64
     p.0 as i64 - v.0 as i64
 }
 
+// The page of a section's word.
+fn section_of(w: u32) -> Page
+    ensures { λ r. ⌜ r ≡ sectionOf w ⌝ }
+{
+    let frame = page::page_start(Kind::Section, w);
+    Page {
+        kind: Kind::Section,
+        frame: PhysicalAddress(frame),
+        access: w / 1024 % 4,
+    }
+}
+
 // What a first-level word says.
 pub fn decode_first(w: u32) -> First
     ensures { λ r. ⌜ r ≡ firstOf w ⌝ }
 {
-    let bits = w % 4;
-    if bits == 0 {
-        return First::Fault;
+    match w % 4 {
+        0 => return First::Fault,
+        1 => return First::Coarse(PhysicalAddress(w / 1024 * 1024)),
+        2 => return First::Whole(section_of(w)),
+        _ => return First::Fine(PhysicalAddress(w / 4096 * 4096)),
     }
-    if bits == 1 {
-        return First::Coarse(PhysicalAddress(w / 1024 * 1024));
-    }
-    if bits == 2 {
-        let frame = page::page_start(Kind::Section, w);
-        return First::Whole(Page {
-            kind: Kind::Section,
-            frame: PhysicalAddress(frame),
-            access: w / 1024 % 4,
-        });
-    }
-    First::Fine(PhysicalAddress(w / 4096 * 4096))
 }
 
 // The page of a second-level word.
@@ -87,22 +89,15 @@ fn page_of(kind: Kind, w: u32) -> Page
 pub fn decode_second(table: Table, w: u32) -> Found
     ensures { λ r. ⌜ r ≡ secondOf table w ⌝ }
 {
-    let bits = w % 4;
     match table {
-        Table::Coarse => {
-            if bits == 1 {
-                return Found::Page(page_of(Kind::Large, w));
-            }
-            if bits == 2 {
-                return Found::Page(page_of(Kind::Small, w));
-            }
-            Found::NoPage
-        }
-        Table::Fine => {
-            if bits == 3 {
-                return Found::Page(page_of(Kind::Tiny, w));
-            }
-            Found::NoPage
-        }
+        Table::Coarse => match w % 4 {
+            1 => return Found::Page(page_of(Kind::Large, w)),
+            2 => return Found::Page(page_of(Kind::Small, w)),
+            _ => return Found::NoPage,
+        },
+        Table::Fine => match w % 4 {
+            3 => return Found::Page(page_of(Kind::Tiny, w)),
+            _ => return Found::NoPage,
+        },
     }
 }

@@ -1,8 +1,7 @@
 -- A bench from a handed-in state: register images and slots as they stand; and prices of a kind.
-use Rattle.page.specs.Ground.{ℕ, zero, suc, _+_, _*_, Bool, List, [], _∷_, eqb, ltb, leb, length, getD}
+use Rattle.page.specs.Ground.{ℕ, zero, suc, _+_, _*_, Bool, List, [], _∷_, eqb, leb, length, getD}
 use Rattle.page.specs.Pick.{pick, _and_, _or_}
-use Rattle.page.specs.Words.{virtual, physical}
-use Rattle.page.specs.declared.Access.{Access}
+use Rattle.page.specs.Words.{physical}
 use Rattle.meters.specs.declared.Meters.{Meters}
 use Rattle.bill.specs.declared.Bill.{Bill}
 use Rattle.prices.specs.declared.Side.{Side}
@@ -14,15 +13,13 @@ use Rattle.bank.specs.declared.Bank.{Bank}
 use Rattle.lanes.specs.Lanes.{slots}
 use Rattle.registers.specs.declared.Entry.{Entry}
 use Rattle.registers.specs.declared.Registers.{Registers}
-use Rattle.registers.specs.declared.Fault.the-variants as K
-use Rattle.registers.specs.declared.Pending.{Pending}
-use Rattle.registers.specs.declared.Pending.the-variants.{Nothing, Held}
-use Rattle.calls.specs.Records.{accessOf}
 use Rattle.unit.specs.declared.Device.{Device}
 use Rattle.session.specs.declared.Bench.{Bench}
 use lib.Ieee.{Float}
 use Rattle.wire.specs.Words.{swapped, wordAt, lowAt, highAt}
-use Rattle.state.specs.State.{noRow, stateSize}
+use Rattle.taken.specs.Taken.{narrowed, pendingOf}
+use Rattle.parts.specs.Parts.{noRow}
+use Rattle.asked.specs.Asked.{stateSize}
 
 -- the pending statuses
 abbrev pub isStatus : ℕ → Bool
@@ -49,10 +46,6 @@ unfoldable pub laneFrom : List ℕ → ℕ → ℕ → ℕ → List ℕ
 laneFrom s at i zero = []
 laneFrom s at i (suc n) = swapped (wordAt s (at + 8 * i)) ∷ laneFrom s at (i + 1) n
 
--- as many bits as a device holds, or the greatest number of them where it is more
-unfoldable pub narrowed : ℕ → ℕ
-narrowed x = pick (ltb x 256) x 255
-
 abbrev pub bankIn : List ℕ → Bank
 bankIn s = record {
   cam = laneFrom s 28 0 slots;
@@ -60,14 +53,6 @@ bankIn s = record {
   lock = narrowed (lowAt s 8);
   victim = narrowed (highAt s 8);
 }
-
--- a pending fault by its status
-unfoldable pub pendingOf : ℕ → ℕ → ℕ → Pending
-pendingOf status access address =
-    pick (eqb status 1) (Held K.Translation (virtual address) (accessOf access))
-    (pick (eqb status 2) (Held K.Miss (virtual address) (accessOf access))
-    (pick (eqb status 4) (Held K.Permission (virtual address) (accessOf access))
-    (pick (eqb status 8) (Held K.Prefetch (virtual address) (accessOf access)) Nothing)))
 
 abbrev pub metersIn : List ℕ → Meters
 metersIn s = record { fresh = wordAt s 292; retries = wordAt s 296; words = wordAt s 300 }

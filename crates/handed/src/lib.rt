@@ -3,37 +3,24 @@ use bank::Bank;
 use bill::Bill;
 use meters::Meters;
 use page::PhysicalAddress;
-use page::VirtualAddress;
 use prices::LastRow;
 use prices::Price;
 use prices::Prices;
 use prices::Side;
 use registers::Entry;
-use registers::Fault;
-use registers::Pending;
 use registers::Registers;
 use session::Bench;
 use unit::Device;
 ghost use mathlib.Core.Path.{_≡_};
 ghost use Prim.Native.Nat.{_≤_};
 ghost use Rattle.lanes.specs.Lanes.{slots};
-ghost use Rattle.handed.specs.Handed.{isStatus, isState, narrowed, entryAt, registersIn, laneFrom, bankIn, pendingOf, metersIn, sideOf, billIn, deviceIn, benchIn, lockIn, priceOf, pricesOf};
+ghost use Rattle.handed.specs.Handed.{isStatus, isState, entryAt, registersIn, laneFrom, bankIn, metersIn, sideOf, billIn, deviceIn, benchIn, lockIn, priceOf, pricesOf};
 
 // The bytes of a state.
 const STATE: usize = 328;
 
 // How many slots there are.
 const SLOTS: usize = 32;
-
-// A number of a device's 8 bits, or the greatest one where it is more.
-fn narrow(x: u16) -> u8
-    ensures { λ r. ⌜ r ≡ narrowed x ⌝ }
-{
-    if x < 256 {
-        return x as u8;
-    }
-    255
-}
 
 // A slot in register form.
 fn entry_at(state: &[u8], at: usize) -> Entry
@@ -73,27 +60,6 @@ fn lane_at(state: &[u8], at: usize) -> [u32; 32]
         i += 1;
     }
     lane
-}
-
-// The pending fault of a status, an access and an address.
-fn pending_of(status: u8, access: u8, address: u32) -> Pending
-    ensures { λ r. ⌜ r ≡ pendingOf status access address ⌝ }
-{
-    let va = VirtualAddress(address);
-    let a = calls::access_of(access);
-    if status == 1 {
-        return Pending::Held(Fault::Translation, va, a);
-    }
-    if status == 2 {
-        return Pending::Held(Fault::Miss, va, a);
-    }
-    if status == 4 {
-        return Pending::Held(Fault::Permission, va, a);
-    }
-    if status == 8 {
-        return Pending::Held(Fault::Prefetch, va, a);
-    }
-    Pending::Nothing
 }
 
 // What a state keeps of a memory.
@@ -138,8 +104,8 @@ fn bank_at(state: &[u8]) -> Bank
     Bank {
         cam: lane_at(state, 28),
         ram: lane_at(state, 32),
-        lock: narrow(wire::low_at(state, 8)),
-        victim: narrow(wire::high_at(state, 8)),
+        lock: taken::lock_of(state),
+        victim: taken::victim_of(state),
     }
 }
 
@@ -150,7 +116,7 @@ fn device_at(state: &[u8]) -> Device
     Device {
         registers: registers_at(state),
         bank: bank_at(state),
-        pending: pending_of(
+        pending: taken::pending_of(
             wire::byte_at(state, 284),
             wire::byte_at(state, 285),
             wire::word_at(state, 288),
@@ -180,19 +146,14 @@ pub fn lock_at(state: &[u8]) -> u32
 fn status_ok(x: u8) -> bool
     ensures { λ r. ⌜ r ≡ isStatus x ⌝ }
 {
-    if x == 0 {
-        return true;
+    match x {
+        0 => true,
+        1 => true,
+        2 => true,
+        4 => true,
+        8 => true,
+        _ => false,
     }
-    if x == 1 {
-        return true;
-    }
-    if x == 2 {
-        return true;
-    }
-    if x == 4 {
-        return true;
-    }
-    x == 8
 }
 
 // Whether the bytes are a state.

@@ -116,9 +116,9 @@ fn held_meaning(h: Held, va: VirtualAddress, a: Access) -> Meaning
             if page::permitted(m.access, a) {
                 return Meaning::Byte(records::byte_of(m, va));
             }
-            Meaning::Permission
+            return Meaning::Permission;
         }
-        Held::Nobody => Meaning::Translation,
+        Held::Nobody => return Meaning::Translation,
     }
 }
 

@@ -1,8 +1,10 @@
 -- The two lent memories (01, "The unit", third paragraph; "When the unit says no", 4): which are refused,
 -- where a descriptor's four bytes lie, and the part that they are.
-use Rattle.page.specs.Ground.{ℕ, _+_, _-_, _*_, _%_, _^_, _≤_, _≡_, Bool, List, [], eqb, leb, length, getD, take, drop}
-use Rattle.page.specs.Pick.{pick, _and_, _or_}
+use Rattle.page.specs.Ground.{ℕ, _+_, _-_, _*_, _≤_, _≡_, Bool, List, [], leb, length, getD, take, drop}
+use Rattle.page.specs.Pick.{pick}
 use denote.Ref.{RefT}
+pub use Rattle.spans.specs.Spans.{longest}
+unfoldable pub use Rattle.spans.specs.Spans.{memoryOk, apart, memoriesOk, holds}
 use Rattle.memory.specs.declared.Place.{Place}
 use Rattle.memory.specs.declared.Place.the-variants.{OnChip, External, Nowhere}
 
@@ -17,35 +19,17 @@ pub record Lent : Type 0 where
 abbrev pub lent : List ℕ → ℕ → List ℕ → ℕ → Lent
 lent on onbase ext extbase = record { on = on; onbase = onbase; ext = ext; extbase = extbase }
 
--- the greatest length of a memory
-abbrev pub longest : ℕ
-longest = 131072
-
--- base and length are multiples of 4, the length is not over the greatest, the end is not over 2^32
-unfoldable pub memoryOk : ℕ → ℕ → Bool
-memoryOk base n = eqb (base % 4) 0 and eqb (n % 4) 0 and leb n longest and leb (base + n) (2 ^ 32)
-
--- the n bytes at b and the m bytes at c share no address; no bytes share none
-unfoldable pub apart : ℕ → ℕ → ℕ → ℕ → Bool
-apart b n c m = eqb n 0 or eqb m 0 or leb (b + n) c or leb (c + m) b
-
--- two memories that refusal 4 does not hold of
-unfoldable pub memoriesOk : ℕ → ℕ → ℕ → ℕ → Bool
-memoriesOk b n c m = memoryOk b n and memoryOk c m and apart b n c m
-
 -- the two may be lent together
 abbrev pub lentOk : Lent → Bool
 lentOk m = memoriesOk (m .onbase) (length (m .on)) (m .extbase) (length (m .ext))
 
--- the four bytes at a lie in the n bytes at b
-unfoldable pub holds : ℕ → ℕ → ℕ → Bool
-holds b n a = leb b a and leb (a + 4) (b + n)
+-- where the four bytes at a lie: in the n bytes at b on chip, in the m external ones at c, or in neither
+abbrev pub placeOf : ℕ → ℕ → ℕ → ℕ → ℕ → Place
+placeOf b n c m a = pick (holds b n a) (OnChip (a - b)) (pick (holds c m a) (External (a - c)) Nowhere)
 
 -- where the four bytes at an address lie, with no look at refusal 4
 unfoldable pub placeWithin : Lent → ℕ → Place
-placeWithin m a =
-    pick (holds (m .onbase) (length (m .on)) a) (OnChip (a - m .onbase))
-    (pick (holds (m .extbase) (length (m .ext)) a) (External (a - m .extbase)) Nowhere)
+placeWithin m a = placeOf (m .onbase) (length (m .on)) (m .extbase) (length (m .ext)) a
 
 -- where the four bytes at an address lie; nowhere under refusal 4
 unfoldable pub placeIn : Lent → ℕ → Place

@@ -1,12 +1,12 @@
 // The two lent memories, where a descriptor's four bytes lie, and the part that holds them.
 use page::PhysicalAddress;
+pub use spans::LONGEST;
+pub use spans::memory_ok;
 ghost use mathlib.Core.Path.{_≡_};
-ghost use Prim.Native.Nat.{_≤_};
+ghost use Prim.Native.Nat.{_+_, _≤_};
+ghost use lib.ListN.{length, take, drop};
 ghost use Rattle.memory.specs.Reads.{wordCount};
-ghost use Rattle.memory.specs.Memory.{lent, longest, memoryOk, apart, lentOk, holds, placeWithin, placeIn, fetchedWithin, fetchedIn, sourceOf, littleEndian, wordOf};
-
-// The greatest length of a memory.
-pub const LONGEST: usize = 131072;
+ghost use Rattle.memory.specs.Memory.{lent, lentOk, placeOf, placeWithin, placeIn, fetchedWithin, fetchedIn, sourceOf, littleEndian, wordOf};
 
 // Where four bytes lie: at an offset of the on-chip memory, of the external one, or in neither.
 pub enum Place {
@@ -39,78 +39,31 @@ pub fn count(reads: Reads) -> u32
     }
 }
 
-// Whether one memory may be lent.
-pub fn memory_ok(base: u32, len: usize) -> bool
-    ensures { λ r. ⌜ r ≡ memoryOk base len ⌝ }
-{
-    if base % 4 != 0 {
-        return false;
-    }
-    if len % 4 != 0 {
-        return false;
-    }
-    if len > LONGEST {
-        return false;
-    }
-    base as usize + len <= 4294967296
-}
-
-// Whether two memories share no address.
-fn are_apart(b: u32, n: usize, c: u32, m: usize) -> bool
-    requires { ⌜ (n ≤ longest) × (m ≤ longest) ⌝ }
-    ensures { λ r. ⌜ r ≡ apart b n c m ⌝ }
-{
-    if n == 0 {
-        return true;
-    }
-    if m == 0 {
-        return true;
-    }
-    if b as usize + n <= c as usize {
-        return true;
-    }
-    c as usize + m <= b as usize
-}
-
 // Whether the two may be lent together: false where refusal 4 holds.
 pub fn memories_ok(on: &[u8], onbase: u32, ext: &[u8], extbase: u32) -> bool
     ensures { λ r. ⌜ r ≡ lentOk (lent (now (on .entry)) onbase (now (ext .entry)) extbase) ⌝ }
 {
-    if !memory_ok(onbase, on.len()) {
-        return false;
-    }
-    if !memory_ok(extbase, ext.len()) {
-        return false;
-    }
-    are_apart(onbase, on.len(), extbase, ext.len())
+    spans::both_ok(onbase, on.len(), extbase, ext.len())
 }
 
-// Whether the four bytes at an address lie in the n bytes at b.
-fn held(b: u32, n: usize, a: u32) -> bool
-    ensures { λ r. ⌜ r ≡ holds b n a ⌝ }
+// Where the four bytes at a lie, of the n bytes at b on chip and the m external ones at c.
+fn place_of(b: u32, n: usize, c: u32, m: usize, a: u32) -> Place
+    ensures { λ r. ⌜ r ≡ placeOf b n c m a ⌝ }
 {
-    if a < b {
-        return false;
+    if spans::held(b, n, a) {
+        return Place::OnChip((a - b) as usize);
     }
-    let k = (a - b) as usize;
-    if n < k {
-        return false;
+    if spans::held(c, m, a) {
+        return Place::External((a - c) as usize);
     }
-    4 <= n - k
+    Place::Nowhere
 }
 
 // Where the four bytes at an address lie, for a caller that has tried the memories.
 pub fn locate_within(on: &[u8], onbase: u32, ext: &[u8], extbase: u32, at: PhysicalAddress) -> Place
     ensures { λ r. ⌜ r ≡ placeWithin (lent (now (on .entry)) onbase (now (ext .entry)) extbase) (at .0) ⌝ }
 {
-    let a = at.0;
-    if held(onbase, on.len(), a) {
-        return Place::OnChip((a - onbase) as usize);
-    }
-    if held(extbase, ext.len(), a) {
-        return Place::External((a - extbase) as usize);
-    }
-    Place::Nowhere
+    place_of(onbase, on.len(), extbase, ext.len(), at.0)
 }
 
 // Where the four bytes at an address lie; nowhere under refusal 4.
@@ -121,6 +74,15 @@ pub fn locate(on: &[u8], onbase: u32, ext: &[u8], extbase: u32, at: PhysicalAddr
         return Place::Nowhere;
     }
     locate_within(on, onbase, ext, extbase, at)
+}
+
+// Four bytes of a memory.
+fn four<'a>(memory: &'a [u8], k: usize) -> &'a [u8]
+    requires { ⌜ k + 4 ≤ length (now memory) ⌝ }
+    ensures bytes { λ r. ⌜ now r ≡ take 4 (drop k (now (memory .entry))) ⌝ }
+    ensures source { λ r. ⌜ r .ptr ≡ (memory .entry .ptr .0, k + memory .entry .ptr .1) ⌝ }
+{
+    &memory[k..k + 4]
 }
 
 // The four bytes at an address as a part of whichever memory holds them, for a caller that has tried the memories.
@@ -136,8 +98,8 @@ pub fn fetch_within<'a>(
 {
     let p = locate_within(on, onbase, ext, extbase, at);
     match p {
-        Place::OnChip(k) => &on[k..k + 4],
-        Place::External(k) => &ext[k..k + 4],
+        Place::OnChip(k) => four(on, k),
+        Place::External(k) => four(ext, k),
         Place::Nowhere => &on[0..0],
     }
 }

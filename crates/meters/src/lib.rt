@@ -23,7 +23,10 @@ pub struct Tally {
 fn sum_to_stop(a: u32, b: u32) -> u32
     ensures { λ r. ⌜ r ≡ stopped a b ⌝ }
 {
-    if b <= STOP - a { a + b } else { STOP }
+    if b <= STOP - a {
+        return a + b;
+    }
+    STOP
 }
 
 impl Tally {

@@ -1,6 +1,6 @@
 -- The laws of a choice and of the two tests. Assumes nothing.
 use mathlib.Core.Path.{_≡_, refl, sym, _∙_, ap}
-use mathlib.Core.Bool.{Bool, true, false, true≢false, false≢true}
+use mathlib.Core.Bool.{Bool, true, false, _&&_, _||_, true≢false, false≢true}
 use Rattle.page.specs.Pick.{pick, _and_, _or_}
 
 pub pick-yes : {A : Type 0} (t : Bool) (a b : A) → t ≡ true → pick t a b ≡ a
@@ -29,6 +29,11 @@ unfolding _and_
 and-no false x h = refl
 and-no true x h = absurd (true≢false h)
 
+pub and-rest : (t x : Bool) → x ≡ false → (t and x) ≡ false
+unfolding _and_
+and-rest true x h = h
+and-rest false x h = refl
+
 pub and-left : (t x : Bool) → (t and x) ≡ true → t ≡ true
 unfolding _and_
 and-left true x h = refl
@@ -48,3 +53,23 @@ pub or-no : (t x : Bool) → t ≡ false → (t or x) ≡ x
 unfolding _or_
 or-no false x h = refl
 or-no true x h = absurd (true≢false h)
+
+-- the machine's tests of two and of four are those of the definitions
+pub and-is : (p q : Bool) → (p && q) ≡ (p and q)
+unfolding _and_
+and-is false q = refl
+and-is true q = refl
+
+pub all-four : (p q r s : Bool) → (((p && q) && r) && s) ≡ (p and q and r and s)
+unfolding _and_
+all-four false q r s = refl
+all-four true false r s = refl
+all-four true true false s = refl
+all-four true true true s = refl
+
+pub any-four : (p q r s : Bool) → (((p || q) || r) || s) ≡ (p or q or r or s)
+unfolding _or_
+any-four true q r s = refl
+any-four false true r s = refl
+any-four false false true s = refl
+any-four false false false s = refl

@@ -21,6 +21,10 @@ physical n = record { 0 = n }
 abbrev pub megabytes : ℕ
 megabytes = 16
 
+-- the first address past the virtual ones
+abbrev pub limit : ℕ
+limit = megabytes * 2 ^ 20
+
 -- how many low bits of an address a page leaves alone
 abbrev pub lowBits : Kind → ℕ
 lowBits Section = 20

@@ -1,7 +1,7 @@
 // Addresses, accesses, kinds of page, and the two words of a slot in register layout.
 ghost use mathlib.Core.Path.{_≡_};
 ghost use Rattle.page.specs.Low.{upper, joined};
-ghost use Rattle.page.specs.Words.{lowBits, typeOf, kindOf, permits, wordValid, wordPreserved, wordAccess, wordMatches, wordAddress, wordDropped, wordFlushed, wordFlushedAt, madeWords};
+ghost use Rattle.page.specs.Words.{lowBits, typeOf, kindOf, permits, wordValid, wordAccess, wordMatches, wordAddress, wordDropped, wordFlushed, wordFlushedAt, madeWords};
 
 // An address of the DSP.
 pub struct VirtualAddress(pub u32);
@@ -31,17 +31,12 @@ pub struct Words {
 pub fn kind_of(w: u32) -> Kind
     ensures { λ r. ⌜ r ≡ kindOf w ⌝ }
 {
-    let t = w % 4;
-    if t == 0 {
-        return Kind::Section;
+    match w % 4 {
+        0 => return Kind::Section,
+        1 => return Kind::Large,
+        2 => return Kind::Small,
+        _ => return Kind::Tiny,
     }
-    if t == 1 {
-        return Kind::Large;
-    }
-    if t == 2 {
-        return Kind::Small;
-    }
-    Kind::Tiny
 }
 
 // The type bits of a kind.
@@ -49,10 +44,10 @@ pub fn type_of(k: Kind) -> u32
     ensures { λ r. ⌜ r ≡ typeOf k ⌝ }
 {
     match k {
-        Kind::Section => 0,
-        Kind::Large => 1,
-        Kind::Small => 2,
-        Kind::Tiny => 3,
+        Kind::Section => return 0,
+        Kind::Large => return 1,
+        Kind::Small => return 2,
+        Kind::Tiny => return 3,
     }
 }
 
@@ -61,10 +56,10 @@ pub fn low_bits(k: Kind) -> u32
     ensures { λ r. ⌜ r ≡ lowBits k ⌝ }
 {
     match k {
-        Kind::Section => 20,
-        Kind::Large => 16,
-        Kind::Small => 12,
-        Kind::Tiny => 10,
+        Kind::Section => return 20,
+        Kind::Large => return 16,
+        Kind::Small => return 12,
+        Kind::Tiny => return 10,
     }
 }
 
@@ -88,8 +83,8 @@ pub fn permitted(bits: u32, a: Access) -> bool
     ensures { λ r. ⌜ r ≡ permits bits a ⌝ }
 {
     match a {
-        Access::Read => 2 <= bits,
-        Access::Write => bits == 3,
+        Access::Read => return 2 <= bits,
+        Access::Write => return bits == 3,
     }
 }
 
@@ -98,13 +93,6 @@ fn valid(cam: u32) -> bool
     ensures { λ r. ⌜ r ≡ wordValid cam ⌝ }
 {
     cam / 4 % 2 == 1
-}
-
-// Bit P of a CAM word.
-fn preserved(cam: u32) -> bool
-    ensures { λ r. ⌜ r ≡ wordPreserved cam ⌝ }
-{
-    cam / 8 % 2 == 1
 }
 
 // The access bits of a RAM word.
@@ -118,13 +106,11 @@ pub fn access_of(ram: u32) -> u32
 pub fn matches(cam: u32, va: VirtualAddress) -> bool
     ensures { λ r. ⌜ r ≡ wordMatches cam va ⌝ }
 {
-    if !valid(cam) {
-        return false;
+    if valid(cam) {
+        let n = low_bits(kind_of(cam)) - 10;
+        return va.0 / 1024 >> n == cam / 16 >> n;
     }
-    let n = low_bits(kind_of(cam)) - 10;
-    let page = va.0 / 1024;
-    let tag = cam / 16;
-    page >> n == tag >> n
+    false
 }
 
 // The physical address that a matching slot gives.
@@ -138,31 +124,40 @@ pub fn translated(cam: u32, ram: u32, va: VirtualAddress) -> PhysicalAddress
 fn dropped(cam: u32) -> u32
     ensures { λ r. ⌜ r ≡ wordDropped cam ⌝ }
 {
-    if valid(cam) { cam - 4 } else { cam }
+    if valid(cam) {
+        return cam - 4;
+    }
+    cam
 }
 
 // A CAM word after a global flush.
 pub fn flushed(cam: u32) -> u32
     ensures { λ r. ⌜ r ≡ wordFlushed cam ⌝ }
 {
-    if preserved(cam) { cam } else { dropped(cam) }
+    if cam / 8 % 2 == 1 {
+        return cam;
+    }
+    dropped(cam)
 }
 
 // A CAM word after an entry flush at an address.
 pub fn flushed_at(va: VirtualAddress, cam: u32) -> u32
     ensures { λ r. ⌜ r ≡ wordFlushedAt va cam ⌝ }
 {
-    if matches(cam, va) { dropped(cam) } else { cam }
+    if matches(cam, va) {
+        return dropped(cam);
+    }
+    cam
 }
 
 // The words of a page that a walk found.
 pub fn made(k: Kind, frame: PhysicalAddress, access: u32, va: VirtualAddress) -> Words
     ensures { λ r. ⌜ r ≡ madeWords k frame access va ⌝ }
 {
-    let tag = page_start(k, va.0);
-    let base = page_start(k, frame.0);
-    Words {
-        cam: tag / 64 + 4 + type_of(k),
-        ram: base + 256 * (access % 4),
-    }
+    let mut cam = page_start(k, va.0);
+    cam = cam / 64 + 4;
+    cam = cam + type_of(k);
+    let mut ram = page_start(k, frame.0);
+    ram = ram + 256 * (access % 4);
+    Words { cam: cam, ram: ram }
 }

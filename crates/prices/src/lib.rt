@@ -33,7 +33,7 @@ pub struct Side {
 pub fn figure_ok(x: f64) -> bool
     ensures { λ r. ⌜ r ≡ figureOk x ⌝ }
 {
-    if 0.0 <= x { x <= 4096.0 } else { false }
+    (0.0 <= x) & (x <= 4096.0)
 }
 
 // Whether every figure of a price is.
@@ -41,14 +41,8 @@ pub fn price_ok(p: Price) -> bool
     ensures { λ r. ⌜ r ≡ priceOk p ⌝ }
 {
     match p {
-        Price::Flat(x) => figure_ok(x),
-        Price::Row { same, fresh } => {
-            if figure_ok(same) {
-                figure_ok(fresh)
-            } else {
-                false
-            }
-        }
+        Price::Flat(x) => return figure_ok(x),
+        Price::Row { same, fresh } => return figure_ok(same) & figure_ok(fresh),
     }
 }
 
@@ -58,11 +52,7 @@ pub fn prices_ok(prices: Prices) -> bool
 {
     let onchip = prices.onchip;
     let external = prices.external;
-    if price_ok(onchip) {
-        price_ok(external)
-    } else {
-        false
-    }
+    price_ok(onchip) & price_ok(external)
 }
 
 // The row of an address.
@@ -77,8 +67,13 @@ fn row_price(same: f64, fresh: f64, last: LastRow, row: u32) -> f64
     ensures { λ r. ⌜ r ≡ rowPrice same fresh last row ⌝ }
 {
     match last {
-        LastRow::Never => fresh,
-        LastRow::At(k) => if k == row { same } else { fresh },
+        LastRow::Never => return fresh,
+        LastRow::At(k) => {
+            if k == row {
+                return same;
+            }
+            return fresh;
+        }
     }
 }
 
@@ -88,8 +83,8 @@ pub fn word_price(p: Price, side: Side, row: u32) -> f64
 {
     let last = side.last;
     match p {
-        Price::Flat(x) => x,
-        Price::Row { same, fresh } => row_price(same, fresh, last, row),
+        Price::Flat(x) => return x,
+        Price::Row { same, fresh } => return row_price(same, fresh, last, row),
     }
 }
 

@@ -1,7 +1,7 @@
 -- The registers' fields: control bits, a slot in register form, ranges, settings (01, "Registers", "The unit").
 use Rattle.page.specs.Ground.{ℕ, _+_, _*_, _/_, _%_, _^_, Bool, true, eqb, ltb}
 use Rattle.page.specs.Pick.{_and_}
-use Rattle.page.specs.Words.{virtual, physical}
+use Rattle.page.specs.Words.{virtual, physical, limit}
 use Rattle.page.specs.declared.VirtualAddress.{VirtualAddress}
 use Rattle.page.specs.declared.PhysicalAddress.{PhysicalAddress}
 use Rattle.page.specs.declared.Words.{Words}
@@ -11,10 +11,6 @@ use Rattle.registers.specs.declared.Pending.{Pending}
 use Rattle.registers.specs.declared.Pending.the-variants.{Nothing, Held}
 use Rattle.registers.specs.declared.Setting.{Setting}
 use Rattle.registers.specs.declared.Setting.the-variants.{Control, BaseHigh, BaseLow, CamHigh, CamLow, RamHigh, RamLow}
-
--- virtual addresses are below this
-abbrev pub limit : ℕ
-limit = 2 ^ 24
 
 -- control: 1 enable, 2 walk
 abbrev pub isOn : ℕ → Bool

@@ -6,7 +6,7 @@ use native.Mathlib.Omega.{arith}
 use lib.ListN.{length, length-append}
 use Rattle.memory.specs.Memory.{Lent}
 use Rattle.prices.specs.declared.Prices.{Prices}
-use Rattle.calls.specs.declared.Call.{Call}
+use Rattle.forms.specs.declared.Call.{Call}
 use Rattle.session.specs.Bench.{stepped}
 use Rattle.session.specs.declared.Bench.{Bench}
 use Rattle.answers.specs.Answers.{saidWords}

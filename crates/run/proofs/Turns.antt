@@ -7,7 +7,7 @@ use lib.ListN.{length}
 use Rattle.memory.specs.Memory.{Lent}
 use Rattle.prices.specs.declared.Prices.{Prices}
 use Rattle.calls.specs.Records.{callSize, callAt, callsFrom}
-use Rattle.calls.specs.declared.Call.{Call}
+use Rattle.forms.specs.declared.Call.{Call}
 use Rattle.calls.proofs.Rest.{calls-next, calls-none}
 use Rattle.session.specs.Bench.{stepped}
 use Rattle.session.specs.declared.Bench.{Bench}

@@ -1,23 +1,16 @@
 -- What a run writes and answers.
-use Rattle.page.specs.Ground.{ℕ, _+_, _*_, Bool, List, [], _∷_, _++_, leb, length}
-use Rattle.page.specs.Pick.{pick, _and_}
+use Rattle.page.specs.Ground.{ℕ, List, [], _∷_, _++_, length}
+use Rattle.page.specs.Pick.{pick}
 use Rattle.memory.specs.Memory.{Lent}
 use Rattle.prices.specs.declared.Prices.{Prices}
-use Rattle.calls.specs.Records.{callCount, callsIn, allGood}
-use Rattle.calls.specs.declared.Call.{Call}
+use Rattle.calls.specs.Records.{callsIn}
+use Rattle.forms.specs.declared.Call.{Call}
 use Rattle.session.specs.Bench.{stepped}
 use Rattle.session.specs.declared.Bench.{Bench}
 use Rattle.wire.specs.Words.{placed}
-use Rattle.answers.specs.Answers.{answerSize, saidWords}
-use Rattle.state.specs.State.{stateSize, stateWords}
-
--- the bytes that a run writes
-abbrev pub runSize : List ℕ → ℕ
-runSize calls = answerSize * callCount calls + stateSize
-
--- a run is answered: prices of a kind, calls as said, and room
-unfoldable pub mayRun : List ℕ → ℕ → ℕ → ℕ → Bool
-mayRun calls onkind extkind room = leb onkind 1 and leb extkind 1 and allGood calls and leb (runSize calls) room
+use Rattle.answers.specs.Answers.{saidWords}
+use Rattle.state.specs.State.{stateWords}
+use Rattle.asked.specs.Asked.{runSize, mayRun}
 
 -- what is written: an answer for each call, then the state
 unfoldable pub sessionWords : Lent → Prices → ℕ → Bench → List Call → List ℕ

@@ -5,32 +5,13 @@ ghost use mathlib.Core.Path.{_≡_};
 ghost use Prim.Native.Nat.{_+_, _*_, _/_, _≤_};
 ghost use lib.ListN.{length};
 ghost use Rattle.memory.specs.Memory.{lent};
-ghost use Rattle.run.specs.Run.{mayRun, ran, ranFrom, runWith};
+ghost use Rattle.run.specs.Run.{ran, ranFrom, runWith};
 
 // The bytes of an answer.
 const ANSWER: usize = 16;
 
 // The bytes of a state.
 const STATE: usize = 328;
-
-// Whether a run is answered: prices of a kind, calls as they must be, and room for what is written.
-fn may_run(calls: &[u8], onkind: u32, extkind: u32, room: usize) -> bool
-    ensures { λ r. ⌜ r ≡ mayRun (now (calls .entry)) onkind extkind room ⌝ }
-{
-    if onkind > 1 {
-        return false;
-    }
-    if extkind > 1 {
-        return false;
-    }
-    if !calls::all_good(calls) {
-        return false;
-    }
-    if room < STATE {
-        return false;
-    }
-    calls::count(calls) <= (room - STATE) / ANSWER
-}
 
 // Every call in order, its answers and the state after the last one written.
 fn run_all<'a>(
@@ -84,7 +65,7 @@ pub fn run_from<'a>(
 ) -> u64
     ensures { λ r. ⌜ ran r (now (out .exit)) ≡ runWith (lent (now (on .entry)) onbase (now (ext .entry)) extbase) prices onkind extkind handed start (now (calls .entry)) (now (out .entry)) ⌝ }
 {
-    if !may_run(calls, onkind, extkind, out.len()) {
+    if !asked::may_run(calls, onkind, extkind, out.len()) {
         return 0;
     }
     run_all(start, handed, calls, on, onbase, ext, extbase, prices, out)

@@ -8,8 +8,8 @@ use Rattle.unit.specs.Types.{Lent, Prices}
 use Rattle.unit.specs.Device.{freshDevice}
 use Rattle.unit.specs.Machine as M
 use Rattle.unit.specs.Machine.{Step, step}
-use Rattle.calls.specs.declared.Call.{Call}
-use Rattle.calls.specs.declared.Call.the-variants as C
+use Rattle.forms.specs.declared.Call.{Call}
+use Rattle.forms.specs.declared.Call.the-variants as C
 use Rattle.session.specs.declared.Bench.{Bench}
 use Rattle.session.specs.declared.Said.{Said}
 use Rattle.session.specs.declared.Said.the-variants.{Answered, Reported}

@@ -16,6 +16,11 @@ pub fn number(n: u64) {
 // A space, a number in hexadecimal, and a line end.
 pub fn value(n: u64) {
     number(n);
+    end();
+}
+
+// A line end.
+pub fn end() {
     text(b"\n");
 }
 
@@ -38,6 +43,24 @@ pub fn verdict(yes: bool) {
 pub fn numbers(a: u64, b: u64) {
     number(a);
     number(b);
+}
+
+// A label and two words in hexadecimal.
+pub fn words(label: &[u8], a: u32, b: u32) {
+    text(label);
+    numbers(a as u64, b as u64);
+}
+
+// A label, three words in hexadecimal, and a line end.
+pub fn triple(label: &[u8], a: u32, b: u32, c: u32) {
+    words(label, a, b);
+    value(c as u64);
+}
+
+// A label, two words in hexadecimal, yes or no, and a line end.
+pub fn question(label: &[u8], a: u32, b: u32, yes: bool) {
+    words(label, a, b);
+    verdict(yes);
 }
 
 // A colon, a number of the paper in decimal, a value in hexadecimal, and a line end.

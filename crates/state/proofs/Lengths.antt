@@ -9,7 +9,8 @@ use Rattle.registers.specs.declared.Pending.{Pending}
 use Rattle.registers.specs.declared.Pending.the-variants.{Nothing, Held}
 use Rattle.unit.specs.declared.Device.{Device}
 use Rattle.session.specs.declared.Bench.{Bench}
-use Rattle.state.specs.State.{slotWords, pendingWords, deviceWords, meterWords, billWords, stateWords}
+use Rattle.state.specs.State.{slotWords, pendingWords, deviceWords, stateWords}
+use Rattle.parts.specs.Parts.{meterWords, billWords}
 
 pub slots-length : (cam ram : List ℕ) (i n : ℕ) → length (slotWords cam ram i n) ≡ 2 * n
 unfolding slotWords

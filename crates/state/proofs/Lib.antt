@@ -1,4 +1,3 @@
-pub mod Figures
 pub mod Lengths
 pub mod Turns
 pub mod Parts

@@ -1,30 +1,16 @@
 -- The state of a bench as 82 words.
-use Rattle.page.specs.Ground.{ℕ, zero, suc, _+_, _*_, _/_, _%_, List, [], _∷_, _++_, ltb, getD}
-use Rattle.page.specs.Pick.{pick, _and_}
+use Rattle.page.specs.Ground.{ℕ, zero, suc, _+_, _*_, List, [], _∷_, _++_, getD}
 use Rattle.page.specs.declared.Access.{Access}
 use Rattle.page.specs.declared.Access.the-variants as X
-use Rattle.meters.specs.declared.Meters.{Meters}
-use Rattle.bill.specs.declared.Bill.{Bill}
-use Rattle.prices.specs.declared.LastRow.{LastRow}
-use Rattle.prices.specs.declared.LastRow.the-variants.{Never, At}
 use Rattle.lanes.specs.Lanes.{slots}
 use Rattle.registers.specs.Answers.{faultBit}
-use Rattle.registers.specs.declared.Entry.{Entry}
 use Rattle.registers.specs.declared.Registers.{Registers}
 use Rattle.registers.specs.declared.Pending.{Pending}
 use Rattle.registers.specs.declared.Pending.the-variants.{Nothing, Held}
 use Rattle.unit.specs.declared.Device.{Device}
 use Rattle.session.specs.declared.Bench.{Bench}
-use lib.Ieee.{toBits, binary64}
-use Rattle.wire.specs.Words.{wide, halves, swapped}
-
--- CAM high, CAM low, RAM high, RAM low
-abbrev pub entryWords : Entry → List ℕ
-entryWords e = halves (e .camhi) (e .camlo) ∷ halves (e .ramhi) (e .ramlo) ∷ []
-
--- lock base and victim; as they were handed in where that is more than a device holds
-unfoldable pub lockWord : ℕ → ℕ → ℕ → ℕ
-lockWord handed lock victim = pick (ltb (handed % 65536) 256 and ltb (handed / 65536) 256) (halves lock victim) handed
+use Rattle.wire.specs.Words.{halves, swapped}
+use Rattle.parts.specs.Parts.{entryWords, lockWord, meterWords, billWords}
 
 -- prefetch, control; base; lock base, victim; the staged entry and the read registers
 abbrev pub registerWords : Registers → ℕ → List ℕ
@@ -45,32 +31,11 @@ abbrev pub pendingWords : Pending → List ℕ
 pendingWords Nothing = 0 ∷ 0 ∷ []
 pendingWords (Held k va a) = (faultBit k + 256 * accessNumber a) ∷ va .0 ∷ []
 
-abbrev pub meterWords : Meters → List ℕ
-meterWords m = m .fresh ∷ m .retries ∷ m .words ∷ []
-
--- all ones where no row was read
-abbrev pub noRow : ℕ
-noRow = 4294967295
-
-abbrev pub rowWord : LastRow → ℕ
-rowWord Never = noRow
-rowWord (At row) = row
-
--- the bits of the two figures, and the last rows
-abbrev pub billWords : Bill → List ℕ
-billWords b =
-    wide (toBits binary64 (b .total))
-    ++ (wide (toBits binary64 (b .misses)) ++ (rowWord (b .onchip .last) ∷ rowWord (b .external .last) ∷ []))
-
 -- registers, slots, the pending fault
 abbrev pub deviceWords : ℕ → Device → List ℕ
 deviceWords handed d =
     registerWords (d .registers) (lockWord handed (d .bank .lock) (d .bank .victim))
     ++ (slotWords (d .bank .cam) (d .bank .ram) 0 slots ++ pendingWords (d .pending))
-
--- the bytes of a state
-abbrev pub stateSize : ℕ
-stateSize = 328
 
 -- the device, the meters, the bill
 abbrev pub stateWords : ℕ → Bench → List ℕ

@@ -11,7 +11,7 @@ use lib.ListN.{length, take, drop, length-take, List·getD-eq-default}
 use lib.Seq.{getD-take, getD-drop, take-append-seam}
 use native.Mathlib.Nat.{le-refl}
 use Rattle.page.specs.Pick.{_and_, _or_}
-use Rattle.page.specs.Words.{lowBits, megabytes}
+use Rattle.page.specs.Words.{lowBits, megabytes, limit}
 use Rattle.page.specs.declared.VirtualAddress.{VirtualAddress}
 use Rattle.page.proofs.Picks.{pick-by, and-right, or-no}
 use Rattle.page.proofs.Slot.{lowBits-le}
@@ -35,7 +35,7 @@ use Rattle.tables.specs.Tables.{tableOf, tableStart, imageLength}
 use Rattle.image.specs.Image.{image}
 use Rattle.builder.specs.Build.{answerOf, leaves, buildOf}
 use Rattle.builder.proofs.Answers.{room-unit, room-memory, accepted, accepts}
-use Rattle.translates.specs.Statements.{lookIn, limit, Gives, Inside, Has, Standing, Translates, Bytes, ImageTranslates, Accepts, LeavesImage}
+use Rattle.translates.specs.Statements.{lookIn, Gives, Inside, Has, Standing, Translates, Bytes, ImageTranslates, Accepts, LeavesImage}
 use Rattle.translates.proofs.Written.{foundFor}
 use Rattle.translates.proofs.Over.{Narrow, known, walked, readsFor, over}
 use Rattle.translates.proofs.Faithful.{found-gives, found-uniform, reads-inside}

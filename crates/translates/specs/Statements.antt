@@ -1,7 +1,7 @@
 -- What the image of an accepted list owes (01, demand 3): the plain walk over it finds what the list says, the same over a
 -- page's whole range, and needs no word outside it.
-use Rattle.page.specs.Ground.{ℕ, _+_, _-_, _*_, _/_, _^_, _<_, _≤_, _≡_, true, false, not, List, _++_, ltb, length, getD, take, drop}
-use Rattle.page.specs.Words.{lowBits, megabytes}
+use Rattle.page.specs.Ground.{ℕ, _+_, _-_, _<_, _≤_, _≡_, true, false, not, List, _++_, ltb, length, getD, take, drop}
+use Rattle.page.specs.Words.{megabytes, limit}
 use Rattle.page.specs.declared.VirtualAddress.{VirtualAddress}
 use Rattle.memory.specs.Memory.{Lent, lentOk}
 use Rattle.memory.specs.declared.Source.{Source}
@@ -10,7 +10,7 @@ use Rattle.memory.specs.declared.Reads.the-variants.{Nothing, One, Two}
 use Rattle.descriptors.specs.declared.Page.{Page}
 use Rattle.descriptors.specs.declared.Found.{Found}
 use Rattle.descriptors.specs.declared.Found.the-variants as D
-use Rattle.walk.specs.declared.Walked.{Walked}
+use Rattle.walk.specs.Uniform.{Look, Uniform}
 use Rattle.descriptors.specs.Descriptors.{physicalOf}
 use Rattle.walk.specs.Walk.{walkIn}
 use Rattle.records.specs.declared.Mapping.{Mapping}
@@ -25,22 +25,8 @@ use Rattle.image.specs.Image.{image}
 use Rattle.builder.specs.Build.{roomOk, answerOf, buildOf}
 use mathlib.Core.Logic.{_⊎_}
 
--- what a walk comes to at each address
-abbrev pub Look : Type 0
-Look = VirtualAddress → Walked
-
 abbrev pub lookIn : Lent → ℕ → Look
 lookIn m base va = walkIn m base (va .0)
-
--- the first address past the virtual ones
-abbrev pub limit : ℕ
-limit = megabytes * 2 ^ 20
-
--- where a walk below an end finds a page, it finds the same page at every address of that page
-abbrev pub Uniform : ℕ → Look → Type 0
-Uniform end look =
-    (va va′ : VirtualAddress) (p : Page) → va .0 < end → look va .found ≡ D.Page p →
-    va′ .0 / 2 ^ lowBits (p .kind) ≡ va .0 / 2 ^ lowBits (p .kind) → look va′ .found ≡ D.Page p
 
 -- what is found has the byte and the access of the mapping that holds the address; where none does, no page is found
 abbrev pub Gives : Held → VirtualAddress → Found → Type 0

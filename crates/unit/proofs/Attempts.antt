@@ -3,9 +3,10 @@ use mathlib.Core.Path.{_≡_, refl, sym, _∙_, ap}
 use mathlib.Core.Bool.{Bool, true, false, not, false≢true}
 use mathlib.Core.List.{[], _∷_}
 use Prim.Native.Nat.{ℕ}
+use lib.Dec.{leb}
 use borrow.Author.Tests.{not-true}
 use Rattle.page.specs.Pick.{pick, _and_}
-use Rattle.page.proofs.Picks.{pick-no, and-left, and-right}
+use Rattle.page.proofs.Picks.{pick-no, pick-by, and-left, and-right}
 use Rattle.descriptors.specs.declared.Found.the-variants as D
 use Rattle.walk.specs.Walk.{walkWithin}
 use Rattle.descriptors.specs.Statements.{isMissing}
@@ -14,20 +15,22 @@ use Rattle.lanes.specs.Lanes.{lookedUp}
 use Rattle.lanes.specs.declared.Matched.the-variants as M
 use Rattle.registers.specs.declared.Pending.the-variants.{Held}
 use Rattle.registers.specs.Answers.{isPrefetch}
+use Rattle.page.specs.Words.{limit}
 use Rattle.registers.specs.Fields.{isOn, isWalking}
 use Rattle.decision.specs.Decisions.{byFound}
 use Rattle.decision.specs.Prefetches.{pageAt, prefetchFound, prefetchDecided, shiftBy}
 use Rattle.decision.specs.declared.Shift.the-variants as H
 use Rattle.decision.proofs.Joins.{decided-walk, prefetch-on}
+use Rattle.prefetches.specs.Shifts.{shiftWithin}
 use Rattle.plans.specs.declared.Plan.{Plan}
 use Rattle.plans.specs.declared.Plan.the-variants as L
 use Rattle.plans.specs.Plans.{retryPlan}
-use Rattle.attempts.specs.Effects.{performed}
+use Rattle.steps.specs.Steps.{performed, shiftStep}
 use Rattle.unit.specs.Types.{Access, VirtualAddress, Lent, lentOk, Found, Walked, Bill, Prices, Matched, Fault, Device, Outcome}
 use Rattle.unit.specs.Refusals.{refuses}
-use Rattle.unit.specs.Device.{cleared, doneWith, refusedWith, outcomeOf, look, concluded, decidedBy, attemptOf}
-use Rattle.unit.specs.Calls.{noMatch, lacks, retryLacks, prefetchEnds, prefetched, heldRetried}
-use Rattle.unit.proofs.Refusing.{last-same}
+use Rattle.unit.specs.Device.{inRange, cleared, doneWith, refusedWith, outcomeOf, look, concluded, decidedBy, attemptOf}
+use Rattle.unit.specs.Calls.{noMatch, lacks, retryLacks, prefetchEnds, prefetched, heldRetried, shiftOf}
+use Rattle.unit.proofs.Refusing.{refused-here, passed, last-same, firstly}
 
 matched-nothing : (x : Matched) → noMatch x ≡ true → x ≡ M.Nothing
 matched-nothing (M.At i) h = absurd (false≢true h)
@@ -111,7 +114,17 @@ module _ (m : Lent) (p : Prices) (b : Bill) (d : Device) (v : ℕ) where
 
 -- the shift report
 module _ (m : Lent) (d : Device) (va : VirtualAddress) where
-  pub shift-last : (w : Walked) → w ≡ walkWithin m (d .registers .base .0) (va .0) → lentOk m ≡ true → shiftBy va (w .found) ≡ refuses ((isMissing (look m d va .found), 3) ∷ []) H.Refused (shiftBy va (look m d va .found))
-  shift-last w e h =
-      last-same _ _ _ _ _ (ap (λ (x : Walked). shiftBy va (x .found)) (e ∙ look-ok m d va h))
+  shift-last : lentOk m ≡ true → shiftBy va (walkWithin m (d .registers .base .0) (va .0) .found) ≡ refuses ((isMissing (look m d va .found), 3) ∷ []) H.Refused (shiftBy va (look m d va .found))
+  shift-last h =
+      last-same _ _ _ _ _ (ap (λ (w : Walked). shiftBy va (w .found)) (look-ok m d va h))
       (λ q. ap (shiftBy va) (found-missing (look m d va .found) q))
+
+  within-is : shiftWithin m (d .registers .base) va ≡ refuses ((not (lentOk m), 4) ∷ (isMissing (look m d va .found), 3) ∷ []) H.Refused (shiftBy va (look m d va .found))
+  within-is =
+      pick-by (λ x. x ≡ refuses ((not (lentOk m), 4) ∷ (isMissing (look m d va .found), 3) ∷ []) H.Refused (shiftBy va (look m d va .found))) (lentOk m) _ _
+      (λ h. shift-last h ∙ sym (passed _ _ _ _ _ (ap not h)))
+      (λ h. sym (refused-here _ _ _ _ _ (ap not h)))
+
+  pub shift-is : shiftStep m (d .registers) (d .bank) (d .pending) va ≡ shiftOf m d va
+  unfolding shiftOf inRange
+  shift-is = firstly (λ s. s) H.Refused H.Refused (λ _. refl) _ _ _ (inRange d) (leb limit (va .0)) within-is

@@ -1,3 +1,4 @@
 pub mod Refusing
 pub mod Attempts
 pub mod Writes
+pub mod Drops

@@ -1,10 +1,12 @@
 -- A list of refusals: the first condition that holds is answered, one that does not hold is passed. Assumes nothing.
 use mathlib.Core.Path.{_≡_, refl, _∙_}
-use mathlib.Core.Bool.{Bool, true, false}
+use mathlib.Core.Bool.{Bool, true, false, not}
 use mathlib.Core.List.{[], _∷_}
 use Prim.Native.Nat.{ℕ}
+use lib.Dec.{eqb}
+use Rattle.page.specs.Pick.{pick}
 use Rattle.page.proofs.Picks.{pick-yes, pick-no, pick-by}
-use Rattle.unit.specs.Refusals.{Refusals, refuses}
+use Rattle.unit.specs.Refusals.{Refusals, refuses, Clear}
 
 module _ {A : Type 0} (t : Bool) (k : ℕ) (rs : Refusals) (say : ℕ → A) (else : A) where
   pub refused-here : t ≡ true → refuses ((t, k) ∷ rs) say else ≡ say k
@@ -25,3 +27,28 @@ module _ {A : Type 0} (say : ℕ → A) (else : A) where
   pub last-same : (t : Bool) (k : ℕ) (x : A) → x ≡ else → (t ≡ true → else ≡ say k) → x ≡ refuses ((t, k) ∷ []) say else
   unfolding refuses
   last-same t k x e h = pick-by (λ y. x ≡ y) t (say k) else (λ q. e ∙ h q) (λ _. e)
+
+  -- where no condition holds the call goes on
+  pub clear-goes-on : (rs : Refusals) → Clear rs → refuses rs say else ≡ else
+  unfolding refuses
+  clear-goes-on [] c = refl
+  clear-goes-on (r ∷ rs) c = pick-no _ _ _ (c .0) ∙ clear-goes-on rs (c .1)
+
+  -- what holds of each refusal, and of what follows where none comes, holds of the call
+  pub refuses-by : (P : A → Type 0) (rs : Refusals) → ((k : ℕ) → P (say k)) → (Clear rs → P else) → P (refuses rs say else)
+  unfolding refuses
+  refuses-by P [] f g = g tt
+  refuses-by P (r ∷ rs) f g = pick-by P _ _ _ (λ _. f (r .1)) (λ e. refuses-by P rs f (λ c. g (e, c)))
+
+-- 8, and 8 and 1, as the code tests them over a device's parts
+module _ {E A : Type 0} (run : E → A) (no : ℕ → E) (say : ℕ → A) (says : (n : ℕ) → run (no n) ≡ say n) (rs : Refusals) (x : E) (y : A) where
+  pub within : (ok : Bool) → run x ≡ refuses rs say y → run (pick ok x (no 8)) ≡ refuses ((not ok, 8) ∷ rs) say y
+  unfolding pick refuses
+  within true h = h
+  within false h = says 8
+
+  pub firstly : (ok l : Bool) → run x ≡ refuses rs say y → (let k = pick ok (pick l 1 0) 8 in run (pick (eqb k 0) x (no k))) ≡ refuses ((not ok, 8) ∷ (l, 1) ∷ rs) say y
+  unfolding pick refuses
+  firstly true true h = says 1
+  firstly true false h = h
+  firstly false l h = says 8

@@ -1,6 +1,6 @@
 -- A write and a read are their lists of refusals, offset by offset. Assumes nothing.
 use mathlib.Core.Path.{_≡_, refl, sym, _∙_, ap}
-use mathlib.Core.Bool.{Bool, true, false, not, false≢true}
+use mathlib.Core.Bool.{Bool, true, false, not}
 use mathlib.Core.List.{[], _∷_}
 use Prim.Native.Nat.{ℕ, zero, suc, _/_, _%_, _^_, _<_}
 use native.Mathlib.Omega.{arith}
@@ -11,22 +11,26 @@ use Rattle.page.proofs.Picks.{pick-yes, pick-no, pick-by, and-left, and-right, 
 use Rattle.bill.specs.Bill.{moneyOk}
 use Rattle.lanes.specs.Lanes.{slots}
 use Rattle.registers.specs.Answers.{idle}
+use Rattle.page.specs.Words.{limit}
 use Rattle.registers.specs.Fields.{isOn, isWalking}
 use Rattle.registers.specs.Table.{listed, noRegister, controlCommand, lockCommand, loadCommand, whenBit, commandOf, valueAt}
 use Rattle.registers.specs.declared.Pending.the-variants.{Nothing, Held}
 use Rattle.registers.specs.declared.Tending.the-variants.{Flush, FlushEntry}
+use Rattle.registers.specs.declared.Answer.the-variants as A
 use Rattle.registers.specs.declared.Command.the-variants as C
 use Rattle.registers.proofs.Offsets.{by-offset, command-elsewhere, value-elsewhere}
 use Rattle.plans.specs.declared.Ask.the-variants as Q
 use Rattle.plans.specs.declared.Plan.{Plan}
 use Rattle.plans.specs.declared.Plan.the-variants as L
-use Rattle.plans.specs.Plans.{askOf, isPlain, requestPlan, prefetchPlan, acknowledgePlan}
-use Rattle.unit.specs.Types.{Access, VirtualAddress, Lent, lentOk, Bill, Prices, Pending, Answer, Tending, Command, Ask, Device, Outcome, Told}
+use Rattle.plans.specs.Plans.{requestPlan, prefetchPlan, acknowledgePlan}
+use Rattle.effects.specs.Effects as E
+use Rattle.steps.specs.Steps.{requestStep, writeStep}
+use Rattle.unit.specs.Types.{Access, VirtualAddress, Lent, lentOk, Bill, Prices, Pending, Answer, Tending, Command, Effect, Device, Outcome}
 use Rattle.unit.specs.Refusals.{Refusals, refuses}
-use Rattle.unit.specs.Device.{inRange, told, toldRefused, unbilled, doneWith, refusedWith, attemptOf}
-use Rattle.unit.specs.Calls.{lacks, isMalformed, isUntimely, retryLacks, writeLacks, writeRefusals, retried, carried, writeOf, readRefusals, readOf}
-use Rattle.unit.specs.Steps.{plainStep, walked, askStep, commandStep}
-use Rattle.unit.proofs.Refusing.{refused-here, passed}
+use Rattle.unit.specs.Device.{inRange, told, toldRefused, doneWith, refusedWith, outcomeOf, attemptOf}
+use Rattle.unit.specs.Calls.{lacks, requestOf, isMalformed, isUntimely, retryLacks, writeLacks, writeRefusals, retried, carried, writeOf, readRefusals, readOf}
+use Rattle.unit.specs.Steps.{walked, commandStep}
+use Rattle.unit.proofs.Refusing.{refused-here, passed, within, firstly}
 use Rattle.unit.proofs.Attempts.{done, attempt-last, retry-last, prefetchLacks, prefetch-last}
 
 -- a bit is clear where it is not set
@@ -42,10 +46,10 @@ unfolding _or_
 or-none true = refl
 or-none false = refl
 
-unbilled-pick : (b : Bill) (t : Bool) (x y : Told) → unbilled b (pick t x y) ≡ pick (t or false) (unbilled b x) (unbilled b y)
+outcome-pick : (t : Bool) (x y : Effect) → outcomeOf (pick t x y) ≡ pick (t or false) (outcomeOf x) (outcomeOf y)
 unfolding pick _or_
-unbilled-pick b true x y = refl
-unbilled-pick b false x y = refl
+outcome-pick true x y = refl
+outcome-pick false x y = refl
 
 -- what stands after the device's own 8
 abbrev rest : Refusals → Refusals
@@ -111,8 +115,8 @@ module _ (m : Lent) (p : Prices) (b : Bill) (d : Device) where
   load-same : (r : ℕ) → r < 4 → commandStep m p b d (loadBy r) ≡ refuses ((eqb r 3, 8) ∷ (((eqb r 1 or eqb r 2) and isWalking (d .registers .control)) or false, 7) ∷ []) (refusedWith d b) (carried m p b d (loadBy r))
   unfolding pick _and_ _or_ refuses
   load-same zero h = refl
-  load-same (suc zero) h = unbilled-pick b (isWalking (d .registers .control)) _ _
-  load-same (suc (suc zero)) h = unbilled-pick b (isWalking (d .registers .control)) _ _
+  load-same (suc zero) h = outcome-pick (isWalking (d .registers .control)) _ _
+  load-same (suc (suc zero)) h = outcome-pick (isWalking (d .registers .control)) _ _
   load-same (suc (suc (suc zero))) h = refl
   load-same (suc (suc (suc (suc r)))) h = absurd (omega (arith, h))
 
@@ -148,27 +152,18 @@ module _ (m : Lent) (p : Prices) (b : Bill) (d : Device) where
       (gate (done m p b d) (refusedWith d b) (λ _. refl) _ (prefetchPlan v (d .registers .control) (d .pending)) _ (lentOk m) (moneyOk p b)
       (λ h. ready (done m p b d) (refusedWith d b) (λ _. refl) _ (L.Prefetch v) _ _ _ _ _ _ (bit-clear (v / 2 ^ 14)) (prefetch-last m p b d v h)))
 
-  -- what the code tests of a command is what it is
-  plainly-asked : (c : Command) (x : Ask) → isPlain x ≡ true → unbilled b (plainStep d c) ≡ askStep m p b d c x
-  plainly-asked c Q.Nothing h = refl
-  plainly-asked c (Q.Request va a) h = absurd (false≢true h)
-  plainly-asked c (Q.Prefetch v) h = absurd (false≢true h)
-  plainly-asked c (Q.Acknowledge go) h = absurd (false≢true h)
-
-  walk-asked : (c : Command) (x : Ask) → isPlain x ≡ false → walked m p b d x ≡ askStep m p b d c x
-  walk-asked c Q.Nothing h = absurd (false≢true (sym h))
-  walk-asked c (Q.Request va a) h = refl
-  walk-asked c (Q.Prefetch v) h = refl
-  walk-asked c (Q.Acknowledge go) h = refl
-
   -- a request past 8 and 1
-  pub request-is :
+  asked-is :
       (va : VirtualAddress) (a : Access)
       → walked m p b d (Q.Request va a)
       ≡ refuses ((not (lentOk m), 4) ∷ (not (moneyOk p b), 9) ∷ (not (idle (d .pending)), 2) ∷ (lacks m d va, 3) ∷ []) (refusedWith d b) (attemptOf m p b false d va a)
-  request-is va a =
+  asked-is va a =
       gate (done m p b d) (refusedWith d b) (λ _. refl) _ (requestPlan (d .pending) va a) _ (lentOk m) (moneyOk p b)
       (λ h. idly (done m p b d) (refusedWith d b) (λ _. refl) _ (L.Attempt false va a) _ (idle (d .pending)) (attempt-last m p b false d va a h))
+
+  pub request-is : (va : VirtualAddress) (a : Access) → outcomeOf (requestStep m p b (d .registers) (d .bank) (d .pending) va a) ≡ requestOf m p b d va a
+  unfolding requestOf inRange
+  request-is va a = firstly outcomeOf (λ n. E.unbilled (d .registers) (d .bank) (d .pending) b (A.Refused n)) (refusedWith d b) (λ _. refl) _ _ _ (inRange d) (leb limit (va .0)) (asked-is va a)
 
 module _ (m : Lent) (p : Prices) (b : Bill) (d : Device) (v : ℕ) where
   abbrev Written : ℕ → Type 0
@@ -205,24 +200,9 @@ module _ (m : Lent) (p : Prices) (b : Bill) (d : Device) (v : ℕ) where
       refl
       elsewhere
 
-  write-is : (o : ℕ) → inRange d ≡ true → commandStep m p b d (commandOf o v) ≡ writeOf m p b d o v
-  unfolding writeOf
-  write-is o h = written o ∙ sym (passed _ _ _ _ _ (ap not h))
-
-  -- from what the code's calls say
-  pub plain-written :
-      (o : ℕ) (c : Command) (x : Ask) (t : Told) (r : Outcome)
-      → c ≡ commandOf o v → x ≡ askOf c → isPlain x ≡ true → t ≡ plainStep d c → r ≡ unbilled b t → inRange d ≡ true
-      → r ≡ writeOf m p b d o v
-  plain-written o c x t r hc hx k ht hr h =
-      hr ∙ ap (unbilled b) ht ∙ plainly-asked m p b d c x k ∙ ap (askStep m p b d c) hx ∙ ap (commandStep m p b d) hc ∙ write-is o h
-
-  pub walk-written :
-      (o : ℕ) (c : Command) (x : Ask) (r : Outcome)
-      → c ≡ commandOf o v → x ≡ askOf c → isPlain x ≡ false → r ≡ walked m p b d x → inRange d ≡ true
-      → r ≡ writeOf m p b d o v
-  walk-written o c x r hc hx k hr h =
-      hr ∙ walk-asked m p b d c x k ∙ ap (askStep m p b d c) hx ∙ ap (commandStep m p b d) hc ∙ write-is o h
+  pub write-is : (o : ℕ) → outcomeOf (writeStep m p b (d .registers) (d .bank) (d .pending) o v) ≡ writeOf m p b d o v
+  unfolding writeOf inRange
+  write-is o = within outcomeOf (λ n. E.unbilled (d .registers) (d .bank) (d .pending) b (A.Refused n)) (refusedWith d b) (λ _. refl) _ _ _ (inRange d) (written o)
 
 module _ (d : Device) where
   abbrev shown : ℕ → Answer

@@ -4,9 +4,9 @@ use Rattle.page.specs.Pick.{pick, _and_, _or_}
 use Rattle.descriptors.specs.Statements.{isMissing}
 use Rattle.bill.specs.Bill.{moneyOk}
 use Rattle.lanes.specs.Lanes.{slots, lookedUp}
-use Rattle.bank.specs.Changes.{loaded, copied}
 use Rattle.registers.specs.Answers.{idle, isPrefetch}
-use Rattle.registers.specs.Fields.{limit, isOn, isWalking, wordsOf, entryOf, setting, withCopied}
+use Rattle.page.specs.Words.{limit}
+use Rattle.registers.specs.Fields.{isOn, isWalking, setting}
 use Rattle.registers.specs.Table.{noRegister, commandOf, valueAt, tended}
 use Rattle.lanes.specs.declared.Matched.the-variants as M
 use Rattle.registers.specs.declared.Pending.the-variants.{Nothing, Held}
@@ -15,6 +15,7 @@ use Rattle.registers.specs.declared.Command.the-variants as C
 use Rattle.decision.specs.declared.Shift.the-variants as H
 use Rattle.decision.specs.Prefetches.{pageAt, prefetchDecided, shiftBy}
 use Rattle.attempts.specs.Effects.{prefetchEnded}
+use Rattle.orders.specs.Orders.{bankLoaded, registersCopied}
 use Rattle.unit.specs.Types.{Access, VirtualAddress, Lent, lentOk, Bill, Prices, Matched, Fault, Pending, Decision, Shift, Command, Device, Outcome, Told}
 use Rattle.unit.specs.Refusals.{Refusals, refuses}
 use Rattle.unit.specs.Device.{freshDevice, inRange, setRegisters, setBank, cleared, told, toldRefused, doneWith, refusedWith, outcomeOf, look, attemptOf}
@@ -126,10 +127,10 @@ retried m p b d (Held k va a) = heldRetried m p b d k va a
 
 -- load stores the staged entry in the victim slot, copy reads that slot back
 abbrev pub withLoaded : Device → Device
-withLoaded d = setBank d (loaded (d .bank) (wordsOf (d .registers .staged)))
+withLoaded d = setBank d (bankLoaded (d .registers) (d .bank))
 
 abbrev pub withCopy : Device → Device
-withCopy d = setRegisters d (withCopied (d .registers) (entryOf (copied (d .bank))))
+withCopy d = setRegisters d (registersCopied (d .registers) (d .bank))
 
 -- what a write does past its refusals, by its command
 abbrev pub carried : Lent → Prices → Bill → Device → Command → Outcome

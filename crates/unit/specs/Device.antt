@@ -1,16 +1,16 @@
 -- The device: fresh, in range, with parts set, and after an attempt (01, "The unit", "The walk").
 use Rattle.page.specs.Ground.{ℕ, Bool}
-use Rattle.page.specs.Pick.{_and_}
 use Rattle.walk.specs.Walk.{walkIn}
 use Rattle.meters.specs.Posted.{noTally}
-use Rattle.bank.specs.Slots.{bankOk, freshBank}
+use Rattle.bank.specs.Slots.{freshBank}
 use Rattle.bank.specs.Changes.{entryFilled}
-use Rattle.registers.specs.Fields.{freshRegisters, registersOk, pendingOk}
+use Rattle.registers.specs.Fields.{freshRegisters}
 use Rattle.registers.specs.declared.Pending.the-variants as P
 use Rattle.registers.specs.declared.Answer.the-variants as A
 use Rattle.decision.specs.Decisions.{decided, settled}
 use Rattle.attempts.specs.Effects.{attempted}
-use Rattle.unit.specs.Types.{Access, VirtualAddress, Lent, Walked, Bill, Prices, Bank, Fill, Answer, Decision, Registers, Effect, Device, Outcome, Told}
+use Rattle.steps.specs.Steps.{partsOk}
+use Rattle.unit.specs.Types.{Access, VirtualAddress, Lent, Walked, Bill, Prices, Bank, Fill, Answer, Decision, Shift, Registers, Effect, Device, Outcome, Told, Reported}
 
 -- a fresh device is all zero
 abbrev pub freshDevice : Device
@@ -18,7 +18,7 @@ freshDevice = record { registers = freshRegisters; bank = freshBank; pending = P
 
 -- every field is in its range; where one is not, every call answers 8
 unfoldable pub inRange : Device → Bool
-inRange d = registersOk (d .registers) and pendingOk (d .pending) and bankOk (d .bank)
+inRange d = partsOk (d .registers) (d .bank) (d .pending)
 
 -- a device with one part set
 abbrev pub setRegisters : Device → Registers → Device
@@ -39,6 +39,9 @@ toldRefused d k = told d (A.Refused k)
 
 abbrev pub toldDone : Device → Told
 toldDone d = told d A.Done
+
+abbrev pub reported : Device → Shift → Reported
+reported d s = record { device = d; shift = s }
 
 -- a call that reads no word leaves the bill as it is and adds nothing to the meters
 abbrev pub unbilled : Bill → Told → Outcome

@@ -7,296 +7,242 @@ use page::VirtualAddress;
 // The bench sheet's base.
 const BASE: u32 = 0x20000000;
 
+// How many lines there are.
+const LINES: usize = 55;
+
+// The lines, a number each: two digits of what it is, two of its label, eight of what it is about. 0 to 2 a list that is refused, at a base
+// of three; 3 a list that is built; both by the list's first byte, its bytes and the room. 4 the word at an offset; 5 the word with a number
+// of the table at an offset. 6 and 7 what list A means at an address, for a read and for a write.
+const SCRIPT: [u64; 55] = [
+    0x03_00_0024_2004,
+    0x05_07_0000_0000,
+    0x05_07_0001_0000,
+    0x05_07_0003_0000,
+    0x05_07_0005_0000,
+    0x04_0a_0000_0040,
+    0x05_08_000f_0400,
+    0x05_08_0010_0400,
+    0x05_08_001f_0400,
+    0x05_08_0020_0400,
+    0x04_0b_0000_0800,
+    0x05_09_0000_1000,
+    0x05_09_0001_1000,
+    0x05_09_0002_1000,
+    0x04_0c_0000_1ffc,
+    0x04_0d_0000_2000,
+    0x03_01_0024_2000,
+    0x00_02_0024_1ffc,
+    0x04_06_0000_0000,
+    0x01_03_d801_2000,
+    0x02_04_d801_2000,
+    0x00_05_d801_0042,
+    0x04_06_0000_0000,
+    0x00_0e_d801_0040,
+    0x00_0f_240c_0040,
+    0x00_10_300c_0040,
+    0x00_11_3c0c_0040,
+    0x00_12_480c_0040,
+    0x00_13_540c_0040,
+    0x00_14_600c_0040,
+    0x00_15_000d_0040,
+    0x04_06_0000_0000,
+    0x00_16_6c18_0040,
+    0x00_17_7818_0040,
+    0x00_18_8418_0040,
+    0x03_19_9c18_2000,
+    0x05_07_0000_0000,
+    0x05_09_0000_1000,
+    0x05_09_0003_1000,
+    0x05_09_0004_1000,
+    0x05_09_0005_1000,
+    0x03_1a_b424_3000,
+    0x05_07_0000_0000,
+    0x05_07_0001_0000,
+    0x05_07_0002_0000,
+    0x03_1b_0000_0044,
+    0x05_07_000f_0000,
+    0x04_0d_0000_0040,
+    0x06_1c_0001_2345,
+    0x07_1d_0001_2345,
+    0x06_1c_003a_bcde,
+    0x07_1d_003a_bcde,
+    0x06_1c_0050_07ff,
+    0x06_1c_0050_0800,
+    0x06_1c_00ff_ffff,
+];
+
 fn main() {
-    whole();
-    rooms();
-    bad_memories();
-    bad_records();
-    overlaps();
-    cut();
-    order();
-    empty();
-    meanings();
+    let mut m = [0xEEu8; 12288];
+    let mut i: usize = 0;
+    while i < LINES {
+        let next = line(m, step_at(i));
+        m = next;
+        i += 1;
+    }
 }
 
-// A build in the first bytes of a memory of EE, what it answered, and the memory then.
-fn build(list: &[u8], base: u32, length: usize) -> [u8; 12288] {
+// A line's number, by its place.
+fn step_at(i: usize) -> u64 {
+    if i < LINES {
+        return SCRIPT[i];
+    }
+    0
+}
+
+// A line, and the memory then.
+fn line(m: [u8; 12288], step: u64) -> [u8; 12288] {
+    let what = (step / 1099511627776 % 256) as u32;
+    label((step / 4294967296 % 256) as u32);
+    let about = (step % 4294967296) as u32;
+    if what < 3 {
+        return kept(built(what, about));
+    }
+    if what == 3 {
+        return built(what, about);
+    }
+    asked(&m, what, about);
+    m
+}
+
+// A list built at a base of three.
+fn built(what: u32, about: u32) -> [u8; 12288] {
+    build(
+        base(what),
+        (about / 16777216) as usize,
+        (about / 65536 % 256) as usize,
+        (about % 65536) as usize,
+    )
+}
+
+// The base of a list.
+fn base(what: u32) -> u32 {
+    match what {
+        1 => 0x20000400,
+        2 => 0xFFFFF000,
+        _ => BASE,
+    }
+}
+
+// What a line asks that builds nothing.
+fn asked(m: &[u8], what: u32, about: u32) {
+    match what {
+        4 => word(m, about as usize),
+        5 => numbered(m, about / 65536, about % 65536),
+        6 => meaning(about, Access::Read),
+        _ => meaning(about, Access::Write),
+    }
+}
+
+// The word at an offset of a memory.
+fn word(m: &[u8], at: usize) {
+    show::value(wire::word_at(m, at) as u64);
+}
+
+// The word with a number, of the table at an offset.
+fn numbered(m: &[u8], i: u32, from: u32) {
+    show::decimal(i as u64);
+    word(m, from as usize + 4 * (i as usize));
+}
+
+// The records of every list, 12 bytes each. List A: large 010000 to 10020000, both; section 300000 to 11200000, read; tiny 500400 to
+// 10000C00, both. From 36 on one that is bad each: type 4; virtual 1000000; virtual 010400, small; physical 10020800, small; access 1;
+// byte 11 not zero. From 108 on large 010000, small 01F000, large 010000, the same with access 0. From 156 on small 000000 and tiny 001000.
+// From 180 on small 200000, large 100000, tiny 000000. At 216 one byte.
+fn rows() -> [u8; 217] {
+    *b"\x00\x00\x01\x00\x00\x00\x02\x10\x01\x03\x00\x00\
+        \x00\x00\x30\x00\x00\x00\x20\x11\x00\x02\x00\x00\
+        \x00\x04\x50\x00\x00\x0C\x00\x10\x03\x03\x00\x00\
+        \x00\x00\x01\x00\x00\x00\x02\x10\x04\x03\x00\x00\
+        \x00\x00\x00\x01\x00\x00\x02\x10\x01\x03\x00\x00\
+        \x00\x04\x01\x00\x00\x00\x02\x10\x02\x03\x00\x00\
+        \x00\x00\x01\x00\x00\x08\x02\x10\x02\x03\x00\x00\
+        \x00\x00\x01\x00\x00\x00\x02\x10\x02\x01\x00\x00\
+        \x00\x00\x01\x00\x00\x00\x02\x10\x02\x03\x00\x01\
+        \x00\x00\x01\x00\x00\x00\x02\x10\x01\x03\x00\x00\
+        \x00\xF0\x01\x00\x00\x00\x00\x30\x02\x03\x00\x00\
+        \x00\x00\x01\x00\x00\x00\x02\x10\x01\x03\x00\x00\
+        \x00\x00\x01\x00\x00\x00\x02\x10\x01\x00\x00\x00\
+        \x00\x00\x00\x00\x00\x00\x00\x10\x02\x02\x00\x00\
+        \x00\x10\x00\x00\x00\x04\x10\x10\x03\x03\x00\x00\
+        \x00\x00\x20\x00\x00\x00\x00\x10\x02\x03\x00\x00\
+        \x00\x00\x10\x00\x00\x00\x01\x10\x01\x03\x00\x00\
+        \x00\x00\x00\x00\x00\x04\x10\x10\x03\x03\x00\x00\
+        x"
+}
+
+// A line's label.
+fn label(n: u32) {
+    labels::part(
+        b"list A in 8,196|list A in 8,192|list A in 8,188|at 20000400|at FFFFF000|in 66|word 0 then|word \
+          |coarse word |fine word |behind the first level|between the tables|the last word\
+          |the word behind it|one byte|type 4|virtual 1000000|virtual 010400, small\
+          |physical 10020800, small|access 1|byte 11 not zero|second record short\
+          |large 010000, small 01F000|small 01F000, large 010000|twice, and with access 0|small and tiny\
+          |megabytes 2, 1, 0|no records|read |write |changed\n",
+        n,
+    );
+}
+
+// A list built in the first bytes of a memory of EE, what was answered, and the memory then.
+fn build(base: u32, from: usize, bytes: usize, room: usize) -> [u8; 12288] {
     let mut m = [0xEEu8; 12288];
-    if length <= 12288 {
-        built(builder::build(list, base, &mut m[0..length]));
+    if room <= 12288 {
+        let all = rows();
+        if from <= 217 {
+            if bytes <= 217 - from {
+                answered(builder::build(&all[from..from + bytes], base, &mut m[0..room]));
+            }
+        }
+    }
+    m
+}
+
+// Says so where a refusal changed the first word.
+fn kept(m: [u8; 12288]) -> [u8; 12288] {
+    if wire::word_at(&m, 0) != 0xEEEEEEEE {
+        label(30);
     }
     m
 }
 
 // What a build answered.
-fn built(b: Built) {
+fn answered(b: Built) {
     match b {
-        Built::Length(n) => show::line(b": length", n as u64),
-        Built::BadMemory => show::text(b": bad memory\n"),
-        Built::BadRecord(i) => show::line(b": bad record", i as u64),
-        Built::Overlap(i) => show::line(b": overlap", i as u64),
-        Built::TooLong(c) => show::line(b": too long, records", c as u64),
+        Built::Length(n) => told(0, n as u64),
+        Built::BadMemory => said(1),
+        Built::BadRecord(i) => told(2, i as u64),
+        Built::Overlap(i) => told(3, i as u64),
+        Built::TooLong(c) => told(4, c as u64),
     }
 }
 
-// The word at an offset of a memory.
-fn word_at(m: &[u8; 12288], at: usize) -> u32 {
-    if at > 12284 {
-        return 0;
-    }
-    memory::word(m[at], m[at + 1], m[at + 2], m[at + 3])
-}
-
-// That word's line.
-fn word(m: &[u8; 12288], at: usize) {
-    show::value(word_at(m, at) as u64);
-}
-
-// A word of the first level.
-fn first(m: &[u8; 12288], i: u8) {
-    show::text(b"word ");
-    show::decimal(i as u64);
-    word(m, 4 * (i as usize));
-}
-
-// A word of the coarse table behind it.
-fn coarse(m: &[u8; 12288], i: u8) {
-    show::text(b"coarse word ");
-    show::decimal(i as u64);
-    word(m, 0x400 + 4 * (i as usize));
-}
-
-// A word of the fine table at 1000.
-fn fine(m: &[u8; 12288], i: u8) {
-    show::text(b"fine word ");
-    show::decimal(i as u64);
-    word(m, 0x1000 + 4 * (i as usize));
-}
-
-// The word behind an image.
-fn behind(m: &[u8; 12288], at: usize) {
-    show::text(b"the word behind it");
-    word(m, at);
-}
-
-// The first word after a refusal.
-fn first_then(m: &[u8; 12288]) {
-    show::text(b"word 0 then");
-    word(m, 0);
-}
-
-// List A: large 010000 to 10020000, both; section 300000 to 11200000, read; tiny 500400 to 10000C00, both.
-fn list_a() -> [u8; 36] {
-    *b"\x00\x00\x01\x00\x00\x00\x02\x10\x01\x03\x00\x00\x00\x00\x30\x00\x00\x00\x20\x11\x00\x02\x00\x00\x00\x04\x50\x00\x00\x0C\x00\x10\x03\x03\x00\x00"
-}
-
-// List A's image in a memory of a length.
-fn image_a(length: usize) -> [u8; 12288] {
-    let a = list_a();
-    build(&a, BASE, length)
-}
-
-// The words of list A's image that the bench sheet names, their neighbours, and the word behind the image.
-fn whole() {
-    show::text(b"list A in 8,196");
-    let m = image_a(8196);
-    first_words(&m);
-    coarse_words(&m);
-    fine_words(&m);
-    behind(&m, 0x2000);
-}
-
-// Of the first level, and behind it.
-fn first_words(m: &[u8; 12288]) {
-    first(m, 0);
-    first(m, 1);
-    first(m, 3);
-    first(m, 5);
-    show::text(b"behind the first level");
-    word(m, 64);
-}
-
-// Of the coarse table, and behind it.
-fn coarse_words(m: &[u8; 12288]) {
-    coarse(m, 15);
-    coarse(m, 16);
-    coarse(m, 31);
-    coarse(m, 32);
-    show::text(b"between the tables");
-    word(m, 0x800);
-}
-
-// Of the fine table.
-fn fine_words(m: &[u8; 12288]) {
-    fine(m, 0);
-    fine(m, 1);
-    fine(m, 2);
-    show::text(b"the last word");
-    word(m, 0x1FFC);
-}
-
-// The room that list A needs, and a word less: then every byte stays.
-fn rooms() {
-    show::text(b"list A in 8,192");
-    image_a(8192);
-    show::text(b"list A in 8,188");
-    let m = image_a(8188);
-    first_then(&m);
-}
-
-// Refusal 4, before any record is looked at.
-fn bad_memories() {
-    at(0x20000400);
-    at(0xFFFFF000);
-    show::text(b"in 66");
-    first_then(&build(b"x", BASE, 66));
-}
-
-// A list in 8,192 bytes at a base that is refused.
-fn at(base: u32) {
-    show::text(b"at ");
-    show::address(base, 8);
-    kept(&build(b"x", base, 8192));
-}
-
-// Says so where a refusal changed the first word.
-fn kept(m: &[u8; 12288]) {
-    if word_at(m, 0) != 0xEEEEEEEE {
-        show::text(b"changed\n");
-    }
-}
-
-// Refusal 10.
-fn bad_records() {
-    refused(b"one byte", b"x");
-    bad_addresses();
-    bad_numbers();
-    show::text(b"second record short");
-    let short = b"\x00\x00\x01\x00\x00\x00\x02\x10\x01\x03\x00\x00\x00";
-    first_then(&build(short, BASE, 64));
-}
-
-// A type that is none, and addresses that are none or not aligned.
-fn bad_addresses() {
-    record(b"type 4", 0x010000, 0x10020000, 4, 3, 0);
-    record(b"virtual 1000000", 0x1000000, 0x10020000, 1, 3, 0);
-    record(b"virtual 010400, small", 0x010400, 0x10020000, 2, 3, 0);
-    record(b"physical 10020800, small", 0x010000, 0x10020800, 2, 3, 0);
-}
-
-// An access that is none, and a byte that is to be zero.
-fn bad_numbers() {
-    record(b"access 1", 0x010000, 0x10020000, 2, 1, 0);
-    record(b"byte 11 not zero", 0x010000, 0x10020000, 2, 3, 1);
-}
-
-// A list that is refused.
-fn refused(label: &[u8], list: &[u8]) {
-    show::text(label);
-    kept(&build(list, BASE, 64));
-}
-
-// A list of one record that is refused: virtual and physical address, type, access, byte 11.
-fn record(label: &[u8], at: u32, to: u32, kind: u8, access: u8, last: u8) {
-    let list = [
-        (at % 256) as u8,
-        (at / 256 % 256) as u8,
-        (at / 65536 % 256) as u8,
-        (at / 16777216) as u8,
-        (to % 256) as u8,
-        (to / 256 % 256) as u8,
-        (to / 65536 % 256) as u8,
-        (to / 16777216) as u8,
-        kind,
-        access,
-        0,
-        last,
-    ];
-    refused(label, &list);
-}
-
-// Refusal 11, and 10 before it.
-fn overlaps() {
-    refused(
-        b"large 010000, small 01F000",
-        b"\x00\x00\x01\x00\x00\x00\x02\x10\x01\x03\x00\x00\x00\xF0\x01\x00\x00\x00\x00\x30\x02\x03\x00\x00",
-    );
-    refused(
-        b"small 01F000, large 010000",
-        b"\x00\xF0\x01\x00\x00\x00\x00\x30\x02\x03\x00\x00\x00\x00\x01\x00\x00\x00\x02\x10\x01\x03\x00\x00",
-    );
-    refused(
-        b"twice, and with access 0",
-        b"\x00\x00\x01\x00\x00\x00\x02\x10\x01\x03\x00\x00\x00\x00\x01\x00\x00\x00\x02\x10\x01\x00\x00\x00",
+// An answer as text.
+fn said(n: u32) {
+    labels::part(
+        b": length|: bad memory\n|: bad record|: overlap|: too long, records|:|: permission fault\n\
+          |: translation fault\n",
+        n,
     );
 }
 
-// A small page in a megabyte with a tiny one: four tiny words.
-fn cut() {
-    show::text(b"small and tiny");
-    let m = build(
-        b"\x00\x00\x00\x00\x00\x00\x00\x10\x02\x02\x00\x00\x00\x10\x00\x00\x00\x04\x10\x10\x03\x03\x00\x00",
-        BASE,
-        8192,
-    );
-    first(&m, 0);
-    fine(&m, 0);
-    fine(&m, 3);
-    fine(&m, 4);
-    fine(&m, 5);
-}
-
-// Tables rise by megabyte, whatever the order of the records: megabytes 2 and 1 coarse, 0 fine.
-fn order() {
-    show::text(b"megabytes 2, 1, 0");
-    let m = build(
-        b"\x00\x00\x20\x00\x00\x00\x00\x10\x02\x03\x00\x00\x00\x00\x10\x00\x00\x00\x01\x10\x01\x03\x00\x00\x00\x00\x00\x00\x00\x04\x10\x10\x03\x03\x00\x00",
-        BASE,
-        12288,
-    );
-    first(&m, 0);
-    first(&m, 1);
-    first(&m, 2);
-}
-
-// The empty list.
-fn empty() {
-    show::text(b"no records");
-    let m = build(b"", BASE, 68);
-    first(&m, 15);
-    behind(&m, 64);
-}
-
-// The bench sheet's addresses, by list A alone.
-fn meanings() {
-    read(0x012345);
-    write(0x012345);
-    read(0x3ABCDE);
-    write(0x3ABCDE);
-    read(0x5007FF);
-    read(0x500800);
-    read(0xFFFFFF);
-}
-
-// A read of an address.
-fn read(va: u32) {
-    show::text(b"read ");
-    meaning(va, Access::Read);
-}
-
-// A write of an address.
-fn write(va: u32) {
-    show::text(b"write ");
-    meaning(va, Access::Write);
+// An answer, and its number.
+fn told(n: u32, x: u64) {
+    said(n);
+    show::value(x);
 }
 
 // What list A means at an address.
 fn meaning(va: u32, a: Access) {
     show::address(va, 6);
-    let list = list_a();
-    match lists::means(&list, VirtualAddress(va), a) {
-        Meaning::Byte(p) => show::line(b":", p.0 as u64),
-        Meaning::Permission => show::text(b": permission fault\n"),
-        Meaning::Translation => show::text(b": translation fault\n"),
+    let all = rows();
+    meant(lists::means(&all[0..36], VirtualAddress(va), a));
+}
+
+// A meaning as text.
+fn meant(m: Meaning) {
+    match m {
+        Meaning::Byte(p) => told(5, p.0 as u64),
+        Meaning::Permission => said(6),
+        Meaning::Translation => said(7),
     }
 }

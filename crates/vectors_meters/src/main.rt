@@ -1,4 +1,4 @@
-// What `meters` answers for values worked out by hand from the paper: its file `stdout` has them.
+// What `meters` answers for values worked out by hand from the paper: its file `stdout` has them, in hexadecimal.
 use meters::Meters;
 use meters::Tally;
 
@@ -8,11 +8,9 @@ fn main() {
     lent();
 }
 
-// Three meters, one after another.
+// The three meters: fresh requests, retries, words.
 fn show_meters(m: Meters) {
-    show::line(b"fresh", m.fresh as u64);
-    show::line(b"retries", m.retries as u64);
-    show::line(b"words", m.words as u64);
+    show::triple(b"meters", m.fresh, m.retries, m.words);
 }
 
 // A fresh request that reads two words, then its retry that reads one, then a call that adds nothing.

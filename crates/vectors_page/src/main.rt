@@ -1,4 +1,4 @@
-// What `page` answers for values worked out by hand from the paper: its file `stdout` has them.
+// What `page` answers for values worked out by hand from the paper: its file `stdout` has them, in hexadecimal.
 use page::Access;
 use page::Kind;
 use page::PhysicalAddress;
@@ -6,107 +6,80 @@ use page::VirtualAddress;
 
 fn main() {
     kinds();
-    rights();
-    slot();
-    flushes();
-    edges();
+    // Access bits 0x permit nothing, 10 reading, 11 both.
+    right(0);
+    right(1);
+    right(2);
+    right(3);
+    slots();
+    // A valid word 0405, preserved 040D.
+    flush(0x0405);
+    flush(0x040D);
+    entry(0x040D, 0x01ABCD);
+    entry(0x040D, 0x02ABCD);
 }
 
-// Low bits and page starts of the four kinds.
+// The four kinds.
 fn kinds() {
-    show::line(b"section low bits", page::low_bits(Kind::Section) as u64);
-    show::line(b"large low bits", page::low_bits(Kind::Large) as u64);
-    show::line(b"small low bits", page::low_bits(Kind::Small) as u64);
-    show::line(b"tiny low bits", page::low_bits(Kind::Tiny) as u64);
-    show::line(
-        b"section of 3ABCDE",
-        page::page_start(Kind::Section, 0x3ABCDE) as u64,
-    );
-    show::line(
-        b"large of 012345",
-        page::page_start(Kind::Large, 0x012345) as u64,
-    );
-    show::line(
-        b"small of 012345",
-        page::page_start(Kind::Small, 0x012345) as u64,
-    );
-    show::line(
-        b"tiny of 5007FF",
-        page::page_start(Kind::Tiny, 0x5007FF) as u64,
+    start(Kind::Section, 0x3ABCDE);
+    start(Kind::Large, 0x012345);
+    start(Kind::Small, 0x012345);
+    start(Kind::Tiny, 0x5007FF);
+}
+
+// The low bits of a kind, an address, and the start of its page.
+fn start(k: Kind, va: u32) {
+    show::triple(b"page", page::low_bits(k), va, page::page_start(k, va));
+}
+
+// Access bits, then whether they permit reading and whether they permit writing: 1 for yes, 0 for no.
+fn right(bits: u32) {
+    show::triple(
+        b"access",
+        bits,
+        page::permitted(bits, Access::Read) as u32,
+        page::permitted(bits, Access::Write) as u32,
     );
 }
 
-// Access bits 0x permit nothing, 10 reading, 11 both.
-fn rights() {
-    show::answer(b"00 read", page::permitted(0, Access::Read));
-    show::answer(b"01 read", page::permitted(1, Access::Read));
-    show::answer(b"10 read", page::permitted(2, Access::Read));
-    show::answer(b"10 write", page::permitted(2, Access::Write));
-    show::answer(b"11 read", page::permitted(3, Access::Read));
-    show::answer(b"11 write", page::permitted(3, Access::Write));
+// The slot that the bench sheet's request of 012345 fills and the slot of the last tiny page; what the first one
+// matches; then a word that is not valid, and a word beyond every layout.
+fn slots() {
+    slot(Kind::Large, 0x10020000, 3, 0x012345);
+    slot(Kind::Tiny, 0xFFFFFFFF, 2, 0xFFFFFF);
+    word(0x0405, 0x010000);
+    word(0x0405, 0x01FFFF);
+    word(0x0405, 0x00FFFF);
+    word(0x0405, 0x020000);
+    word(0x0401, 0x010000);
+    word(0xFFFFFFFF, 0xFFFFFFFF);
 }
 
-// The slot that the bench sheet's request of 012345 fills, and what it matches.
-fn slot() {
-    let w = page::made(
-        Kind::Large,
-        PhysicalAddress(0x10020000),
-        3,
-        VirtualAddress(0x012345),
-    );
-    show::line(b"cam", w.cam as u64);
-    show::line(b"ram", w.ram as u64);
-    show::answer(
-        b"matches 010000",
-        page::matches(w.cam, VirtualAddress(0x010000)),
-    );
-    show::answer(
-        b"matches 01FFFF",
-        page::matches(w.cam, VirtualAddress(0x01FFFF)),
-    );
-    show::answer(
-        b"matches 00FFFF",
-        page::matches(w.cam, VirtualAddress(0x00FFFF)),
-    );
-    show::answer(
-        b"matches 020000",
-        page::matches(w.cam, VirtualAddress(0x020000)),
-    );
-    let at = page::translated(w.cam, w.ram, VirtualAddress(0x012345));
-    show::line(b"012345 is", at.0 as u64);
-    show::line(b"access", page::access_of(w.ram) as u64);
+// An address and the CAM and RAM words that are made for it, then what they give.
+fn slot(k: Kind, frame: u32, access: u32, va: u32) {
+    let w = page::made(k, PhysicalAddress(frame), access, VirtualAddress(va));
+    show::triple(b"slot", va, w.cam, w.ram);
+    given(w.cam, w.ram, va);
 }
 
-// A valid word 0405, preserved 040D.
-fn flushes() {
-    show::line(b"0405 flushed", page::flushed(0x0405) as u64);
-    show::line(b"040D flushed", page::flushed(0x040D) as u64);
-    show::line(
-        b"040D flushed at 01ABCD",
-        page::flushed_at(VirtualAddress(0x01ABCD), 0x040D) as u64,
-    );
-    show::line(
-        b"040D flushed at 02ABCD",
-        page::flushed_at(VirtualAddress(0x02ABCD), 0x040D) as u64,
-    );
+// An address, the physical address that CAM and RAM words give for it, and their access bits.
+fn given(cam: u32, ram: u32, va: u32) {
+    let at = page::translated(cam, ram, VirtualAddress(va));
+    show::triple(b"gives", va, at.0, page::access_of(ram));
 }
 
-// The last tiny page, a word that is not valid, and a word beyond every layout.
-fn edges() {
-    let w = page::made(
-        Kind::Tiny,
-        PhysicalAddress(0xFFFFFFFF),
-        2,
-        VirtualAddress(0xFFFFFF),
-    );
-    show::line(b"last cam", w.cam as u64);
-    show::line(b"last ram", w.ram as u64);
-    show::answer(
-        b"0401 matches 010000",
-        page::matches(0x0401, VirtualAddress(0x010000)),
-    );
-    show::answer(
-        b"FFFFFFFF matches FFFFFFFF",
-        page::matches(0xFFFFFFFF, VirtualAddress(0xFFFFFFFF)),
-    );
+// A CAM word, an address, and whether they match.
+fn word(cam: u32, va: u32) {
+    show::question(b"match", cam, va, page::matches(cam, VirtualAddress(va)));
+}
+
+// A CAM word, and what a global flush makes of it.
+fn flush(cam: u32) {
+    show::words(b"flush", cam, page::flushed(cam));
+    show::end();
+}
+
+// A CAM word, an address, and what an entry flush at the address makes of the word.
+fn entry(cam: u32, va: u32) {
+    show::triple(b"entry", cam, va, page::flushed_at(VirtualAddress(va), cam));
 }

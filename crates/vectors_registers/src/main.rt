@@ -1,4 +1,9 @@
-// What `registers` answers for values worked out by hand from the paper: its file `stdout` has them.
+// What `registers`, `values` and `commands` answer for values worked out by hand from the paper: its file `stdout` has
+// them, in hexadecimal.
+// A read is shown by its offset, then 1 and the value or 0 and the number of the refusal.
+// A write is shown by its offset and value, then a number for what it asks for and its value: 0 a refusal, 1 nothing,
+// 2 reset, 3 load, 4 copy, 5 prefetch, 6 acknowledge, 7 global flush, 8 entry flush; or by the lock base and the victim; or
+// by what it sets in fresh registers.
 use bank::Bank;
 use page::Access;
 use page::PhysicalAddress;
@@ -13,14 +18,35 @@ use registers::Setting;
 use registers::Tending;
 
 fn main() {
-    reads();
+    let p = Pending::Held(Fault::Permission, VirtualAddress(0x3ABCDE), Access::Write);
+    table(p);
+    // Offsets without a register.
+    at(0x02, p);
+    at(0x51, p);
+    at(0x54, p);
+    at(0xFFFFFFFC, p);
     faults();
-    writes();
     bits();
-    forms();
+    form(large());
+    form(last());
     settings();
     tendings();
     ranges();
+}
+
+// The registers in the order of Table 3, with a fault pending.
+fn table(p: Pending) {
+    let mut offset: u32 = 0;
+    while offset < 0x54 {
+        at(offset, p);
+        offset += 4;
+    }
+}
+
+// A read at an offset, and a write of FFFF.
+fn at(offset: u32, p: Pending) {
+    read(offset, p);
+    write(offset, 0xFFFF);
 }
 
 // The bench sheet's slot 0 in register form.
@@ -43,107 +69,51 @@ fn last() -> Entry {
     }
 }
 
-// Registers with a value in each.
-fn some() -> Registers {
-    Registers {
-        control: 0x27,
-        base: PhysicalAddress(0x20000080),
-        prefetch: 0x3FFF,
+// Registers with a value in each: the bench sheet's slot staged but for CAM high, the last tiny page copied but for RAM low.
+fn made(control: u16, base: u32, prefetch: u16, camhi: u16, ramlo: u16) -> Registers {
+    let mut r = Registers {
+        control,
+        base: PhysicalAddress(base),
+        prefetch,
         staged: large(),
         copied: last(),
-    }
+    };
+    r.staged.camhi = camhi;
+    r.copied.ramlo = ramlo;
+    r
 }
 
-// A read at an offset.
+// A read at an offset, with lock base 31 and victim 5.
 fn read(offset: u32, p: Pending) {
-    match values::value_at(offset, some(), 31, 5, p) {
-        Answer::Value(v) => show::line(b"reads", v as u64),
-        Answer::Refused(k) => show::line(b"refused", k as u64),
-        Answer::Address(_) => show::text(b"address\n"),
-        Answer::Fault(_) => show::text(b"fault\n"),
-        Answer::Done => show::text(b"done\n"),
+    show::text(b"read");
+    show::number(offset as u64);
+    let r = made(0x27, 0x20000080, 0x3FFF, 0, 0xFE00);
+    told(values::value_at(offset, r, 31, 5, p));
+}
+
+// What a read answers.
+fn told(a: Answer) {
+    match a {
+        Answer::Value(v) => show::said(1, v as u64),
+        Answer::Refused(k) => show::said(0, k as u64),
+        _ => show::said(2, 0),
     }
 }
 
-// A setting.
-fn set(s: Setting) {
-    match s {
-        Setting::Control(v) => show::line(b"control", v as u64),
-        Setting::BaseHigh(v) => show::line(b"base high", v as u64),
-        Setting::BaseLow(v) => show::line(b"base low", v as u64),
-        Setting::CamHigh(v) => show::line(b"CAM high", v as u64),
-        Setting::CamLow(v) => show::line(b"CAM low", v as u64),
-        Setting::RamHigh(v) => show::line(b"RAM high", v as u64),
-        Setting::RamLow(v) => show::line(b"RAM low", v as u64),
-    }
-}
-
-// What is done to the slots.
-fn tend(t: Tending) {
-    match t {
-        Tending::Lock(l, v) => {
-            show::line(b"lock", l as u64);
-            show::line(b"victim", v as u64);
-        }
-        Tending::Flush => show::text(b"global flush\n"),
-        Tending::FlushEntry => show::text(b"entry flush\n"),
-    }
-}
-
-// A write at an offset.
-fn write(offset: u32, v: u16) {
-    match commands::command_at(offset, v) {
-        Command::Refused(k) => show::line(b"refused", k as u64),
-        Command::Nothing => show::text(b"nothing\n"),
-        Command::Reset => show::text(b"reset\n"),
-        Command::Set(s) => set(s),
-        Command::Tend(t) => tend(t),
-        Command::Load => show::text(b"load\n"),
-        Command::Copy => show::text(b"copy\n"),
-        Command::Prefetch(w) => show::line(b"prefetch", w as u64),
-        Command::Acknowledge(yes) => show::answer(b"acknowledge", yes),
-    }
-}
-
-// The registers in the order of Table 3, with a permission fault pending at 3ABCDE; then offsets without one.
-fn reads() {
-    show::text(b"reads\n");
-    let p = Pending::Held(Fault::Permission, VirtualAddress(0x3ABCDE), Access::Write);
-    read(0x00, p);
-    read(0x04, p);
-    read(0x08, p);
-    read(0x0C, p);
-    read(0x10, p);
-    read(0x14, p);
-    read(0x18, p);
-    read(0x1C, p);
-    read(0x20, p);
-    read(0x24, p);
-    read(0x28, p);
-    read(0x2C, p);
-    read(0x30, p);
-    read(0x34, p);
-    read(0x38, p);
-    read(0x3C, p);
-    read(0x40, p);
-    read(0x44, p);
-    read(0x48, p);
-    read(0x4C, p);
-    read(0x50, p);
-    read(0x02, p);
-    read(0x51, p);
-    read(0x54, p);
-    read(0xFFFFFFFC, p);
-}
-
-// Status, address high and address low of each fault and of none.
+// Each fault and none; then the last address in range and the first that is not.
 fn faults() {
-    show::text(b"faults\n");
     fault(Pending::Held(Fault::Translation, VirtualAddress(0xFFFFFF), Access::Read));
     fault(Pending::Held(Fault::Miss, VirtualAddress(0x01007F), Access::Read));
     fault(Pending::Held(Fault::Permission, VirtualAddress(0x0100FF), Access::Write));
     fault(Pending::Held(Fault::Prefetch, VirtualAddress(0x500400), Access::Read));
     fault(Pending::Nothing);
+    pending(Pending::Held(Fault::Miss, VirtualAddress(0xFFFFFF), Access::Read));
+    pending(Pending::Held(Fault::Miss, VirtualAddress(0x1000000), Access::Read));
+}
+
+// Whether a pending fault is in range.
+fn pending(p: Pending) {
+    show::answer(b"pending", registers::pending_ok(p));
 }
 
 // Status, address high and address low.
@@ -153,39 +123,43 @@ fn fault(p: Pending) {
     read(0x10, p);
 }
 
-// FFFF to each register in the order of Table 3, then to offsets without one.
-fn writes() {
-    show::text(b"writes\n");
-    write(0x00, 0xFFFF);
-    write(0x04, 0xFFFF);
-    write(0x08, 0xFFFF);
-    write(0x0C, 0xFFFF);
-    write(0x10, 0xFFFF);
-    write(0x14, 0xFFFF);
-    write(0x18, 0xFFFF);
-    write(0x1C, 0xFFFF);
-    write(0x20, 0xFFFF);
-    write(0x24, 0xFFFF);
-    write(0x28, 0xFFFF);
-    write(0x2C, 0xFFFF);
-    write(0x30, 0xFFFF);
-    write(0x34, 0xFFFF);
-    write(0x38, 0xFFFF);
-    write(0x3C, 0xFFFF);
-    write(0x40, 0xFFFF);
-    write(0x44, 0xFFFF);
-    write(0x48, 0xFFFF);
-    write(0x4C, 0xFFFF);
-    write(0x50, 0xFFFF);
-    write(0x02, 0xFFFF);
-    write(0x51, 0xFFFF);
-    write(0x54, 0xFFFF);
-    write(0xFFFFFFFC, 0xFFFF);
+// A write at an offset.
+fn write(offset: u32, v: u16) {
+    show::words(b"write", offset, v as u32);
+    asked(commands::command_at(offset, v));
+}
+
+// What a write asks for.
+fn asked(c: Command) {
+    match c {
+        Command::Refused(k) => show::said(0, k as u64),
+        Command::Nothing => show::said(1, 0),
+        Command::Reset => show::said(2, 0),
+        Command::Set(s) => {
+            set(Registers::fresh(), s);
+        }
+        Command::Tend(t) => tend(t),
+        Command::Load => show::said(3, 0),
+        Command::Copy => show::said(4, 0),
+        Command::Prefetch(w) => show::said(5, w as u64),
+        Command::Acknowledge(yes) => show::said(6, yes as u64),
+    }
+}
+
+// What is done to the slots.
+fn tend(t: Tending) {
+    match t {
+        Tending::Lock(l, v) => {
+            show::numbers(l as u64, v as u64);
+            show::end();
+        }
+        Tending::Flush => show::said(7, 0),
+        Tending::FlushEntry => show::said(8, 0),
+    }
 }
 
 // Single bits of control, acknowledge, lock, load and the flushes.
 fn bits() {
-    show::text(b"bits\n");
     write(0x08, 0x0007);
     write(0x08, 0xFFFE);
     write(0x18, 0xFFFE);
@@ -202,105 +176,81 @@ fn bits() {
     write(0x40, 0xFFFE);
 }
 
-// A slot as words and in register form, and the address of its CAM.
-fn forms() {
-    show::text(b"forms\n");
-    form(large());
-    form(last());
-}
-
-// The words of an entry, the entry of those words, the address.
+// A slot in register form as CAM and RAM words and the address of its CAM, then the form of those words.
 fn form(e: Entry) {
     let w = registers::words_of(e);
-    show::line(b"cam", w.cam as u64);
-    show::line(b"ram", w.ram as u64);
-    entry(registers::entry_of(w));
     let va = registers::cam_address(e);
-    show::line(b"address", va.0 as u64);
+    show::triple(b"form", w.cam, w.ram, va.0);
+    entry(registers::entry_of(w));
 }
 
-// The four registers of an entry.
+// The four registers of an entry: CAM high and low, RAM high and low.
 fn entry(e: Entry) {
-    show::line(b"CAM high", e.camhi as u64);
-    show::line(b"CAM low", e.camlo as u64);
-    show::line(b"RAM high", e.ramhi as u64);
-    show::line(b"RAM low", e.ramlo as u64);
+    show::numbers(e.camhi as u64, e.camlo as u64);
+    show::numbers(e.ramhi as u64, e.ramlo as u64);
+    show::end();
 }
 
-// Base and entry from fresh registers, half by half.
+// Registers after a setting: base, control, and the staged entry.
+fn set(r: Registers, s: Setting) -> Registers {
+    let after = r.set(s);
+    show::words(b" set", after.base.0, after.control as u32);
+    entry(after.staged);
+    after
+}
+
+// Base and entry from fresh registers, half by half, then control; then whether the unit is on and whether it walks, 1 for
+// yes, and the entry that copy read back.
 fn settings() {
-    show::text(b"settings\n");
-    let a = Registers::fresh().set(Setting::BaseHigh(0x2000));
-    show::line(b"base", a.base.0 as u64);
-    let b = a.set(Setting::BaseLow(0x0080));
-    show::line(b"base", b.base.0 as u64);
-    let c = b.set(Setting::BaseHigh(0x1000));
-    show::line(b"base", c.base.0 as u64);
-    let d = c.set(Setting::CamHigh(0));
-    let e = d.set(Setting::CamLow(0x0405));
-    let f = e.set(Setting::RamHigh(0x1002));
-    let g = f.set(Setting::RamLow(0x0300));
-    entry(g.staged);
-    entry(g.copied);
-    let h = g.set(Setting::Control(0x27));
-    show::line(b"control", h.control as u64);
-    show::answer(b"on", registers::is_on(h.control));
-    show::answer(b"walking", registers::is_walking(h.control));
+    let a = set(
+        set(Registers::fresh(), Setting::BaseHigh(0x2000)),
+        Setting::BaseLow(0x0080),
+    );
+    let b = set(set(a, Setting::BaseHigh(0x1000)), Setting::CamHigh(0));
+    let c = set(set(b, Setting::CamLow(0x0405)), Setting::RamHigh(0x1002));
+    let d = set(set(c, Setting::RamLow(0x0300)), Setting::Control(0x27));
+    show::number(registers::is_on(d.control) as u64);
+    show::number(registers::is_walking(d.control) as u64);
+    entry(d.copied);
 }
 
-// Slot 0 with the bench sheet's words, tended.
-fn tendings() {
-    show::text(b"tendings\n");
+// The bench sheet's words in slot 0, tended with an entry staged: lock base, victim, and the victim's CAM word.
+fn tended(staged: Entry, t: Tending) {
     let b = Bank::fresh().load(registers::words_of(large()));
-    let k = registers::tend_bank(b, large(), Tending::Lock(31, 5));
-    show::line(b"lock", k.lock as u64);
-    show::line(b"victim", k.victim as u64);
-    slot(registers::tend_bank(b, last(), Tending::Flush));
-    slot(registers::tend_bank(b, last(), Tending::FlushEntry));
+    let k = registers::tend_bank(b, staged, t);
+    let w = k.copy();
+    show::triple(b" slots", k.lock as u32, k.victim as u32, w.cam);
+}
+
+// A lock; the flushes with another page staged; an entry flush with the page's tag.
+fn tendings() {
+    tended(large(), Tending::Lock(31, 5));
+    tended(last(), Tending::Flush);
+    tended(last(), Tending::FlushEntry);
     let tag = Entry {
         camhi: 0,
         camlo: 0x0400,
         ramhi: 0,
         ramlo: 0,
     };
-    slot(registers::tend_bank(b, tag, Tending::FlushEntry));
+    tended(tag, Tending::FlushEntry);
 }
 
-// The CAM word of slot 0.
-fn slot(b: Bank) {
-    let w = b.copy();
-    show::line(b"cam", w.cam as u64);
-}
-
-// What is in range and what is not.
+// Registers are in range as above; not with control 2F or 40, base 20000040, prefetch 4000, CAM high 4 or read RAM low 0380.
 fn ranges() {
-    show::text(b"ranges\n");
+    range(0x27, 0x27, 0x20000080, 0x3FFF, 0, 0xFE00);
+    range(0x2F, 0x2F, 0x20000080, 0x3FFF, 0, 0xFE00);
+    range(0x40, 0x40, 0x20000080, 0x3FFF, 0, 0xFE00);
+    range(0x20000040, 0x27, 0x20000040, 0x3FFF, 0, 0xFE00);
+    range(0x4000, 0x27, 0x20000080, 0x4000, 0, 0xFE00);
+    range(4, 0x27, 0x20000080, 0x3FFF, 4, 0xFE00);
+    range(0x0380, 0x27, 0x20000080, 0x3FFF, 0, 0x0380);
     show::answer(b"fresh", registers::registers_ok(Registers::fresh()));
-    show::answer(b"some", registers::registers_ok(some()));
-    let mut control = some();
-    control.control = 0x2F;
-    show::answer(b"control 2F", registers::registers_ok(control));
-    control.control = 0x40;
-    show::answer(b"control 40", registers::registers_ok(control));
-    let mut base = some();
-    let at = PhysicalAddress(0x20000040);
-    base.base = at;
-    show::answer(b"base 20000040", registers::registers_ok(base));
-    let mut prefetch = some();
-    prefetch.prefetch = 0x4000;
-    show::answer(b"prefetch 4000", registers::registers_ok(prefetch));
-    let mut staged = some();
-    staged.staged.camhi = 4;
-    show::answer(b"CAM high 4", registers::registers_ok(staged));
-    let mut copied = some();
-    copied.copied.ramlo = 0x0380;
-    show::answer(b"read RAM low 0380", registers::registers_ok(copied));
-    show::answer(
-        b"pending FFFFFF",
-        registers::pending_ok(Pending::Held(Fault::Miss, VirtualAddress(0xFFFFFF), Access::Read)),
-    );
-    show::answer(
-        b"pending 1000000",
-        registers::pending_ok(Pending::Held(Fault::Miss, VirtualAddress(0x1000000), Access::Read)),
-    );
+}
+
+// The value that a case is about, and whether its registers are in range.
+fn range(n: u64, control: u16, base: u32, prefetch: u16, camhi: u16, ramlo: u16) {
+    show::text(b"range");
+    show::number(n);
+    show::verdict(registers::registers_ok(made(control, base, prefetch, camhi, ramlo)));
 }

@@ -1,22 +1,13 @@
 // A scripted session on the device: every register, every refusal from 1 to 9 and every fault. Its file `stdout` was worked out by hand.
 // A line has the call, a number (0 accepted, 100 an address, 101 a value, 102 a distance, else the paper's) and a value.
-use bill::Bill;
-use decision::Shift;
-use meters::Meters;
+use forms::Call;
 use page::Access;
 use page::VirtualAddress;
 use prices::Price;
 use prices::Prices;
-use registers::Answer;
-use registers::Fault;
-use unit::Device;
-
-// A session under way.
-struct Bench {
-    device: Device,
-    bill: Bill,
-    meters: Meters,
-}
+use session::Bench;
+use session::Said;
+use session::Stepped;
 
 // The base of the external memory that is lent.
 const BASE: u32 = 0x20000000;
@@ -160,47 +151,49 @@ const SCRIPT: [u64; 131] = [
 ];
 
 fn main() {
-    let on = [0u8; 16];
     let ext = tables();
-    let bench = Bench {
-        device: Device::fresh(),
-        bill: Bill::fresh(),
-        meters: Meters::zero(),
-    };
-    total(run(bench, &on, &ext));
+    run(&ext);
 }
 
 // The calls of the script in order.
-fn run<'a>(b: Bench, on: &'a [u8], ext: &'a [u8]) -> Bench {
-    let mut bench = b;
+fn run(ext: &[u8]) {
+    let mut bench = Bench::fresh();
     let mut i: usize = 0;
     while i < CALLS {
-        let step = SCRIPT[i];
-        bench = call(bench, on, ext, step);
+        bench = call(bench, ext, step_at(i));
         i += 1;
     }
-    bench
+    total(bench);
+}
+
+// A call of the script, by its place.
+fn step_at(i: usize) -> u64 {
+    if i < CALLS {
+        return SCRIPT[i];
+    }
+    0
 }
 
 // Meters and bill at the end.
 fn total(b: Bench) {
     let m = b.meters;
-    show::line(b"fresh requests", m.fresh as u64);
-    show::line(b"retries", m.retries as u64);
-    show::line(b"words", m.words as u64);
+    metered(0, m.fresh);
+    metered(1, m.retries);
+    metered(2, m.words);
     let paid = b.bill;
     show::answer(b"total is 84", paid.total == 84.0);
+}
+
+// A meter's line.
+fn metered(n: u32, count: u32) {
+    labels::part(b"fresh requests|retries|words", n);
+    show::value(count as u64);
 }
 
 // A word at an offset, little-endian.
 fn put(m: [u8; 8192], at: usize, w: u32) -> [u8; 8192] {
     let mut out = m;
-    if at < 8189 {
-        out[at] = (w % 256) as u8;
-        out[at + 1] = (w / 256 % 256) as u8;
-        out[at + 2] = (w / 65536 % 256) as u8;
-        out[at + 3] = (w / 16777216) as u8;
-    }
+    wire::put(&mut out, at, &[w]);
     out
 }
 
@@ -214,8 +207,14 @@ fn tables() -> [u8; 8192] {
     put(e, 0x1004, 0x10000C33)
 }
 
-// Prices that are good.
-fn prices() -> Prices {
+// Prices: for call 9 one that is too high, else good ones.
+fn prices(what: u32) -> Prices {
+    if what == 9 {
+        return Prices {
+            onchip: Price::Flat(4096.5),
+            external: Price::Flat(0.0),
+        };
+    }
     Prices {
         onchip: Price::Flat(1.0),
         external: Price::Row {
@@ -225,129 +224,41 @@ fn prices() -> Prices {
     }
 }
 
-// The paper's number of a fault.
-fn fault_number(k: Fault) -> u64 {
-    match k {
-        Fault::Translation => 21,
-        Fault::Miss => 22,
-        Fault::Permission => 23,
-        Fault::Prefetch => 24,
-    }
-}
-
-// A call as text.
-fn name(what: u32) {
+// The base of the on-chip memory: for call 7 none that is one, for call 8 the external memory's.
+fn base(what: u32) -> u32 {
     match what {
-        1 => show::text(b"write"),
-        2 => show::text(b"read"),
-        3 => show::text(b"request read"),
-        4 => show::text(b"request write"),
-        5 => show::text(b"drop"),
-        6 => show::text(b"shift"),
-        7 => show::text(b"request, memory at 2"),
-        8 => show::text(b"request, memories that meet"),
-        9 => show::text(b"request, price over 4096"),
-        _ => show::text(b"victim set to 32\n"),
+        7 => 2,
+        8 => BASE,
+        _ => 0,
     }
 }
 
-// An answer as numbers.
-fn tell(answer: Answer) {
-    match answer {
-        Answer::Address(at) => show::said(100, at.0 as u64),
-        Answer::Fault(k) => show::said(fault_number(k), 0),
-        Answer::Value(v) => show::said(101, v as u64),
-        Answer::Done => show::said(0, 0),
-        Answer::Refused(k) => show::said(k as u64, 0),
+// A call's name.
+fn name(what: u32) {
+    labels::part(
+        b"|write|read|request read|request write|drop|shift|request, memory at 2\
+          |request, memories that meet|request, price over 4096|victim set to 32\n",
+        what,
+    );
+}
+
+// The call that a number says.
+fn call_of(what: u32, x: u32, v: u16) -> Call {
+    match what {
+        1 => return Call::Write(x, v),
+        2 => return Call::Read(x),
+        4 => return Call::Request(VirtualAddress(x), Access::Write),
+        5 => return Call::Drop,
+        6 => return Call::Shift(VirtualAddress(x)),
+        _ => return Call::Request(VirtualAddress(x), Access::Read),
     }
 }
 
-// A register write.
-fn write<'a>(b: Bench, on: &'a [u8], ext: &'a [u8], offset: u32, v: u16) -> Bench {
-    let device = b.device;
-    let bill = b.bill;
-    let m = b.meters;
-    let o = device.write(offset, v, on, 0, ext, BASE, prices(), bill);
-    let answer = o.answer;
-    tell(answer);
-    let next = o.device;
-    let paid = o.bill;
-    let tally = o.tally;
-    Bench {
-        device: next,
-        bill: paid,
-        meters: meters::after(m, tally),
-    }
-}
-
-// A register read.
-fn read(b: Bench, offset: u32) -> Bench {
-    let device = b.device;
-    let t = device.read(offset);
-    let answer = t.answer;
-    tell(answer);
-    b
-}
-
-// A request over an on-chip memory at a base, at given prices.
-fn request<'a>(
-    b: Bench,
-    on: &'a [u8],
-    onbase: u32,
-    ext: &'a [u8],
-    prices: Prices,
-    va: u32,
-    a: Access,
-) -> Bench {
-    let device = b.device;
-    let bill = b.bill;
-    let m = b.meters;
-    let o = device.request(VirtualAddress(va), a, on, onbase, ext, BASE, prices, bill);
-    let answer = o.answer;
-    tell(answer);
-    let next = o.device;
-    let paid = o.bill;
-    let tally = o.tally;
-    Bench {
-        device: next,
-        bill: paid,
-        meters: meters::after(m, tally),
-    }
-}
-
-// The pending fault dropped.
-fn drop(b: Bench) -> Bench {
-    let device = b.device;
-    let bill = b.bill;
-    let m = b.meters;
-    let t = device.drop();
-    let answer = t.answer;
-    tell(answer);
-    let next = t.device;
-    Bench {
-        device: next,
-        bill: bill,
-        meters: m,
-    }
-}
-
-// A shift report: the one distance that the script expects, or 0.
-fn shift<'a>(b: Bench, on: &'a [u8], ext: &'a [u8], va: u32) -> Bench {
-    let device = b.device;
-    let r = device.shift_report(VirtualAddress(va), on, 0, ext, BASE);
-    let s = r.shift;
-    match s {
-        Shift::Distance(z) => {
-            if z == 0x10010000 {
-                show::said(102, 0x10010000);
-            } else {
-                show::said(102, 0);
-            }
-        }
-        Shift::Fault => show::said(21, 0),
-        Shift::Refused(k) => show::said(k as u64, 0),
-    }
-    b
+// What a call said, as a number and a value.
+fn tell(said: Said) {
+    let mut out = [0u8; 16];
+    answers::put_said(&mut out, 0, said);
+    show::said(wire::word_at(&out, 0) as u64, wire::word_at(&out, 8) as u64);
 }
 
 // The victim set to 32, which no call does.
@@ -357,33 +268,33 @@ fn spoil(b: Bench) -> Bench {
     bad
 }
 
-// A price that is too high.
-fn dear() -> Prices {
-    Prices {
-        onchip: Price::Flat(4096.5),
-        external: Price::Flat(0.0),
-    }
-}
-
 // One call of the script.
-fn call<'a>(b: Bench, on: &'a [u8], ext: &'a [u8], step: u64) -> Bench {
+fn call(b: Bench, ext: &[u8], step: u64) -> Bench {
     let what = (step / 281474976710656) as u32;
-    let x = (step / 65536 % 4294967296) as u32;
-    let v = (step % 65536) as u16;
     name(what);
     if what == 10 {
         return spoil(b);
     }
+    asked(
+        b,
+        ext,
+        what,
+        (step / 65536 % 4294967296) as u32,
+        (step % 65536) as u16,
+    )
+}
+
+// A call by its numbers, which are shown with what it said.
+fn asked(b: Bench, ext: &[u8], what: u32, x: u32, v: u16) -> Bench {
     show::numbers(x as u64, v as u64);
-    match what {
-        1 => write(b, on, ext, x, v),
-        2 => read(b, x),
-        3 => request(b, on, 0, ext, prices(), x, Access::Read),
-        4 => request(b, on, 0, ext, prices(), x, Access::Write),
-        5 => drop(b),
-        6 => shift(b, on, ext, x),
-        7 => request(b, on, 2, ext, prices(), x, Access::Read),
-        8 => request(b, on, BASE, ext, prices(), x, Access::Read),
-        _ => request(b, on, 0, ext, dear(), x, Access::Read),
-    }
+    let s = stepped(b, ext, what, call_of(what, x, v));
+    let said = s.said;
+    tell(said);
+    s.bench
+}
+
+// A call made.
+fn stepped(b: Bench, ext: &[u8], what: u32, call: Call) -> Stepped {
+    let on = [0u8; 16];
+    b.step(call, &on, base(what), ext, BASE, prices(what))
 }

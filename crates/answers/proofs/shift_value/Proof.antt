@@ -1,4 +1,5 @@
-use Rattle.answers.specs.Answers.{twos, shiftValue}
+use Rattle.signed.specs.Signed.{twos}
+use Rattle.answers.specs.Answers.{shiftValue}
 use mir.ValLaws.{toZ-ofZ}
 use mir.Syntax.{w64}
 use mathlib.Core.Path.{sym, _∙_, ap}

@@ -1,7 +1,5 @@
-use Rattle.run.specs.Run.{ran}
-use Rattle.capi.specs.Boundary.{builtWord, buildRan}
-use Rattle.builder.specs.Build.{Outcome}
-use mathlib.Core.Path.{ap₂, _∙_, ap}
+use Rattle.capi.proofs.Indices.{built-ran}
+use denote.Ref.{now}
 use borrow.Author.Needs.{needs}
 use Rattle.capi.proofs.nx_build.Statement.{statement}
 use Rattle.capi.proofs.nx_build.Tie as tie
@@ -16,8 +14,8 @@ same-length : tie.Need-same-length
 same-length c = search needs
 
 returns : tie.Need-returns
-unfolding buildRan
-returns c = ap₂ ran (c .built-number .ensures ∙ ap (λ (o : Outcome). builtWord (o .answer)) (c .before .before .before .build .ensures)) (ap (λ (o : Outcome). o .memory) (c .before .before .before .build .ensures))
+returns c = let x = c .before .before .before .before .before .before .before .args in
+    built-ran (now (x .records)) (x .base) (now (x .memory)) _ _ _ (c .built-number .ensures) (c .before .before .before .build .ensures)
 
 pub nx-build-spec : {M : Type 1} → statement M
 nx-build-spec = tie.close (tie.spec build-requires built-number-requires same-length returns)

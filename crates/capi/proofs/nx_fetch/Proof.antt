@@ -1,10 +1,7 @@
-use Rattle.capi.proofs.Offsets.{offset-small}
-use Rattle.capi.specs.Boundary.{offsetOf, placeNumber, fetchOf}
-use Rattle.memory.specs.declared.Place.{Place}
+use Rattle.capi.proofs.Offsets.{fetched-number}
 use Rattle.memory.specs.Memory.{lent, wordOf}
-use mathlib.Core.Path.{ap₂, sym, _∙_, ap, subst}
+use mathlib.Core.Path.{_∙_, ap}
 use denote.Ref.{now}
-use Prim.Native.Nat.{_^_, _<_}
 use borrow.Author.Needs.{needs}
 use Rattle.capi.proofs.nx_fetch.Statement.{statement}
 use Rattle.capi.proofs.nx_fetch.Tie as tie
@@ -19,12 +16,11 @@ word-of-requires : tie.Need-word-of-requires
 word-of-requires c κs = search needs
 
 place-number-requires : tie.Need-place-number-requires
-place-number-requires c κs = let x = c .before .before .before .before .before .args in
-    subst (λ (q : Place). offsetOf q < 2 ^ 28) (sym (c .before .locate .ensures)) (offset-small (lent (now (x .on)) (x .onbase) (now (x .ext)) (x .extbase)) (x .address))
+place-number-requires c κs = search needs
 
 returns : tie.Need-returns
-unfolding fetchOf
-returns c = c .place-number .ensures ∙ ap₂ placeNumber (c .before .before .locate .ensures) (c .before .word-of .ensures ∙ ap wordOf (c .before .before .before .fetch .ensures .0))
+returns c = let x = c .before .before .before .before .before .before .args in
+    fetched-number (lent (now (x .on)) (x .onbase) (now (x .ext)) (x .extbase)) (x .address) _ _ _ (c .place-number .ensures) (c .before .before .locate .ensures) (c .before .word-of .ensures ∙ ap wordOf (c .before .before .before .fetch .ensures .0))
 
 pub nx-fetch-spec : {M : Type 1} → statement M
 nx-fetch-spec =

@@ -2,6 +2,7 @@ use mathlib.Core.Path.{sym, subst}
 use lib.Dec.{T}
 use lib.Ieee.{ofBits, neg}
 use borrow.Author.Needs.{needs}
+use borrow.Author.Needs.{needs}
 use Rattle.demo.proofs.amount.Statement.{statement}
 use Rattle.demo.proofs.amount.Tie as tie
 
@@ -9,8 +10,8 @@ truncating-f64-to-u64-requires : tie.Need-truncating-f64-to-u64-requires
 unfolding ofBits neg
 truncating-f64-to-u64-requires c κs = (subst T (sym (c .before .if1 .taken)) tt, subst T (sym (c .if2 .taken)) tt)
 
-whole-requires : tie.Need-whole-requires
-whole-requires c κs = search needs
+decimal-requires : tie.Need-decimal-requires
+decimal-requires c κs = search needs
 
 returns : tie.Need-returns
 returns c = search needs
@@ -23,4 +24,5 @@ returns-3 c = search needs
 
 pub amount-spec : {M : Type 1} → statement M
 amount-spec =
-    tie.close (tie.spec truncating-f64-to-u64-requires whole-requires returns returns-2 returns-3)
+    tie.close
+    (tie.spec truncating-f64-to-u64-requires decimal-requires returns returns-2 returns-3)

@@ -4,52 +4,34 @@ use Rattle.demo.proofs.session.Statement.{statement}
 use Rattle.demo.proofs.session.Tie as tie
 
 abbrev Inv-loop : tie.InvT-loop
-Inv-loop list on ext bench₀ i₀ bench i = i ≤ 21
+Inv-loop list ext b₀ i₀ b i = i ≤ 21
 
 abbrev μ-loop : tie.MeasureT-loop
-μ-loop list on ext bench₀ i₀ bench i = 21 - i
+μ-loop list ext b₀ i₀ b i = 21 - i
+
+fresh-requires : tie.Need-fresh-requires Inv-loop μ-loop
+fresh-requires c κs = search needs
 
 loop-holds : tie.Need-loop-holds Inv-loop μ-loop
 loop-holds c = search needs
 
-mul-step : tie.Need-mul-step Inv-loop μ-loop
-mul-step c = search needs
-
-array-read-step : tie.Need-array-read-step Inv-loop μ-loop
-array-read-step c = search needs
+step-at-requires : tie.Need-step-at-requires Inv-loop μ-loop
+step-at-requires c κs = search needs
 
 what-of-requires : tie.Need-what-of-requires Inv-loop μ-loop
 what-of-requires c κs = search needs
 
+place-of-requires : tie.Need-place-of-requires Inv-loop μ-loop
+place-of-requires c κs = search needs
+
 value-of-requires : tie.Need-value-of-requires Inv-loop μ-loop
 value-of-requires c κs = search needs
 
-question-requires : tie.Need-question-requires Inv-loop μ-loop
-question-requires c κs = search needs
+asked-requires : tie.Need-asked-requires Inv-loop μ-loop
+asked-requires c κs = search needs
 
-what-of-requires-2 : tie.Need-what-of-requires-2 Inv-loop μ-loop
-what-of-requires-2 c κs = search needs
-
-value-of-requires-2 : tie.Need-value-of-requires-2 Inv-loop μ-loop
-value-of-requires-2 c κs = search needs
-
-says-requires : tie.Need-says-requires Inv-loop μ-loop
-says-requires c κs = search needs
-
-what-of-requires-3 : tie.Need-what-of-requires-3 Inv-loop μ-loop
-what-of-requires-3 c κs = search needs
-
-value-of-requires-3 : tie.Need-value-of-requires-3 Inv-loop μ-loop
-value-of-requires-3 c κs = search needs
-
-call-requires : tie.Need-call-requires Inv-loop μ-loop
-call-requires c κs = search needs
-
-remark-of-requires : tie.Need-remark-of-requires Inv-loop μ-loop
-remark-of-requires c κs = search needs
-
-remark-requires : tie.Need-remark-requires Inv-loop μ-loop
-remark-requires c κs = search needs
+after-requires : tie.Need-after-requires Inv-loop μ-loop
+after-requires c κs = search needs
 
 add-i : tie.Need-add-i Inv-loop μ-loop
 add-i c = search needs
@@ -60,6 +42,12 @@ loop-less c = search needs
 loop-again : tie.Need-loop-again Inv-loop μ-loop
 loop-again c = search needs
 
+total-requires : tie.Need-total-requires Inv-loop μ-loop
+total-requires c κs = search needs
+
+paid-requires : tie.Need-paid-requires Inv-loop μ-loop
+paid-requires c κs = search needs
+
 returns : tie.Need-returns Inv-loop μ-loop
 returns c = search needs
 
@@ -69,21 +57,17 @@ session-spec =
     (tie.spec
     Inv-loop
     μ-loop
+    fresh-requires
     loop-holds
-    mul-step
-    array-read-step
+    step-at-requires
     what-of-requires
+    place-of-requires
     value-of-requires
-    question-requires
-    what-of-requires-2
-    value-of-requires-2
-    says-requires
-    what-of-requires-3
-    value-of-requires-3
-    call-requires
-    remark-of-requires
-    remark-requires
+    asked-requires
+    after-requires
     add-i
     loop-less
     loop-again
+    total-requires
+    paid-requires
     returns)

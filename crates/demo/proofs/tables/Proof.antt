@@ -4,25 +4,22 @@ use Rattle.demo.proofs.tables.Statement.{statement}
 use Rattle.demo.proofs.tables.Tie as tie
 
 abbrev Inv-loop : tie.InvT-loop
-Inv-loop on ext i₀ i = i ≤ 16
+Inv-loop ext i₀ i = i ≤ 16
 
 abbrev μ-loop : tie.MeasureT-loop
-μ-loop on ext i₀ i = 16 - i
+μ-loop ext i₀ i = 16 - i
 
 loop-holds : tie.Need-loop-holds Inv-loop μ-loop
 loop-holds c = search needs
 
-mul-offset : tie.Need-mul-offset Inv-loop μ-loop
-mul-offset c = search needs
+cast-first-level : tie.Need-cast-first-level Inv-loop μ-loop
+cast-first-level c = search needs
 
-add-at : tie.Need-add-at Inv-loop μ-loop
-add-at c = search needs
+mul-word-at : tie.Need-mul-word-at Inv-loop μ-loop
+mul-word-at c = search needs
 
-fetch-requires : tie.Need-fetch-requires Inv-loop μ-loop
-fetch-requires c κs = search needs
-
-word-of-requires : tie.Need-word-of-requires Inv-loop μ-loop
-word-of-requires c κs = search needs
+word-at-requires : tie.Need-word-at-requires Inv-loop μ-loop
+word-at-requires c κs = search needs
 
 first-level-requires : tie.Need-first-level-requires Inv-loop μ-loop
 first-level-requires c κs = search needs
@@ -46,10 +43,9 @@ tables-spec =
     Inv-loop
     μ-loop
     loop-holds
-    mul-offset
-    add-at
-    fetch-requires
-    word-of-requires
+    cast-first-level
+    mul-word-at
+    word-at-requires
     first-level-requires
     add-i
     loop-less

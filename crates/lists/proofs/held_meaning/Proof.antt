@@ -25,7 +25,7 @@ returns-2 : tie.Need-returns-2
 returns-2 c = sym (ap (λ h. heldMeaning h (c .before .before .before .before .before .args .va) (c .before .before .before .before .before .args .a)) (c .before .before .before .h .given .1) ∙ pick-no _ _ _ (sym (c .before .permitted .ensures) ∙ c .if1 .left))
 
 returns-3 : tie.Need-returns-3
-returns-3 c = search needs
+returns-3 c = sym (ap (λ h. heldMeaning h (c .before .before .args .va) (c .before .before .args .a)) (c .enum-told .given .1))
 
 pub held-meaning-spec : {M : Type 1} → statement M
 held-meaning-spec =
@@ -35,6 +35,6 @@ held-meaning-spec =
     permitted-requires
     byte-of-requires
     returns
-    enum-told
     returns-2
+    enum-told
     returns-3)

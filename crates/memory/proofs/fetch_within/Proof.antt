@@ -1,11 +1,7 @@
-use lib.ListN.{take, drop}
-use native.Mathlib.Nat.{add-sub-cancel-left}
 use Rattle.memory.proofs.Places.{inside-within, at-start}
 use Rattle.memory.specs.Memory.{lent, partAt, sourceOf, Inside}
 use mathlib.Core.Path.{sym, _∙_, ap, subst}
 use denote.Ref.{now}
-use native.Mathlib.Omega.{arith}
-use Prim.Native.Nat.{ℕ}
 use borrow.Author.Needs.{needs}
 use Rattle.memory.proofs.fetch_within.Statement.{statement}
 use Rattle.memory.proofs.fetch_within.Tie as tie
@@ -16,8 +12,17 @@ locate-within-requires c κs = search needs
 enum-known-p : tie.Need-enum-known-p
 enum-known-p c = search needs
 
-add-result : tie.Need-add-result
-add-result c = omega (arith, subst (Inside _ _) (sym (c .before .before .before .locate-within .ensures) ∙ c .before .p .given .1) (inside-within _ _) .0)
+four-requires : tie.Need-four-requires
+four-requires c κs = subst (Inside _ _) (sym (c .before .before .before .locate-within .ensures) ∙ c .before .p .given .1) (inside-within _ _) .0
+
+enum-known-p-2 : tie.Need-enum-known-p-2
+enum-known-p-2 c = search needs
+
+four-requires-2 : tie.Need-four-requires-2
+four-requires-2 c κs = subst (Inside _ _) (sym (c .before .before .before .locate-within .ensures) ∙ c .before .p2 .given .1) (inside-within _ _) .0
+
+enum-told : tie.Need-enum-told
+enum-told c = search needs
 
 sub-result : tie.Need-sub-result
 sub-result c = search needs
@@ -26,49 +31,20 @@ part-result-start : tie.Need-part-result-start
 part-result-start c = search needs
 
 part-result-end : tie.Need-part-result-end
-part-result-end c = subst (Inside _ _) (sym (c .before .before .before .locate-within .ensures) ∙ c .before .p .given .1) (inside-within _ _) .0
-
-enum-known-p-2 : tie.Need-enum-known-p-2
-enum-known-p-2 c = search needs
-
-add-result-2 : tie.Need-add-result-2
-add-result-2 c = omega (arith, subst (Inside _ _) (sym (c .before .before .before .locate-within .ensures) ∙ c .before .p2 .given .1) (inside-within _ _) .0)
-
-sub-result-2 : tie.Need-sub-result-2
-sub-result-2 c = search needs
-
-part-result-start-2 : tie.Need-part-result-start-2
-part-result-start-2 c = search needs
-
-part-result-end-2 : tie.Need-part-result-end-2
-part-result-end-2 c = subst (Inside _ _) (sym (c .before .before .before .locate-within .ensures) ∙ c .before .p2 .given .1) (inside-within _ _) .0
-
-enum-told : tie.Need-enum-told
-enum-told c = search needs
-
-sub-result-3 : tie.Need-sub-result-3
-sub-result-3 c = search needs
-
-part-result-start-3 : tie.Need-part-result-start-3
-part-result-start-3 c = search needs
-
-part-result-end-3 : tie.Need-part-result-end-3
-part-result-end-3 c = search needs
+part-result-end c = search needs
 
 returns : tie.Need-returns
 returns c = let a = c .before .before .before .before .before .before .before .args in
-    let k = c .before .before .p .given .0 .0 in
     let e = sym (c .before .before .p .given .1) ∙ c .before .before .before .before .locate-within .ensures in (
-      ap (λ (j : ℕ). take j (drop k (now (a .on)))) (add-sub-cancel-left k 4) ∙ ap (partAt (lent (now (a .on)) (a .onbase) (now (a .ext)) (a .extbase))) e,
-      ap (sourceOf (a .on) (a .ext)) e,
+      c .four .ensures .0 ∙ ap (partAt (lent (now (a .on)) (a .onbase) (now (a .ext)) (a .extbase))) e,
+      c .four .ensures .1 ∙ ap (sourceOf (a .on) (a .ext)) e,
     )
 
 returns-2 : tie.Need-returns-2
 returns-2 c = let a = c .before .before .before .before .before .before .before .args in
-    let k = c .before .before .p2 .given .0 .0 in
     let e = sym (c .before .before .p2 .given .1) ∙ c .before .before .before .before .locate-within .ensures in (
-      ap (λ (j : ℕ). take j (drop k (now (a .ext)))) (add-sub-cancel-left k 4) ∙ ap (partAt (lent (now (a .on)) (a .onbase) (now (a .ext)) (a .extbase))) e,
-      ap (sourceOf (a .on) (a .ext)) e,
+      c .four2 .ensures .0 ∙ ap (partAt (lent (now (a .on)) (a .onbase) (now (a .ext)) (a .extbase))) e,
+      c .four2 .ensures .1 ∙ ap (sourceOf (a .on) (a .ext)) e,
     )
 
 returns-3 : tie.Need-returns-3
@@ -84,19 +60,13 @@ fetch-within-spec =
     (tie.spec
     locate-within-requires
     enum-known-p
-    add-result
+    four-requires
+    enum-known-p-2
+    four-requires-2
+    enum-told
     sub-result
     part-result-start
     part-result-end
-    enum-known-p-2
-    add-result-2
-    sub-result-2
-    part-result-start-2
-    part-result-end-2
-    enum-told
-    sub-result-3
-    part-result-start-3
-    part-result-end-3
     returns
     returns-2
     returns-3)

@@ -12,41 +12,41 @@ use Rattle.page.proofs.made.Tie as tie
 page-start-requires : tie.Need-page-start-requires
 page-start-requires c κs = search needs
 
-page-start-requires-2 : tie.Need-page-start-requires-2
-page-start-requires-2 c κs = search needs
-
-add-t8 : tie.Need-add-t8
-add-t8 c = search needs
+add-cam : tie.Need-add-cam
+add-cam c = search needs
 
 type-of-requires : tie.Need-type-of-requires
 type-of-requires c κs = search needs
 
-add-t10 : tie.Need-add-t10
-add-t10 c = record { fits = omega (arith, c .type-of .ensures, typeOf-lt (c .before .before .before .args .k)) }
+add-cam-2 : tie.Need-add-cam-2
+add-cam-2 c = record { fits = omega (arith, c .type-of .ensures, typeOf-lt (c .before .before .args .k)) }
 
-mul-t12 : tie.Need-mul-t12
-mul-t12 c = search needs
+page-start-requires-2 : tie.Need-page-start-requires-2
+page-start-requires-2 c κs = search needs
 
-add-t13 : tie.Need-add-t13
-add-t13 c = record { fits = omega (arith, c .before .page-start2 .ensures, start-1024 (c .before .before .before .args .k) (c .before .before .before .args .frame .0), upper-le (lowBits (c .before .before .before .args .k)) (c .before .before .before .args .frame .0)) }
+mul-ram : tie.Need-mul-ram
+mul-ram c = search needs
+
+add-ram : tie.Need-add-ram
+add-ram c = record { fits = omega (arith, c .page-start2 .ensures, start-1024 (c .before .before .before .args .k) (c .before .before .before .args .frame .0), upper-le (lowBits (c .before .before .before .args .k)) (c .before .before .before .args .frame .0)) }
 
 abbrev words : ℕ → ℕ → Words
 words x y = record { cam = x; ram = y }
 
 returns : tie.Need-returns
 unfolding madeCam madeRam
-returns c = ap₂ words (ap₂ (λ (p t : ℕ). p / 64 + 4 + t) (c .before .before .page-start .ensures) (c .type-of .ensures))
-    (ap (λ (p : ℕ). p + 256 * (c .before .before .before .args .access % 4)) (c .before .page-start2 .ensures))
+returns c = ap₂ words (ap₂ (λ (p t : ℕ). p / 64 + 4 + t) (c .before .before .page-start .ensures) (c .before .type-of .ensures))
+    (ap (λ (p : ℕ). p + 256 * (c .before .before .before .args .access % 4)) (c .page-start2 .ensures))
 
 pub made-spec : {M : Type 1} → statement M
 made-spec =
     tie.close
     (tie.spec
     page-start-requires
-    page-start-requires-2
-    add-t8
+    add-cam
     type-of-requires
-    add-t10
-    mul-t12
-    add-t13
+    add-cam-2
+    page-start-requires-2
+    mul-ram
+    add-ram
     returns)

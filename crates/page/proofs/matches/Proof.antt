@@ -1,7 +1,6 @@
 use Rattle.page.proofs.Slot.{lowBits-le, lowBits-ge, matches-valid, off-matches}
 use Rattle.page.specs.Words.{lowBits}
 use mathlib.Core.Path.{sym, _∙_, ap}
-use borrow.Author.Tests.{not-true, not-false}
 use native.Mathlib.Omega.{arith}
 use borrow.Author.Needs.{needs}
 use Rattle.page.proofs.matches.Statement.{statement}
@@ -9,9 +8,6 @@ use Rattle.page.proofs.matches.Tie as tie
 
 valid-requires : tie.Need-valid-requires
 valid-requires c κs = search needs
-
-returns : tie.Need-returns
-returns c = sym (off-matches _ _ (sym (c .before .valid .ensures) ∙ not-true _ (c .if1 .taken)))
 
 kind-of-requires : tie.Need-kind-of-requires
 kind-of-requires c κs = search needs
@@ -28,18 +24,21 @@ shr-result c = omega (arith, c .before .low-bits .ensures, lowBits-le (c .before
 shr-result-2 : tie.Need-shr-result-2
 shr-result-2 c = omega (arith, c .before .low-bits .ensures, lowBits-le (c .before .before .kind-of .result))
 
+returns : tie.Need-returns
+returns c = matches-valid _ _ _ (c .before .low-bits .ensures ∙ ap lowBits (c .before .before .kind-of .ensures)) (sym (c .before .before .before .before .valid .ensures) ∙ c .before .before .before .if1 .taken)
+
 returns-2 : tie.Need-returns-2
-returns-2 c = matches-valid _ _ _ (c .before .low-bits .ensures ∙ ap lowBits (c .before .before .kind-of .ensures)) (sym (c .before .before .before .before .valid .ensures) ∙ not-false _ (c .before .before .before .if1 .left))
+returns-2 c = sym (off-matches _ _ (sym (c .before .valid .ensures) ∙ c .if1 .left))
 
 pub matches-spec : {M : Type 1} → statement M
 matches-spec =
     tie.close
     (tie.spec
     valid-requires
-    returns
     kind-of-requires
     low-bits-requires
     sub-n
     shr-result
     shr-result-2
+    returns
     returns-2)

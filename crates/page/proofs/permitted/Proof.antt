@@ -17,4 +17,4 @@ returns-2 : tie.Need-returns-2
 returns-2 c = sym (ap (permits (c .before .before .args .bits)) (c .enum-told2 .given .1))
 
 pub permitted-spec : {M : Type 1} → statement M
-permitted-spec = tie.close (tie.spec enum-told enum-told-2 returns returns-2)
+permitted-spec = tie.close (tie.spec enum-told returns enum-told-2 returns-2)

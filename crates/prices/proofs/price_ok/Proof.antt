@@ -1,6 +1,7 @@
 use Rattle.prices.specs.Prices.{every, priceOk}
-use mathlib.Core.Path.{sym, _∙_, ap}
-use Rattle.page.proofs.Picks.{and-yes, and-no}
+use mathlib.Core.Path.{sym, _∙_, ap, ap₂}
+use mathlib.Core.Bool.{_&&_}
+use Rattle.page.proofs.Picks.{and-is}
 use borrow.Author.Needs.{needs}
 use Rattle.prices.proofs.price_ok.Statement.{statement}
 use Rattle.prices.proofs.price_ok.Tie as tie
@@ -11,6 +12,10 @@ enum-known-p c = search needs
 figure-ok-requires : tie.Need-figure-ok-requires
 figure-ok-requires c κs = search needs
 
+returns : tie.Need-returns
+unfolding every
+returns c = c .figure-ok .ensures ∙ sym (ap priceOk (c .before .before .p .given .1))
+
 enum-known-p-2 : tie.Need-enum-known-p-2
 enum-known-p-2 c = search needs
 
@@ -20,17 +25,9 @@ figure-ok-requires-2 c κs = search needs
 figure-ok-requires-3 : tie.Need-figure-ok-requires-3
 figure-ok-requires-3 c κs = search needs
 
-returns : tie.Need-returns
-unfolding every
-returns c = c .figure-ok .ensures ∙ sym (ap priceOk (c .before .before .p .given .1))
-
 returns-2 : tie.Need-returns-2
 unfolding every
-returns-2 c = c .figure-ok3 .ensures ∙ sym (ap priceOk (c .before .before .before .before .p2 .given .1) ∙ and-yes _ _ (sym (c .before .before .figure-ok2 .ensures) ∙ c .before .if1 .taken))
-
-returns-3 : tie.Need-returns-3
-unfolding every
-returns-3 c = sym (ap priceOk (c .before .before .before .p2 .given .1) ∙ and-no _ _ (sym (c .before .figure-ok2 .ensures) ∙ c .if1 .left))
+returns-2 c = ap₂ _&&_ (c .before .figure-ok2 .ensures) (c .figure-ok3 .ensures) ∙ and-is _ _ ∙ sym (ap priceOk (c .before .before .before .p2 .given .1))
 
 pub price-ok-spec : {M : Type 1} → statement M
 price-ok-spec =
@@ -38,9 +35,8 @@ price-ok-spec =
     (tie.spec
     enum-known-p
     figure-ok-requires
+    returns
     enum-known-p-2
     figure-ok-requires-2
     figure-ok-requires-3
-    returns
-    returns-2
-    returns-3)
+    returns-2)

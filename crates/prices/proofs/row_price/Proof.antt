@@ -25,4 +25,4 @@ unfolding rowPrice
 returns-3 c = rw (c .before .before .last .given .1) (sym (pick-no _ _ _ (ne-eqb _ _ (c .if1 .left))))
 
 pub row-price-spec : {M : Type 1} → statement M
-row-price-spec = tie.close (tie.spec enum-told enum-known-last returns returns-2 returns-3)
+row-price-spec = tie.close (tie.spec enum-told returns enum-known-last returns-2 returns-3)

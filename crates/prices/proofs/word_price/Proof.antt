@@ -22,4 +22,4 @@ returns-2 c = rw (c .before .before .p2 .given .1, c .row-price .ensures)
 
 pub word-price-spec : {M : Type 1} → statement M
 word-price-spec =
-    tie.close (tie.spec enum-known-p enum-known-p-2 row-price-requires returns returns-2)
+    tie.close (tie.spec enum-known-p returns enum-known-p-2 row-price-requires returns-2)

@@ -1,7 +1,7 @@
 use Rattle.run.specs.Run.{sessionWords, ran}
 use Rattle.session.specs.Bench.{stepped}
 use Rattle.calls.proofs.Rest.{calls-all}
-use Rattle.calls.specs.declared.Call.{Call}
+use Rattle.forms.specs.declared.Call.{Call}
 use Prim.Native.Nat.{ℕ, _+_, _*_, _≤_, _-_}
 use mathlib.Core.List.{List}
 use Rattle.run.proofs.Turns.{left, run-turn, run-end}

@@ -4,16 +4,16 @@ use Rattle.sheet_run.proofs.coarse.Statement.{statement}
 use Rattle.sheet_run.proofs.coarse.Tie as tie
 
 abbrev Inv-loop : tie.InvT-loop
-Inv-loop on ext j₀ t4 j = j ≤ 33
+Inv-loop ext j₀ j = j ≤ 33
 
 abbrev μ-loop : tie.MeasureT-loop
-μ-loop on ext j₀ t4 j = 33 - j
+μ-loop ext j₀ j = 33 - j
 
 loop-holds : tie.Need-loop-holds Inv-loop μ-loop
 loop-holds c = search needs
 
-slice-aggregate-word : tie.Need-slice-aggregate-word Inv-loop μ-loop
-slice-aggregate-word c = search needs
+label-requires : tie.Need-label-requires Inv-loop μ-loop
+label-requires c κs = search needs
 
 mul-word : tie.Need-mul-word Inv-loop μ-loop
 mul-word c = search needs
@@ -43,7 +43,7 @@ coarse-spec =
     Inv-loop
     μ-loop
     loop-holds
-    slice-aggregate-word
+    label-requires
     mul-word
     add-word
     word-requires

@@ -1,6 +1,7 @@
 use mathlib.Core.List.{List, _++_}
 use Rattle.wire.specs.Words.{written}
-use Rattle.state.specs.State.{deviceWords, meterWords, billWords}
+use Rattle.state.specs.State.{deviceWords}
+use Rattle.parts.specs.Parts.{meterWords, billWords}
 use Rattle.state.proofs.Lengths.{device-length}
 use Rattle.state.proofs.Parts.{two}
 use mathlib.Core.Path.{refl, _∙_, ap}

@@ -1,6 +1,7 @@
 use mathlib.Core.List.{List}
 use Rattle.wire.specs.Words.{written}
-use Rattle.state.specs.State.{registerWords, slotWords, pendingWords, lockWord}
+use Rattle.state.specs.State.{registerWords, slotWords, pendingWords}
+use Rattle.parts.specs.Parts.{lockWord}
 use Rattle.state.proofs.Lengths.{slots-length, pending-length}
 use Rattle.state.proofs.Parts.{three}
 use mathlib.Core.Path.{refl, _∙_, ap}

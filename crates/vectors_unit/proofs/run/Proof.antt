@@ -4,19 +4,19 @@ use Rattle.vectors_unit.proofs.run.Statement.{statement}
 use Rattle.vectors_unit.proofs.run.Tie as tie
 
 abbrev Inv-loop : tie.InvT-loop
-Inv-loop on ext bench₀ i₀ bench i = i ≤ 131
+Inv-loop ext bench₀ i₀ bench i = i ≤ 131
 
 abbrev μ-loop : tie.MeasureT-loop
-μ-loop on ext bench₀ i₀ bench i = 131 - i
+μ-loop ext bench₀ i₀ bench i = 131 - i
+
+fresh-requires : tie.Need-fresh-requires Inv-loop μ-loop
+fresh-requires c κs = search needs
 
 loop-holds : tie.Need-loop-holds Inv-loop μ-loop
 loop-holds c = search needs
 
-mul-step : tie.Need-mul-step Inv-loop μ-loop
-mul-step c = search needs
-
-array-read-step : tie.Need-array-read-step Inv-loop μ-loop
-array-read-step c = search needs
+step-at-requires : tie.Need-step-at-requires Inv-loop μ-loop
+step-at-requires c κs = search needs
 
 call-requires : tie.Need-call-requires Inv-loop μ-loop
 call-requires c κs = search needs
@@ -30,6 +30,9 @@ loop-less c = search needs
 loop-again : tie.Need-loop-again Inv-loop μ-loop
 loop-again c = search needs
 
+total-requires : tie.Need-total-requires Inv-loop μ-loop
+total-requires c κs = search needs
+
 returns : tie.Need-returns Inv-loop μ-loop
 returns c = search needs
 
@@ -39,11 +42,12 @@ run-spec =
     (tie.spec
     Inv-loop
     μ-loop
+    fresh-requires
     loop-holds
-    mul-step
-    array-read-step
+    step-at-requires
     call-requires
     add-i
     loop-less
     loop-again
+    total-requires
     returns)

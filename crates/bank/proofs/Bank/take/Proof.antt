@@ -20,4 +20,4 @@ returns-2 : tie.Need-returns-2
 returns-2 c = c .fill2 .ensures ∙ ap (entryFilled (c .before .before .before .before .args .self)) (sym (c .before .before .fill .given .1))
 
 pub take-spec : {M : Type 1} → statement M
-take-spec = tie.close (tie.spec enum-told enum-known-fill fill-requires returns returns-2)
+take-spec = tie.close (tie.spec enum-told returns enum-known-fill fill-requires returns-2)

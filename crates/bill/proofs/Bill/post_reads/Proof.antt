@@ -25,7 +25,7 @@ post-word-requires-3 : tie.Need-post-word-requires-3
 post-word-requires-3 c κs = search needs
 
 returns : tie.Need-returns
-returns c = search needs
+returns c = let a = c .before .before .args in sym (ap (readsPosted (a .prices) (a .self)) (c .enum-told .given .1))
 
 returns-2 : tie.Need-returns-2
 returns-2 c = let a = c .before .before .before .before .args in c .post-word .ensures ∙ sym (ap (readsPosted (a .prices) (a .self)) (c .before .before .reads .given .1))
@@ -38,11 +38,11 @@ post-reads-spec =
     tie.close
     (tie.spec
     enum-told
+    returns
     enum-known-reads
     post-word-requires
+    returns-2
     enum-known-reads-2
     post-word-requires-2
     post-word-requires-3
-    returns
-    returns-2
     returns-3)

@@ -20,7 +20,7 @@ post-attempt-requires-2 : tie.Need-post-attempt-requires-2
 post-attempt-requires-2 c κs = search needs
 
 returns : tie.Need-returns
-returns c = search needs
+returns c = sym (ap (seenPosted (c .before .before .args .self)) (c .enum-told .given .1))
 
 returns-2 : tie.Need-returns-2
 returns-2 c = c .post-attempt .ensures ∙ sym (ap (seenPosted (c .before .before .before .args .self)) (c .before .enum-told2 .given .1))
@@ -33,10 +33,10 @@ post-seen-spec =
     tie.close
     (tie.spec
     enum-told
+    returns
     enum-told-2
     post-attempt-requires
+    returns-2
     enum-told-3
     post-attempt-requires-2
-    returns
-    returns-2
     returns-3)

@@ -29,11 +29,11 @@ enum-told-3 c = search needs
 
 returns : tie.Need-returns
 unfolding placePosted
-returns c = rw (c .before .before .before .before .before .enum-told .given .1, c .read .ensures, c .before .before .word-price .ensures, c .before .before .before .before .before .before .before .row-of .ensures)
+returns c = rw (c .before .before .before .before .enum-told .given .1, c .read .ensures, c .before .before .word-price .ensures, c .before .before .before .before .before .before .row-of .ensures)
 
 returns-2 : tie.Need-returns-2
 unfolding placePosted
-returns-2 c = rw (c .before .before .before .before .before .enum-told2 .given .1, c .read2 .ensures, c .before .before .word-price2 .ensures, c .before .before .before .before .before .before .before .row-of .ensures)
+returns-2 c = rw (c .before .before .before .before .enum-told2 .given .1, c .read2 .ensures, c .before .before .word-price2 .ensures, c .before .before .before .before .before .before .row-of .ensures)
 
 returns-3 : tie.Need-returns-3
 unfolding placePosted
@@ -47,10 +47,10 @@ post-word-spec =
     enum-told
     word-price-requires
     read-requires
+    returns
     enum-told-2
     word-price-requires-2
     read-requires-2
-    enum-told-3
-    returns
     returns-2
+    enum-told-3
     returns-3)

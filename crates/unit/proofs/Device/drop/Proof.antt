@@ -1,7 +1,4 @@
-use Rattle.unit.specs.Calls.{dropOf}
-use Rattle.unit.proofs.Refusing.{refused-here, passed, passed-all}
-use mathlib.Core.Bool.{not}
-use mathlib.Core.Path.{sym, _∙_, ap}
+use Rattle.unit.proofs.Drops.{drop-is}
 use borrow.Author.Needs.{needs}
 use Rattle.unit.proofs.Device.drop.Statement.{statement}
 use Rattle.unit.proofs.Device.drop.Tie as tie
@@ -9,39 +6,20 @@ use Rattle.unit.proofs.Device.drop.Tie as tie
 in-range-requires : tie.Need-in-range-requires
 in-range-requires c κs = search needs
 
-told-refused-requires : tie.Need-told-refused-requires
-told-refused-requires c κs = search needs
+drop-refusal-requires : tie.Need-drop-refusal-requires
+drop-refusal-requires c κs = search needs
+
+dropped-requires : tie.Need-dropped-requires
+dropped-requires c κs = search needs
+
+drop-answer-requires : tie.Need-drop-answer-requires
+drop-answer-requires c κs = search needs
 
 returns : tie.Need-returns
-unfolding dropOf
-returns c = c .told-refused .ensures ∙ sym (refused-here _ _ _ _ _ (ap not (sym (c .before .before .in-range .ensures)) ∙ c .before .if1 .taken))
-
-is-idle-requires : tie.Need-is-idle-requires
-is-idle-requires c κs = search needs
-
-told-refused-requires-2 : tie.Need-told-refused-requires-2
-told-refused-requires-2 c κs = search needs
-
-returns-2 : tie.Need-returns-2
-unfolding dropOf
-returns-2 c = c .told-refused2 .ensures ∙ sym (passed _ _ _ _ _ (ap not (sym (c .before .before .before .before .in-range .ensures)) ∙ c .before .before .before .if1 .left) ∙ refused-here _ _ _ _ _ (sym (c .before .before .is-idle .ensures) ∙ c .before .if2 .taken))
-
-done-requires : tie.Need-done-requires
-done-requires c κs = search needs
-
-returns-3 : tie.Need-returns-3
-unfolding dropOf
-returns-3 c = c .done .ensures ∙ sym (passed _ _ _ _ _ (ap not (sym (c .before .before .before .before .before .before .in-range .ensures)) ∙ c .before .before .before .before .before .if1 .left) ∙ passed _ _ _ _ _ (sym (c .before .before .before .before .is-idle .ensures) ∙ c .before .before .before .if2 .left) ∙ passed-all _ _)
+returns c =
+    drop-is (c .before .before .before .before .before .before .args .self) (c .before .before .before .in-range .result) (c .before .before .drop-refusal .result) (c .before .dropped .result) (c .drop-answer .result)
+    (c .before .before .before .in-range .ensures) (c .before .before .drop-refusal .ensures) (c .before .dropped .ensures) (c .drop-answer .ensures)
 
 pub drop-spec : {M : Type 1} → statement M
 drop-spec =
-    tie.close
-    (tie.spec
-    in-range-requires
-    told-refused-requires
-    returns
-    is-idle-requires
-    told-refused-requires-2
-    returns-2
-    done-requires
-    returns-3)
+    tie.close (tie.spec in-range-requires drop-refusal-requires dropped-requires drop-answer-requires returns)

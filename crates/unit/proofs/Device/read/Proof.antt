@@ -12,12 +12,9 @@ use Rattle.unit.proofs.Device.read.Tie as tie
 in-range-requires : tie.Need-in-range-requires
 in-range-requires c κs = search needs
 
-told-refused-requires : tie.Need-told-refused-requires
-told-refused-requires c κs = search needs
-
 returns : tie.Need-returns
 unfolding readOf
-returns c = c .told-refused .ensures ∙ sym (refused-here _ _ _ _ _ (ap not (sym (c .before .before .in-range .ensures)) ∙ c .before .if1 .taken))
+returns c = sym (refused-here _ _ _ _ _ (ap not (sym (c .before .in-range .ensures)) ∙ c .if1 .taken))
 
 value-at-requires : tie.Need-value-at-requires
 value-at-requires c κs = search needs
@@ -28,4 +25,4 @@ returns-2 c = ap (told _) (c .value-at .ensures) ∙ read-is _ _ (sym (c .before
 pub read-spec : {M : Type 1} → statement M
 read-spec =
     tie.close
-    (tie.spec in-range-requires told-refused-requires returns value-at-requires returns-2)
+    (tie.spec in-range-requires returns value-at-requires returns-2)

@@ -1,0 +1,22 @@
+-- The room that a run needs. Assumes nothing.
+use mathlib.Core.Path.{_≡_, sym, _∙_}
+use mathlib.Core.Bool.{true}
+use mathlib.Core.List.{List}
+use Prim.Native.Nat.{ℕ, _+_, _*_, _-_, _/_, _≤_}
+use native.Mathlib.Omega.{arith}
+use native.Mathlib.Decide.{decLe}
+use lib.Dec.{leb}
+use borrow.Author.Tests.{le-leb, lt-leb, leb-true}
+use Rattle.page.proofs.Picks.{and-right}
+use Rattle.asked.specs.Asked.{answerSize, stateSize, runSize, mayRun}
+
+-- as many answers as fit beside a state
+pub room-for : (n room : ℕ) → stateSize ≤ room → leb n ((room - stateSize) / answerSize) ≡ leb (answerSize * n + stateSize) room
+room-for n room h = elim (decLe n ((room - stateSize) / answerSize)) [
+  | yes g ↦ le-leb n ((room - stateSize) / answerSize) g ∙ sym (le-leb (answerSize * n + stateSize) room (omega arith))
+  | no g ↦ lt-leb n ((room - stateSize) / answerSize) (omega arith) ∙ sym (lt-leb (answerSize * n + stateSize) room (omega arith))
+]
+
+pub run-fits : (calls : List ℕ) (onkind extkind room : ℕ) → mayRun calls onkind extkind room ≡ true → runSize calls ≤ room
+unfolding mayRun
+run-fits calls onkind extkind room h = leb-true _ _ (and-right _ _ (and-right _ _ (and-right _ _ h)))

@@ -1,0 +1,4 @@
+pub mod Values
+pub mod Finite
+pub mod Largest
+pub mod Smoothing

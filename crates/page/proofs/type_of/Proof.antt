@@ -1,0 +1,42 @@
+use Rattle.page.specs.Words.{typeOf}
+use mathlib.Core.Path.{sym, ap}
+use borrow.Author.Needs.{needs}
+use Rattle.page.proofs.type_of.Statement.{statement}
+use Rattle.page.proofs.type_of.Tie as tie
+
+enum-told : tie.Need-enum-told
+enum-told c = search needs
+
+returns : tie.Need-returns
+returns c = sym (ap typeOf (c .enum-told .given .1))
+
+enum-told-2 : tie.Need-enum-told-2
+enum-told-2 c = search needs
+
+returns-2 : tie.Need-returns-2
+returns-2 c = sym (ap typeOf (c .enum-told2 .given .1))
+
+enum-told-3 : tie.Need-enum-told-3
+enum-told-3 c = search needs
+
+returns-3 : tie.Need-returns-3
+returns-3 c = sym (ap typeOf (c .enum-told3 .given .1))
+
+enum-told-4 : tie.Need-enum-told-4
+enum-told-4 c = search needs
+
+returns-4 : tie.Need-returns-4
+returns-4 c = sym (ap typeOf (c .enum-told4 .given .1))
+
+pub type-of-spec : {M : Type 1} → statement M
+type-of-spec =
+    tie.close
+    (tie.spec
+    enum-told
+    returns
+    enum-told-2
+    returns-2
+    enum-told-3
+    returns-3
+    enum-told-4
+    returns-4)

@@ -1,0 +1,25 @@
+use Rattle.spans.proofs.Spans.{by-offset}
+use Rattle.spans.specs.Spans.{holds}
+use Rattle.page.proofs.Picks.{and-yes, and-no}
+use mathlib.Core.Path.{sym, _∙_}
+use borrow.Author.Tests.{le-leb, lt-leb}
+use borrow.Author.Needs.{needs}
+use Rattle.spans.proofs.held.Statement.{statement}
+use Rattle.spans.proofs.held.Tie as tie
+
+returns : tie.Need-returns
+unfolding holds
+returns c = sym (and-no _ _ (lt-leb _ _ (c .if1 .taken)))
+
+cast-result : tie.Need-cast-result
+cast-result c = search needs
+
+add-result : tie.Need-add-result
+add-result c = search needs
+
+returns-2 : tie.Need-returns-2
+unfolding holds
+returns-2 c = by-offset _ _ _ (c .if1 .left) ∙ sym (and-yes _ _ (le-leb _ _ (c .if1 .left)))
+
+pub held-spec : {M : Type 1} → statement M
+held-spec = tie.close (tie.spec returns cast-result add-result returns-2)

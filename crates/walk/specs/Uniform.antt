@@ -1,0 +1,17 @@
+-- A walk that finds a page finds it at every address of that page (01, demand 3: what makes a slot as good as a walk).
+use Rattle.page.specs.Ground.{ℕ, _/_, _^_, _<_, _≡_}
+use Rattle.page.specs.Words.{lowBits}
+use Rattle.page.specs.declared.VirtualAddress.{VirtualAddress}
+use Rattle.descriptors.specs.declared.Page.{Page}
+use Rattle.descriptors.specs.declared.Found.the-variants as D
+use Rattle.walk.specs.declared.Walked.{Walked}
+
+-- what a walk comes to at each address
+abbrev pub Look : Type 0
+Look = VirtualAddress → Walked
+
+-- where a walk below an end finds a page, it finds the same page at every address of that page
+abbrev pub Uniform : ℕ → Look → Type 0
+Uniform end look =
+    (va va′ : VirtualAddress) (p : Page) → va .0 < end → look va .found ≡ D.Page p →
+    va′ .0 / 2 ^ lowBits (p .kind) ≡ va .0 / 2 ^ lowBits (p .kind) → look va′ .found ≡ D.Page p
