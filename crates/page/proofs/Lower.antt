@@ -1,12 +1,13 @@
 -- The laws of an address's upper and lower bits, over how many the lower ones are. Assumes nothing.
 use mathlib.Core.Path.{_≡_, refl, sym, ap, ap₂, _∙_, subst}
-use mathlib.Core.Bool.{true}
+use mathlib.Core.Bool.{Bool, true, false}
 use Prim.Native.Nat.{ℕ, _+_, _-_, _*_, _/_, _%_, _^_, _≤_, _<_}
-use native.Mathlib.Nat.{div-mul-le-self, lt-of-le-of-lt, mod-eq-of-lt, mod-lt, suc-mul, mul-le-mul-right, add-zero}
+use native.Mathlib.Nat.{div-mul-le-self, div-eq-of-lt, div-lt-iff-lt-mul, lt-of-le-of-lt, mod-eq-of-lt, mod-lt, suc-mul, mul-le-mul-right, add-zero}
 use native.Mathlib.Omega.{arith}
 use lib.Pow.{shr-shr, shl-shr, split, pow-pos, pow-add, shr-lt, high, low}
-use lib.Dec.{eqb}
-use borrow.Author.Tests.{eqb-true, eq-eqb}
+use lib.Dec.{eqb, ltb}
+use lib.Bits.{bitXor, xor-shr, xor-self, xor-add-and, and-le-l, and-le-r}
+use borrow.Author.Tests.{eqb-true, eq-eqb, ne-eqb, ltb-true, ltb-false}
 use Rattle.page.specs.Low.{upper, agree, joined}
 
 module _ (n : ℕ) where
@@ -77,6 +78,24 @@ module _ (n : ℕ) where
 pub pages-agree : (m n a t : ℕ) → eqb (a / 2 ^ m / 2 ^ n) (t / 2 ^ n) ≡ agree (m + n) a (t * 2 ^ m)
 pages-agree m n a t =
     ap₂ eqb (shr-shr a m n) (ap (λ (x : ℕ). x / 2 ^ n) (sym (shl-shr t m)) ∙ shr-shr (t * 2 ^ m) m n)
+
+-- two numbers with no bit apart are equal
+xor-zero : (a b : ℕ) → bitXor a b ≡ 0 → a ≡ b
+xor-zero a b e = omega (arith, e, xor-add-and a b, and-le-l a b, and-le-r a b)
+
+-- two numbers agree above n bits exactly where the bits in which they are apart make less than 2^n
+pub apart-agree : (n a b : ℕ) → ltb (bitXor a b) (2 ^ n) ≡ agree n a b
+apart-agree n a b = by-test (ltb (bitXor a b) (2 ^ n)) refl
+  where
+    by-test : (t : Bool) → ltb (bitXor a b) (2 ^ n) ≡ t → t ≡ agree n a b
+    by-test true e = sym (eq-eqb _ _ (xor-zero (a / 2 ^ n) (b / 2 ^ n) (sym (xor-shr a b n) ∙ div-eq-of-lt (ltb-true _ _ e))))
+    by-test false e =
+        sym
+        (ne-eqb (a / 2 ^ n) (b / 2 ^ n)
+        (λ q.
+        let z : bitXor a b / 2 ^ n ≡ 0 = xor-shr a b n ∙ ap (λ (x : ℕ). bitXor x (b / 2 ^ n)) q ∙ xor-self (b / 2 ^ n) in
+        let l : bitXor a b < 1 * 2 ^ n = div-lt-iff-lt-mul (pow-pos n) .0 (omega (arith, z)) in
+        omega (arith, l, ltb-false (bitXor a b) (2 ^ n) e)))
 
 -- an upper part and a rest, each computed apart
 pub joined-parts : (n a b x y : ℕ) → x ≡ upper n a → y ≡ upper n b → x + (b - y) ≡ joined n a b

@@ -1,9 +1,10 @@
 -- What a slot's two words say after they were made, dropped or flushed. Assumes nothing.
-use mathlib.Core.Path.{_≡_, refl, sym, ap, ap₂, _∙_, subst}
-use mathlib.Core.Bool.{Bool, true, false}
+use mathlib.Core.Path.{_≡_, refl, sym, ap, ap₂, _∙_}
+use mathlib.Core.Bool.{Bool, true, false, _&&_}
 use Prim.Native.Nat.{ℕ, _+_, _-_, _*_, _/_, _%_, _^_, _<_, _≤_}
 use native.Mathlib.Omega.{arith}
-use lib.Dec.{eqb}
+use lib.Dec.{eqb, ltb}
+use lib.Bits.{bitXor}
 use borrow.Author.Tests.{eq-eqb, ne-eqb, eqb-true}
 use Rattle.page.specs.declared.Kind.{Kind}
 use Rattle.page.specs.declared.Kind.the-variants.{Section, Large, Small, Tiny}
@@ -12,8 +13,8 @@ use Rattle.page.specs.declared.PhysicalAddress.{PhysicalAddress}
 use Rattle.page.specs.Pick.{pick, _and_}
 use Rattle.page.specs.Low.{upper, agree, joined}
 use Rattle.page.specs.Words.{lowBits, typeOf, kindOf, physical, wordValid, wordPreserved, wordTag, wordAccess, wordMatches, wordAddress, wordDropped, wordFlushed, wordFlushedAt, madeCam, madeRam}
-use Rattle.page.proofs.Picks.{pick-yes, pick-no, and-yes, and-no}
-use Rattle.page.proofs.Lower.{upper-high, joined-agree, pages-agree}
+use Rattle.page.proofs.Picks.{pick-yes, pick-no, and-yes, and-no, and-is}
+use Rattle.page.proofs.Lower.{upper-high, joined-agree, apart-agree, pages-agree}
 
 -- a page is at least a tiny one and at most a section
 pub lowBits-ge : (k : Kind) → 10 ≤ lowBits k
@@ -135,13 +136,14 @@ flushed-valid w = by-kept (wordPreserved w) refl
     by-kept true e = ap wordValid (pick-yes _ _ _ e) ∙ sym (and-yes true (wordValid w) refl)
     by-kept false e = ap wordValid (pick-no _ _ _ e) ∙ dropped-off w ∙ sym (and-no false (wordValid w) refl)
 
--- the code's test, on page numbers, decides what the definition says
-pub matches-valid : (w : ℕ) (va : VirtualAddress) (n : ℕ) → n ≡ lowBits (kindOf w) → wordValid w ≡ true → eqb (va .0 / 2 ^ 10 / 2 ^ (n - 10)) (w / 16 / 2 ^ (n - 10)) ≡ wordMatches w va
+-- the code's test, on the bits in which page number and tag are apart, decides what the definition says
+pub matches-apart : (w : ℕ) (va : VirtualAddress) (t : Bool) (k : Kind) (r : ℕ) → t ≡ wordValid w → k ≡ kindOf w → r ≡ 2 ^ (lowBits k - 10)
+    → (t && ltb (bitXor (va .0 / 1024) (w / 16)) r) ≡ wordMatches w va
 unfolding wordMatches
-matches-valid w va n e h =
-    pages-agree 10 (n - 10) (va .0) (w / 16)
-    ∙ ap (λ (m : ℕ). agree m (va .0) (w / 16 * 2 ^ 10)) (rejoin n (subst (λ (m : ℕ). 10 ≤ m) (sym e) (lowBits-ge (kindOf w))) ∙ e)
-    ∙ sym (and-yes _ _ h)
-  where
-    rejoin : (n : ℕ) → 10 ≤ n → 10 + (n - 10) ≡ n
-    rejoin n h = omega arith
+matches-apart w va t k r et ek er =
+    ap₂ (λ (v : Bool) (m : ℕ). v && ltb (bitXor (va .0 / 1024) (w / 16)) m) et (er ∙ ap (λ (j : Kind). 2 ^ (lowBits j - 10)) ek)
+    ∙ and-is _ _
+    ∙ ap (λ (q : Bool). wordValid w and q)
+    (apart-agree (lowBits (kindOf w) - 10) (va .0 / 1024) (w / 16)
+    ∙ pages-agree 10 (lowBits (kindOf w) - 10) (va .0) (w / 16)
+    ∙ ap (λ (m : ℕ). agree m (va .0) (w / 16 * 2 ^ 10)) (omega (arith, lowBits-ge (kindOf w))))

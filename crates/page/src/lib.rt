@@ -1,5 +1,6 @@
 // Addresses, accesses, kinds of page, and the two words of a slot in register layout.
 ghost use mathlib.Core.Path.{_≡_};
+ghost use Prim.Native.Nat.{_-_, _^_};
 ghost use Rattle.page.specs.Low.{upper, joined};
 ghost use Rattle.page.specs.Words.{lowBits, typeOf, kindOf, permits, wordValid, wordAccess, wordMatches, wordAddress, wordDropped, wordFlushed, wordFlushedAt, madeWords};
 
@@ -102,15 +103,24 @@ pub fn access_of(ram: u32) -> u32
     ram / 256 % 4
 }
 
+// How many tiny pages a page covers.
+fn reach(k: Kind) -> u32
+    ensures { λ r. ⌜ r ≡ 2 ^ (lowBits k - 10) ⌝ }
+{
+    match k {
+        Kind::Section => return 1024,
+        Kind::Large => return 64,
+        Kind::Small => return 4,
+        Kind::Tiny => return 1,
+    }
+}
+
 // Whether a slot matches an address.
 pub fn matches(cam: u32, va: VirtualAddress) -> bool
     ensures { λ r. ⌜ r ≡ wordMatches cam va ⌝ }
 {
-    if valid(cam) {
-        let n = low_bits(kind_of(cam)) - 10;
-        return va.0 / 1024 >> n == cam / 16 >> n;
-    }
-    false
+    let apart = va.0 / 1024 ^ cam / 16;
+    valid(cam) & (apart < reach(kind_of(cam)))
 }
 
 // The physical address that a matching slot gives.
