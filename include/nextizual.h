@@ -1,0 +1,90 @@
+/* Nextizual: the memory unit's bench model and the builder of its address tables, over numbers and bytes.
+ *
+ * Link with libcapi.a (tools/native capi writes it to target/native). Every function takes any bytes and numbers, ends, and
+ * writes only what is said here; none keeps anything from one call to the next. All numbers in bytes are little-endian.
+ * A slice is a pointer and a length in bytes; no pointer is null, also where the length is 0, and `out` or `memory`, which
+ * are written, overlap nothing else that is lent in the same call. */
+#ifndef NEXTIZUAL_H
+#define NEXTIZUAL_H
+
+#include <stddef.h>
+#include <stdint.h>
+
+#ifdef __cplusplus
+extern "C" {
+#endif
+
+/* A call, 12 bytes: kind (1 byte), register offset or access (1), two zero bytes, address (4), value below 65,536 (4). Bytes
+ * that a kind does not use are zero. */
+#define NX_CALL_BYTES 12
+#define NX_WRITE 1   /* a register write: offset and value */
+#define NX_READ 2    /* a register read: offset */
+#define NX_REQUEST 3 /* a request: access and address */
+#define NX_DROP 4    /* drops the pending fault */
+#define NX_SHIFT 5   /* a shift report: address */
+
+#define NX_FOR_READING 0 /* the accesses of a request */
+#define NX_FOR_WRITING 1
+
+/* An answer, 16 bytes: number (4), four zero bytes, value (8, two's complement, 0 where there is none). The number is 0 where
+ * the call was accepted and has nothing to say, 1 to 12 where it was refused, 21 to 24 for a fault (translation, miss,
+ * permission, prefetch), or one of these: */
+#define NX_ANSWER_BYTES 16
+#define NX_ADDRESS 100  /* the value is a physical address */
+#define NX_VALUE 101    /* the value is what a register shows */
+#define NX_DISTANCE 102 /* the value is physical minus virtual */
+
+/* The state of a bench, 328 bytes:
+ *     0  prefetch, control (2 each); base (4); lock base, victim (2 each); CAM high, CAM low, RAM high, RAM low (2 each), and
+ *        the same four of the read registers
+ *    28  32 slots of 8 bytes: CAM high, CAM low, RAM high, RAM low (2 each)
+ *   284  pending fault: status as its register shows it (1; 0: nothing), access (1), two zero bytes, address (4)
+ *   292  meters: fresh requests, retries, words read (4 each)
+ *   304  bill: bits of the total and of the smoothed miss figure (8 each; a NaN is 7FF8000000000000)
+ *   320  row last read of the on-chip and of the external memory (4 each; FFFFFFFF: none) */
+#define NX_STATE_BYTES 328
+
+/* What a memory's words cost, in nanoseconds: flat (a for each word; b is not looked at), or by row (a in the row last read,
+ * b in another). */
+#define NX_FLAT 0
+#define NX_ROW 1
+
+/* Builds the tables of a list of records in `memory`, which stands at `base`. A record has 12 bytes: virtual and physical
+ * address (4 each), type (1: 0 section, 1 large, 2 small, 3 tiny), access (1: 2 read, 3 both), two zero bytes.
+ * Gives the image's length, or, where the list is refused, 2^63 + number * 2^32 + index of the record or count of records
+ * (0 for refusal 4); then `memory` is unchanged. Bytes after the image stay. */
+uint64_t nx_build(const uint8_t *records, size_t records_len, uint32_t base, uint8_t *memory, size_t memory_len);
+
+/* Runs the calls in order from a fresh device, fresh meters and a fresh bill, each with these two memories and prices. Writes
+ * an answer for each call and then the state to `out`, and gives the number of bytes written; or 0, `out` unchanged, where
+ * `calls_len` is no multiple of 12, a call is not as said, a price's kind is over 1, or `out` is too short. */
+uint64_t nx_run(const uint8_t *calls, size_t calls_len,
+                const uint8_t *on_chip, size_t on_chip_len, uint32_t on_chip_base,
+                const uint8_t *external, size_t external_len, uint32_t external_base,
+                uint32_t on_chip_kind, double on_chip_a, double on_chip_b,
+                uint32_t external_kind, double external_a, double external_b,
+                uint8_t *out, size_t out_len);
+
+/* The same from a handed-in state. The bill's figures are `total` and `misses`; the state's own 16 bytes for them are not
+ * looked at, and registers and slots are taken as they stand, in range or not. Gives 0, `out` unchanged, also where
+ * `state_len` is not 328, or the pending fault's status is none of 0, 1, 2, 4, 8, its access is over 1, or one of its two
+ * zero bytes is not zero. */
+uint64_t nx_from(const uint8_t *state, size_t state_len, double total, double misses,
+                 const uint8_t *calls, size_t calls_len,
+                 const uint8_t *on_chip, size_t on_chip_len, uint32_t on_chip_base,
+                 const uint8_t *external, size_t external_len, uint32_t external_base,
+                 uint32_t on_chip_kind, double on_chip_a, double on_chip_b,
+                 uint32_t external_kind, double external_a, double external_b,
+                 uint8_t *out, size_t out_len);
+
+/* The four bytes at a physical address, as memory * 2^60 + offset * 2^32 + word, memory 1 being the on-chip and 2 the
+ * external one; 0 where neither holds all four, or the memories are such as refusal 4 names. */
+uint64_t nx_fetch(const uint8_t *on_chip, size_t on_chip_len, uint32_t on_chip_base,
+                  const uint8_t *external, size_t external_len, uint32_t external_base,
+                  uint32_t address);
+
+#ifdef __cplusplus
+}
+#endif
+
+#endif

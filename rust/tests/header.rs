@@ -1,0 +1,51 @@
+//! `include/nextizual.h` and the proved archive, from C: `examples/list_a.c` is
+//! compiled by the compiler that cargo links with, and run. What it prints was
+//! worked out by hand from the bench sheet of paper 01.
+//!
+//! Without the compiler the test fails; without the archive too, unless
+//! NX_WITHOUT_NATIVE=1 is set.
+
+mod common;
+
+use common::without_native;
+use std::path::Path;
+use std::process::Command;
+
+const EXPECTED: &str = "\
+image of 8192 bytes
+call 0: 0 0
+call 1: 0 0
+call 2: 100 10022345
+call 3: 1 0
+call 4: 23 0
+call 5: 0 0
+call 6: 100 112ABCDE
+call 7: 101 2000
+call 8: 102 FB00800
+fresh 3, retries 0, words 3
+word at 20000448: memory 1, offset 448, 10020031
+";
+
+#[test]
+fn list_a_from_c() {
+    let Some(archive) = option_env!("NX_ARCHIVE") else {
+        assert!(without_native(), "libcapi.a was not there when this was built: see README.md");
+        println!("NX_WITHOUT_NATIVE=1: examples/list_a.c is not compiled");
+        return;
+    };
+    let root = Path::new(env!("CARGO_MANIFEST_DIR")).join("..");
+    let program = Path::new(env!("CARGO_TARGET_TMPDIR")).join("list_a");
+    let compiled = Command::new(env!("NX_CC"))
+        .args(["-std=c99", "-Wall", "-Wextra", "-Wpedantic", "-Werror", "-I"])
+        .arg(root.join("include"))
+        .arg(root.join("examples/list_a.c"))
+        .arg(archive)
+        .arg("-o")
+        .arg(&program)
+        .output()
+        .expect("the compiler starts");
+    assert!(compiled.status.success(), "{}", String::from_utf8_lossy(&compiled.stderr));
+    let run = Command::new(&program).output().expect("the program starts");
+    assert_eq!(String::from_utf8_lossy(&run.stdout), EXPECTED);
+    assert!(run.status.success() && run.stderr.is_empty());
+}
