@@ -18,10 +18,10 @@ use Rattle.registers.proofs.Ranges.{registers-ranged}
 use Rattle.decision.specs.Types.{Lent, Bill, Prices}
 use Rattle.unit.specs.declared.Device.{Device}
 use Rattle.unit.specs.Refusals.{Clear}
-use Rattle.unit.specs.Device.{freshDevice, inRange, doneWith, refusedWith}
+use Rattle.unit.specs.Device.{inRange, doneWith, refusedWith}
 use Rattle.unit.specs.Calls.{isMalformed, isUntimely, writeLacks, writeRefusals, writeOf, carried}
 use Rattle.coherence.specs.Sessions.{controlAt, baseHighAt, baseLowAt, started}
-use Rattle.coherence.specs.Started.{startControl, StartedByWrites}
+use Rattle.coherence.specs.Started.{Turns, startControl, StartedByWrites}
 use Rattle.unit.proofs.Refusing.{clear-goes-on}
 
 -- a started device is in range
@@ -53,7 +53,7 @@ module _ (v : ℕ) where
 
 -- of the nine refusals only the device's own 8 can come at control and base
 module _ (m : Lent) (p : Prices) (b : Bill) (d : Device) (h : inRange d ≡ true) where
-  range-clear : Clear ((not (inRange d), 8) ∷ replicate 8 (false, 0))
+  range-clear : Clear {K = ℕ} ((not (inRange d), 8) ∷ replicate 8 (false, 0))
   range-clear = (ap not h, (refl, (refl, (refl, (refl, (refl, (refl, (refl, (refl, tt)))))))))
 
   goes-on : (o v : ℕ) → Clear (writeRefusals m p b d o v) → writeOf m p b d o v ≡ carried m p b d (commandOf o v)
@@ -72,18 +72,36 @@ module _ (m : Lent) (p : Prices) (b : Bill) (d : Device) (h : inRange d ≡ true
   unfolding noRegister isMalformed isUntimely writeLacks _and_ _or_ commandOf listed pick
   control-set v = goes-on controlAt v range-clear
 
-module _ (v base : ℕ) (bits : v % 8 ≡ 7) (l : base < 2 ^ 32) (e : base % 128 ≡ 0) where
-  control-is : controlCommand v ≡ Set (Control (startControl v))
-  unfolding controlCommand
-  control-is =
-      let odd : v % 2 ≡ 1 = omega (arith, bits) in
-      pick-yes _ _ _ (eq-eqb _ _ odd) ∙ ap (λ (n : ℕ). Set (Control (v / 32 % 2 * 32 + n))) bits
+control-is : (v : ℕ) → v % 8 ≡ 7 → controlCommand v ≡ Set (Control (startControl v))
+unfolding controlCommand
+control-is v bits =
+    let odd : v % 2 ≡ 1 = omega (arith, bits) in
+    pick-yes _ _ _ (eq-eqb _ _ odd) ∙ ap (λ (n : ℕ). Set (Control (v / 32 % 2 * 32 + n))) bits
 
+-- the control and base of a start, in range
+abbrev pub Ranged : ℕ → ℕ → Type 0
+Ranged control base = (control < 64) × (control / 8 % 4 ≡ 0) × ((base < 2 ^ 32) × (base % 128 ≡ 0))
+
+-- each write turns any such device into another
+module _ (control base : ℕ) (r : Ranged control base) where
+  ranged : inRange (started control base) ≡ true
+  ranged = started-in-range control base (r .0) (r .1) (r .2 .0) (r .2 .1)
+
+  pub high-turns : (n : ℕ) → Turns baseHighAt n (started control base) (started control (n * 65536 + base % 65536))
+  high-turns n m p b = high-set m p b (started control base) ranged n
+
+  pub low-turns : (n : ℕ) → Turns baseLowAt n (started control base) (started control (base / 65536 * 65536 + n / 128 * 128))
+  low-turns n m p b = low-set m p b (started control base) ranged n
+
+  pub on-turns : (v : ℕ) → v % 8 ≡ 7 → Turns controlAt v (started control base) (started (startControl v) base)
+  on-turns v bits m p b = control-set m p b (started control base) ranged v ∙ ap (carried m p b (started control base)) (control-is v bits)
+
+module _ (v base : ℕ) (bits : v % 8 ≡ 7) (l : base < 2 ^ 32) (e : base % 128 ≡ 0) where
   pub started-by-writes : StartedByWrites v base
   started-by-writes = record {
-    high = λ m p b. high-set m p b freshDevice (started-in-range 0 0 (omega arith) refl (omega arith) refl) (base / 65536) ∙ ap (λ (n : ℕ). doneWith b (started 0 n)) (high base);
-    low = λ m p b. low-set m p b _ (started-in-range 0 _ (omega arith) refl (high-lt base l) (high-start base)) (base % 65536) ∙ ap (λ (n : ℕ). doneWith b (started 0 n)) (whole base e);
-    on = λ m p b. control-set m p b _ (started-in-range 0 base (omega arith) refl l e) v ∙ ap (carried m p b (started 0 base)) control-is;
+    high = λ m p b. high-turns 0 0 (omega arith, refl, (omega arith, refl)) (base / 65536) m p b ∙ ap (λ (n : ℕ). doneWith b (started 0 n)) (high base);
+    low = λ m p b. low-turns 0 _ (omega arith, refl, (high-lt base l, high-start base)) (base % 65536) m p b ∙ ap (λ (n : ℕ). doneWith b (started 0 n)) (whole base e);
+    on = on-turns 0 base (omega arith, refl, (l, e)) v bits;
   }
     where
       high : (n : ℕ) → n / 65536 * 65536 + 0 % 65536 ≡ n / 65536 * 65536

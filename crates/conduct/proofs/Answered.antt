@@ -56,7 +56,7 @@ one-acknowledgement m d b p v k va a i on e n l h g =
 -- off
 module _ (b : Bill) (again : Bool) (va : VirtualAddress) (a : Access) where
   abbrev Virtual : Outcome → Type 0
-  Virtual x = (answered (x .answer) ≡ answered (A.Address (physical (va .0)))) × (x .tally .words ≡ 0) × (x .bill ≡ b)
+  Virtual x = (answered (x .answer) ≡ answered (A.Address (physical (va .0)))) × (x .tally .words ≡ 0) × (x .bill ≡ b) × (x .device .pending ≡ P.Nothing)
 
   abbrev Off : Asked → Outcome → Type 0
   Off q x = q ≡ attempt again va a → Virtual x
@@ -77,7 +77,7 @@ module _ (m : Lent) (d : Device) (b : Bill) (p : Prices) (off : isOn (d .registe
   attempt-off : (t : Bool) (va : VirtualAddress) (a : Access) → Virtual b t va a (attemptOf m p b t d va a)
   attempt-off t va a =
       subst (λ (x : Decision). Virtual b t va a (concluded p b t d va a x)) (sym (decided-off (look m d va) (d .registers .control) (d .bank .cam) (d .bank .ram) va a off))
-      (refl, no-words t, refl)
+      (refl, no-words t, refl, refl)
 
   off-asked : (again : Bool) (va : VirtualAddress) (a : Access) (t : Bool) (x : VirtualAddress) (r : Access) → Off b again va a (attempt t x r) (attemptOf m p b t d x r)
   off-asked again va a t x r e =

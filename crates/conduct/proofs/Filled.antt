@@ -18,7 +18,7 @@ use Rattle.unit.specs.Calls.{mayWalk, requestRefusals, requestOf, writeRefusals
 use Rattle.unit.specs.Machine.{Call, request, write, read, drop-fault, shift, step}
 use Rattle.conduct.specs.Types.{VirtualAddress, Lent, Bill, Bank, Fill, Pending, Device, Outcome}
 use Rattle.conduct.specs.Refused.{saidRefused, Accepted}
-use Rattle.conduct.specs.Asked.{Asked, nothing, attempt, prefetch, writeAsked, asked, AsksFor, mayFill}
+use Rattle.conduct.specs.Asked.{Asked, nothing, attempt, prefetch, writeAsked, asked, AsksFor, callWalks}
 use Rattle.conduct.specs.Filled.{pageFill, fillFor, fillAsked, LockedKept, FilledBy, LanesFit, OneSlotFilled, NoPageNoFill}
 use Rattle.unit.proofs.Refusing.{refuses-by}
 use Rattle.conduct.proofs.Writes.{write-by}
@@ -44,10 +44,10 @@ locked-kept m d b (write o v p) e j h =
     o (λ n. absurd (true≢false (sym e ∙ n))))
 locked-kept m d b (read o) e j h = absurd (false≢true e)
 locked-kept m d b drop-fault e j h = absurd (false≢true e)
-locked-kept m d b (shift va) e j h = absurd (false≢true e)
+locked-kept m d b (shift va) e j h = refl
 
--- a call that may fill, and is not refused, leaves the bank filled with what it asks
-bank-after : (m : Lent) (d : Device) (b : Bill) (c : Call) → mayFill c ≡ true → Accepted m d b c → step m d b c .device .bank ≡ entryFilled (d .bank) (fillAsked m d (asked d c))
+-- a call that may walk, and is not refused, leaves the bank filled with what it asks
+bank-after : (m : Lent) (d : Device) (b : Bill) (c : Call) → callWalks c ≡ true → Accepted m d b c → step m d b c .device .bank ≡ entryFilled (d .bank) (fillAsked m d (asked d c))
 bank-after m d b (request va a p) e =
     accepted-request m p b d (λ (x : Outcome). x .device .bank ≡ entryFilled (d .bank) (fillFor m d va)) va a
     (λ c. attempt-bank m p b d false va a (c .1 .1 .1 .1 .1 .0))
@@ -57,7 +57,7 @@ bank-after m d b (write o v p) e =
     (attempt-bank m p b d true) (prefetch-bank m p b d v) o (λ n. absurd (true≢false (sym e ∙ n))))
 bank-after m d b (read o) e = absurd (false≢true e)
 bank-after m d b drop-fault e = absurd (false≢true e)
-bank-after m d b (shift va) e = absurd (false≢true e)
+bank-after m d b (shift va) e = λ _. refl
 
 filled-by : (b : Bank) (f : Fill) → LanesFit b → nextSlot (b .victim) (b .lock) < slots → FilledBy f b (entryFilled b f)
 filled-by b F.Nothing l h = refl
@@ -85,7 +85,7 @@ none-asked m d nothing va e h = absurd e
 none-asked m d (attempt again x a) va e h = none-found m d x (ap (λ (y : VirtualAddress). look m d y .found) e ∙ h)
 none-asked m d (prefetch x) va e h = none-found m d x (ap (λ (y : VirtualAddress). look m d y .found) e ∙ h)
 
--- only a call that may fill asks for an address
+-- only a call that may walk asks for an address
 write-fill : (q : Pending) (o v : ℕ) (va : VirtualAddress) → AsksFor va (writeAsked q o v) → mayWalk o ≡ true
 unfolding writeAsked
 write-fill q o v va =
@@ -95,7 +95,7 @@ write-fill q o v va =
     Fills : Asked → Type 0
     Fills x = AsksFor va x → mayWalk o ≡ true
 
-asks-fill : (d : Device) (c : Call) (va : VirtualAddress) → AsksFor va (asked d c) → mayFill c ≡ true
+asks-fill : (d : Device) (c : Call) (va : VirtualAddress) → AsksFor va (asked d c) → callWalks c ≡ true
 asks-fill d (request x a p) va e = refl
 asks-fill d (write o v p) va e = write-fill (d .pending) o v va e
 asks-fill d (read o) va e = absurd e

@@ -10,6 +10,10 @@ pub mod Filled
 pub mod Cached
 pub mod Flushed
 pub mod Answered
+pub mod Answering
+pub mod Held
 pub mod Frames
 pub mod Ranged
+pub mod Kept
+pub mod Written
 pub mod Examples

@@ -1,18 +1,28 @@
 -- Demand 2, the meters and the bill: each call that is not refused adds what its plain walk reads. Assumes nothing.
-use mathlib.Core.Path.{_≡_, refl, _∙_, ap, ap₂}
+use mathlib.Core.Path.{_≡_, refl, sym, _∙_, ap, ap₂, subst}
 use mathlib.Core.List.{[], _∷_}
-use mathlib.Core.Bool.{true, false}
-use Rattle.meters.specs.Posted.{noTally, posted, Within}
+use mathlib.Core.Bool.{Bool, true, false}
+use Prim.Native.Nat.{ℕ, _+_}
+use native.Mathlib.Omega.{arith}
+use borrow.Author.Tests.{not-false}
+use Rattle.page.proofs.Picks.{pick-by, and-left, or-yes, or-no}
+use Rattle.meters.specs.Posted.{noTally, stopped, posted, Within}
 use Rattle.meters.specs.declared.Meters.{Meters}
-use Rattle.meters.proofs.Posting.{posted-zero}
-use Rattle.unit.specs.Machine.{Call, request, write, read, drop-fault, shift, step, Bench, run}
-use Rattle.conduct.specs.Types.{Lent, Device, Bill, Outcome}
-use Rattle.conduct.specs.Refused.{Unchanged}
-use Rattle.conduct.specs.Asked.{Asked, attempt, asked}
-use Rattle.conduct.specs.Metered.{tallyAsked, billAsked, Metered, Billed, Posts, PostedMeters}
+use Rattle.meters.proofs.Posting.{posted-zero, posted-within}
+use Rattle.prices.specs.Prices.{pricesOk}
+use Rattle.bill.specs.Bill.{readsPosted, Good}
+use Rattle.bill.proofs.Stays.{stays-reads, stays-seen, money-prices}
+use Rattle.decision.specs.Prefetches.{pageAt}
+use Rattle.unit.specs.Calls.{mayWalk}
+use Rattle.unit.specs.Machine.{Call, request, write, read, drop-fault, shift, step, Bench, benchAfter, run}
+use Rattle.conduct.specs.Types.{Lent, Tally, Device, Bill, Prices, Outcome}
+use Rattle.conduct.specs.Refused.{Accepted, saidRefused, Unchanged, BenchStays, GoodKept}
+use Rattle.conduct.specs.Asked.{Asked, nothing, attempt, prefetch, retryAsked, writeAsked, asked, readsFor}
+use Rattle.conduct.specs.Metered.{tallyAsked, seenFor, billAsked, billOf, Metered, Billed, added, tallied, PostedMeters}
+use Rattle.conduct.proofs.Tests.{rest}
 use Rattle.conduct.proofs.Writes.{write-by}
 use Rattle.conduct.proofs.Calls.{attempt-tally, attempt-bill, prefetch-tally, prefetch-bill, accepted-request, accepted-write}
-use Rattle.conduct.proofs.Refused.{nothing-changes}
+use Rattle.conduct.proofs.Refused.{nothing-changes, accepted-when}
 
 pub metered : Metered
 metered m d b (request va a p) =
@@ -36,18 +46,62 @@ billed m d b (read o) = λ _. refl
 billed m d b drop-fault = λ _. refl
 billed m d b (shift va) = λ _. refl
 
-module _ (m : Lent) (s : Bench) (c : Call) where
-  stay : Within (s .meters) → step m (s .device) (s .bill) c .tally ≡ noTally → run m s (c ∷ []) .meters ≡ s .meters
-  stay w e = ap (posted (s .meters)) e ∙ posted-zero (s .meters) w
+-- a refused call leaves the whole bench as it is
+module _ (m : Lent) (s : Bench) (c : Call) (w : Within (s .meters)) where
+  stay : step m (s .device) (s .bill) c .tally ≡ noTally → run m s (c ∷ []) .meters ≡ s .meters
+  stay e = ap (posted (s .meters)) e ∙ posted-zero (s .meters) w
 
-  -- a refused call leaves the whole bench as it is
-  unmoved : Within (s .meters) → Unchanged (s .device) (s .bill) (step m (s .device) (s .bill) c) → run m s (c ∷ []) ≡ s
-  unmoved w u =
+  unmoved : Unchanged (s .device) (s .bill) (step m (s .device) (s .bill) c) → run m s (c ∷ []) ≡ s
+  unmoved u =
       ap₂ (λ (x : Device) (y : Bill). record { device = x; bill = y; meters = run m s (c ∷ []) .meters }) (u .device) (u .bill)
-      ∙ ap (λ (z : Meters). record { device = s .device; bill = s .bill; meters = z }) (stay w (u .tally))
+      ∙ ap (λ (z : Meters). record { device = s .device; bill = s .bill; meters = z }) (stay (u .tally))
 
-  posts : Posts m s c
-  posts = record { posts = refl; stay = stay; refused = λ w h. unmoved w (nothing-changes m (s .device) (s .bill) c h) }
+pub bench-stays : BenchStays
+bench-stays m s c w h = unmoved m s c w (nothing-changes m (s .device) (s .bill) c h)
+
+-- two postings are one of the sum
+stopped-twice : (a b c : ℕ) → stopped (stopped a b) c ≡ stopped a (b + c)
+stopped-twice a b c = omega arith
+
+posted-twice : (m : Meters) (s t : Tally) → posted (posted m s) t ≡ posted m (added s t)
+unfolding posted
+posted-twice m s t =
+    rw (stopped-twice (m .fresh) (s .fresh) (t .fresh), stopped-twice (m .retries) (s .retries) (t .retries), stopped-twice (m .words) (s .words) (t .words))
 
 pub posted-meters : PostedMeters
-posted-meters = posts
+posted-meters m s [] w = sym (posted-zero (s .meters) w)
+posted-meters m s (c ∷ cs) w =
+    let x = step m (s .device) (s .bill) c in
+    posted-meters m (benchAfter (s .meters) x) cs (posted-within (s .meters) (x .tally))
+    ∙ posted-twice (s .meters) (x .tally) (tallied m (x .device) (x .bill) cs)
+
+-- a good bill stays good
+module _ (m : Lent) (d : Device) (p : Prices) (b : Bill) (g : Good b) where
+  asked-good : (q : Asked) → pricesOk p ≡ true → Good (billAsked m d p b q)
+  asked-good nothing h = g
+  asked-good (attempt again va a) h = stays-seen (readsPosted p b (readsFor m d va)) (seenFor d va) (stays-reads p b (readsFor m d va) g h)
+  asked-good (prefetch va) h = stays-reads p b (readsFor m d va) g h
+
+  -- a write that asks for something is of a register with prices
+  write-good : (o v : ℕ) → (mayWalk o ≡ true → pricesOk p ≡ true) → Good (billAsked m d p b (writeAsked (d .pending) o v))
+  unfolding writeAsked
+  write-good o v h =
+      pick-by (λ (q : Asked). Good (billAsked m d p b q)) _ _ _ (λ e. asked-good (prefetch (pageAt v)) (h (or-yes _ _ e)))
+      (λ e. pick-by (λ (q : Asked). Good (billAsked m d p b q)) _ _ _
+      (λ f. asked-good (retryAsked (d .pending)) (h (or-no _ _ e ∙ or-yes _ _ (and-left _ _ f)))) (λ _. g))
+
+bill-good : (m : Lent) (d : Device) (b : Bill) (c : Call) → Good b → Accepted m d b c → Good (billOf m d b c)
+bill-good m d b (request va a p) g h =
+    asked-good m d p b g (attempt false va a) (money-prices p b (not-false _ (accepted-when m d b (request va a p) .0 h .1 .1 .1 .0)))
+bill-good m d b (write o v p) g h =
+    write-good m d p b g o v (λ w. money-prices p b (not-false _ (rest _ _ w (accepted-when m d b (write o v p) .0 h .1 .1 .1 .1 .0))))
+bill-good m d b (read o) g h = g
+bill-good m d b drop-fault g h = g
+bill-good m d b (shift va) g h = g
+
+pub good-kept : GoodKept
+good-kept m d b c g = by (saidRefused (step m d b c .said)) refl
+  where
+    by : (t : Bool) → saidRefused (step m d b c .said) ≡ t → Good (step m d b c .bill)
+    by true e = subst Good (sym (nothing-changes m d b c e .bill)) g
+    by false e = subst Good (sym (billed m d b c e)) (bill-good m d b c g e)

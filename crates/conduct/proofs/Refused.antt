@@ -16,7 +16,7 @@ use Rattle.decision.specs.declared.Shift.the-variants as H
 use Rattle.unit.specs.Refusals.{Refusals, refuses, First, Clear}
 use Rattle.unit.specs.Device.{inRange, look, cleared, told, toldRefused, refusedWith, decidedBy, attemptOf}
 use Rattle.unit.specs.Calls.{lacks, requestRefusals, requestOf, writeRefusals, carried, writeOf, readRefusals, readOf, dropRefusals, dropOf, shiftRefusals, shiftOf}
-use Rattle.unit.specs.Machine.{Call, request, write, read, drop-fault, shift, reported, Step, stepOut, stepTold, step}
+use Rattle.unit.specs.Machine.{Call, request, write, read, drop-fault, shift, reported, saidNumber, Step, stepOut, stepTold, step}
 use Rattle.conduct.specs.Types.{Access, VirtualAddress, Lent, Found, Bill, Prices, Shift, Device, Outcome}
 use Rattle.conduct.specs.Refused.{refusalsOf, shiftRefused, saidRefused, RefusedWith, Accepted, Unchanged, ExactlyWhen, AcceptedWhen, NothingChanges}
 use Rattle.conduct.specs.Asked.{Asked}
@@ -65,9 +65,9 @@ module _ (d : Device) (b : Bill) where
       → (Clear rs → saidRefused (out else .said) ≡ false)
       → Settled rs (out (refuses rs say else))
   settles out say else rs says still goes-on = record {
-    exactly = exactly-first say else rs (λ x. out x .said) goes-on says;
-    accepted = accepted-clear say else rs (λ x. out x .said) goes-on says;
-    still = refused-by say else rs (λ x. out x .said) goes-on (λ x. Unchanged d b (out x)) still;
+    exactly = exactly-first say else rs (λ x. saidRefused (out x .said)) (λ x. saidNumber (out x .said)) goes-on (λ k _. says k);
+    accepted = accepted-clear say else rs (λ x. saidRefused (out x .said)) (λ x. saidNumber (out x .said)) goes-on (λ k _. says k);
+    still = refused-by say else rs (λ x. saidRefused (out x .said)) (λ x. saidNumber (out x .said)) goes-on (λ x. Unchanged d b (out x)) still;
   }
 
   abbrev saidShift : Shift → Step

@@ -1,14 +1,19 @@
--- Demand 2, two answers that the paper names (01, "The unit", "Registers").
+-- Demand 2, what a request or a retry answers (01, "The unit", "The walk", "Registers").
 use Rattle.page.specs.Ground.{ℕ, _%_, _<_, _≡_, Bool, true, false, getD}
 use Rattle.page.specs.Words.{physical, permits, wordAccess, wordMatches, wordAddress}
+use mathlib.Core.Logic.{_≢_}
+use Rattle.descriptors.specs.Descriptors.{physicalOf}
+use Rattle.descriptors.specs.declared.Found.the-variants as D
 use Rattle.lanes.specs.Lanes.{slots}
 use Rattle.registers.specs.Answers.{isPrefetch}
-use Rattle.registers.specs.Fields.{isOn}
+use Rattle.registers.specs.Fields.{isOn, isWalking}
+use Rattle.registers.specs.declared.Fault.the-variants as K
 use Rattle.registers.specs.declared.Pending.the-variants as P
 use Rattle.registers.specs.declared.Answer.the-variants as A
 use Rattle.unit.specs.Calls.{acknowledgeAt}
-use Rattle.unit.specs.Machine.{Call, write, answered, step}
-use Rattle.conduct.specs.Types.{Access, VirtualAddress, Lent, Bill, Prices, Fault, Device}
+use Rattle.unit.specs.Device.{look}
+use Rattle.unit.specs.Machine.{Call, write, Said, answered, step}
+use Rattle.conduct.specs.Types.{Access, VirtualAddress, Lent, Page, Found, Bill, Prices, Fault, Device}
 use Rattle.conduct.specs.Refused.{Accepted}
 use Rattle.conduct.specs.Asked.{attempt, asked}
 
@@ -29,9 +34,42 @@ OneAcknowledgement =
     → (step m d b (write acknowledgeAt v p) .said ≡ answered (A.Address (wordAddress (getD (d .bank .cam) i 0) (getD (d .bank .ram) i 0) va)))
     × (step m d b (write acknowledgeAt v p) .device .pending ≡ P.Nothing)
 
--- with the unit off a request or a retry that is not refused answers physical = virtual, reads no word and is not smoothed
+-- with the unit off a request or a retry that is not refused answers physical = virtual, reads no word, is not smoothed, and
+-- leaves nothing pending
 abbrev pub OffIsVirtual : Type 0
 OffIsVirtual =
     (m : Lent) (d : Device) (b : Bill) (c : Call) (again : Bool) (va : VirtualAddress) (a : Access)
     → isOn (d .registers .control) ≡ false → asked d c ≡ attempt again va a → Accepted m d b c
     → (step m d b c .said ≡ answered (A.Address (physical (va .0)))) × (step m d b c .tally .words ≡ 0) × (step m d b c .bill ≡ b)
+    × (step m d b c .device .pending ≡ P.Nothing)
+
+-- no slot matches an address
+abbrev pub NoSlot : Device → VirtualAddress → Type 0
+NoSlot d va = (j : ℕ) → j < slots → wordMatches (getD (d .bank .cam) j 0) va ≡ false
+
+-- on a match the slot's byte, or 23
+pub record MatchAnswers (d : Device) (va : VirtualAddress) (a : Access) (i : ℕ) (s : Said) : Type 0 where
+  pub byte :
+      permits (wordAccess (getD (d .bank .ram) i 0)) a ≡ true
+      → s ≡ answered (A.Address (wordAddress (getD (d .bank .cam) i 0) (getD (d .bank .ram) i 0) va))
+  pub refused : permits (wordAccess (getD (d .bank .ram) i 0)) a ≡ false → s ≡ answered (A.Fault K.Permission)
+
+-- on no match with walking what the plain walk finds: the page's byte, 23, or 21 (where it needs a word that is in neither memory,
+-- the call is refused 3)
+pub record WalkAnswers (f : Found) (va : VirtualAddress) (a : Access) (s : Said) : Type 0 where
+  pub byte : (g : Page) → f ≡ D.Page g → permits (g .access) a ≡ true → s ≡ answered (A.Address (physicalOf g va))
+  pub refused : (g : Page) → f ≡ D.Page g → permits (g .access) a ≡ false → s ≡ answered (A.Fault K.Permission)
+  pub none : f ≡ D.NoPage → s ≡ answered (A.Fault K.Translation)
+  pub there : f ≢ D.Missing
+
+-- what a request or a retry that is not refused answers while the unit is on
+pub record OnAnswers (m : Lent) (d : Device) (va : VirtualAddress) (a : Access) (s : Said) : Type 0 where
+  pub match : (i : ℕ) → LowestMatch d va i → MatchAnswers d va a i s
+  pub miss : NoSlot d va → isWalking (d .registers .control) ≡ false → s ≡ answered (A.Fault K.Miss)
+  pub walk : NoSlot d va → isWalking (d .registers .control) ≡ true → WalkAnswers (look m d va .found) va a s
+
+abbrev pub AnswersOn : Type 0
+AnswersOn =
+    (m : Lent) (d : Device) (b : Bill) (c : Call) (again : Bool) (va : VirtualAddress) (a : Access)
+    → isOn (d .registers .control) ≡ true → asked d c ≡ attempt again va a → Accepted m d b c
+    → OnAnswers m d va a (step m d b c .said)

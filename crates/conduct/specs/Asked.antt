@@ -43,13 +43,13 @@ AsksFor va nothing = ⊥
 AsksFor va (attempt again x a) = x ≡ va
 AsksFor va (prefetch x) = x ≡ va
 
--- the calls that may fill a slot: a request, and a write of prefetch or acknowledge
-abbrev pub mayFill : Call → Bool
-mayFill (request va a p) = true
-mayFill (write o v p) = mayWalk o
-mayFill (read o) = false
-mayFill drop-fault = false
-mayFill (shift va) = false
+-- the calls that may walk: a request, a write of prefetch or acknowledge, and the shift report
+abbrev pub callWalks : Call → Bool
+callWalks (request va a p) = true
+callWalks (write o v p) = mayWalk o
+callWalks (read o) = false
+callWalks drop-fault = false
+callWalks (shift va) = true
 
 -- an address is walked for where the unit is on, no slot matches and walking is set
 unfoldable pub walksFor : Device → VirtualAddress → Bool

@@ -1,4 +1,4 @@
--- Demand 2, the slots after each call that may fill one (01, "The walk").
+-- Demand 2, the slots after each call that may walk (01, "The walk").
 use Rattle.page.specs.Ground.{ℕ, _<_, _≡_, true, length}
 use Rattle.page.specs.Pick.{pick}
 use Rattle.page.specs.Words.{madeWords}
@@ -14,7 +14,7 @@ use Rattle.unit.specs.Device.{look}
 use Rattle.unit.specs.Machine.{Call, answered, step}
 use Rattle.conduct.specs.Types.{VirtualAddress, Words, Lent, Found, Bill, Bank, Fill, Device}
 use Rattle.conduct.specs.Refused.{Accepted}
-use Rattle.conduct.specs.Asked.{Asked, nothing, attempt, prefetch, asked, AsksFor, mayFill, walksFor}
+use Rattle.conduct.specs.Asked.{Asked, nothing, attempt, prefetch, asked, AsksFor, callWalks, walksFor}
 
 -- a walk that finds a page fills a slot with it, one that finds none fills nothing
 abbrev pub pageFill : VirtualAddress → Found → Fill
@@ -32,10 +32,10 @@ fillAsked m d nothing = F.Nothing
 fillAsked m d (attempt again va a) = fillFor m d va
 fillAsked m d (prefetch va) = fillFor m d va
 
--- no call that may fill changes a slot below the lock base
+-- no call that may walk changes a slot below the lock base
 abbrev pub LockedKept : Type 0
 LockedKept =
-    (m : Lent) (d : Device) (b : Bill) (c : Call) → mayFill c ≡ true
+    (m : Lent) (d : Device) (b : Bill) (c : Call) → callWalks c ≡ true
     → (j : ℕ) → j < d .bank .lock → slotAt (step m d b c .device .bank) j ≡ slotAt (d .bank) j
 
 -- exactly one slot, the larger of victim and lock base, has new words, and the victim moves on
@@ -54,11 +54,11 @@ FilledBy (F.Slot w) before after = OneSlot w before after
 abbrev pub LanesFit : Bank → Type 0
 LanesFit b = (length (b .cam) ≡ slots) × (length (b .ram) ≡ slots)
 
--- a call that may fill, and is not refused, fills one slot with the page that the plain walk finds, and nothing where it finds none
--- or does not walk
+-- a call that may walk, and is not refused, fills one slot with the page that the plain walk finds, and nothing where it finds none
+-- or does not walk, or is a shift report
 abbrev pub OneSlotFilled : Type 0
 OneSlotFilled =
-    (m : Lent) (d : Device) (b : Bill) (c : Call) → LanesFit (d .bank) → mayFill c ≡ true → Accepted m d b c
+    (m : Lent) (d : Device) (b : Bill) (c : Call) → LanesFit (d .bank) → callWalks c ≡ true → Accepted m d b c
     → FilledBy (fillAsked m d (asked d c)) (d .bank) (step m d b c .device .bank)
 
 -- where the plain walk finds no page for what a call asks, neither a slot nor the victim changes

@@ -5,3 +5,6 @@ pub mod Filled
 pub mod Flushed
 pub mod Metered
 pub mod Answered
+pub mod Held
+pub mod Kept
+pub mod Written

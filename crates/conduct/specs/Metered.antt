@@ -1,5 +1,5 @@
 -- Demand 2, the meters and the bill after each call (01, "Meters and the walk bill").
-use Rattle.page.specs.Ground.{ℕ, _≡_, true, false, [], _∷_}
+use Rattle.page.specs.Ground.{ℕ, _+_, _≡_, true, false, List, [], _∷_}
 use Rattle.page.specs.Pick.{pick}
 use Rattle.memory.specs.Reads.{wordCount}
 use Rattle.meters.specs.Posted.{noTally, posted, Within}
@@ -10,7 +10,7 @@ use Rattle.registers.specs.Fields.{isOn}
 use Rattle.unit.specs.Calls.{noMatch}
 use Rattle.unit.specs.Machine.{Call, request, write, read, drop-fault, shift, step, Bench, run}
 use Rattle.conduct.specs.Types.{VirtualAddress, Lent, Tally, Bill, Prices, Seen, Device}
-use Rattle.conduct.specs.Refused.{Accepted, saidRefused}
+use Rattle.conduct.specs.Refused.{Accepted}
 use Rattle.conduct.specs.Asked.{Asked, nothing, attempt, prefetch, asked, readsFor}
 
 -- a fresh request and the words that it read, a retry and its words, words alone
@@ -56,12 +56,15 @@ billOf m d b (shift va) = b
 abbrev pub Billed : Type 0
 Billed = (m : Lent) (d : Device) (b : Bill) (c : Call) → Accepted m d b c → step m d b c .bill ≡ billOf m d b c
 
--- a bench posts the tally of each call to its meters, and nothing else; no tally leaves them, and a refused call the whole bench
-pub record Posts (m : Lent) (s : Bench) (c : Call) : Type 0 where
-  pub posts : run m s (c ∷ []) .meters ≡ posted (s .meters) (step m (s .device) (s .bill) c .tally)
-  pub stay : Within (s .meters) → step m (s .device) (s .bill) c .tally ≡ noTally → run m s (c ∷ []) .meters ≡ s .meters
-  pub refused : Within (s .meters) → saidRefused (step m (s .device) (s .bill) c .said) ≡ true → run m s (c ∷ []) ≡ s
+-- what the calls of a run add, together
+abbrev pub added : Tally → Tally → Tally
+added s t = record { fresh = s .fresh + t .fresh; retries = s .retries + t .retries; words = s .words + t .words }
 
--- so it is for every bench and call
+abbrev pub tallied : Lent → Device → Bill → List Call → Tally
+tallied m d b [] = noTally
+tallied m d b (c ∷ cs) = added (step m d b c .tally) (tallied m (step m d b c .device) (step m d b c .bill) cs)
+
+-- the meters after any calls are the meters before and what the calls add, each meter stopping
 abbrev pub PostedMeters : Type 0
-PostedMeters = (m : Lent) (s : Bench) (c : Call) → Posts m s c
+PostedMeters =
+    (m : Lent) (s : Bench) (cs : List Call) → Within (s .meters) → run m s cs .meters ≡ posted (s .meters) (tallied m (s .device) (s .bill) cs)

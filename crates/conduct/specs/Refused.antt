@@ -1,8 +1,9 @@
 -- Demand 1, for every call: a refusal comes exactly when the paper says, and then nothing changes; a device in range stays in range.
-use Rattle.page.specs.Ground.{ℕ, _^_, _<_, _≡_, Bool, true, false, getD}
+use Rattle.page.specs.Ground.{ℕ, _^_, _<_, _≡_, Bool, true, false, [], _∷_, getD}
 use Rattle.memory.specs.Memory.{Lent}
-use Rattle.meters.specs.Posted.{noTally}
+use Rattle.meters.specs.Posted.{noTally, Within}
 use Rattle.bill.specs.declared.Bill.{Bill}
+use Rattle.bill.specs.Bill.{Good}
 use Rattle.registers.specs.Answers.{isRefusal}
 use Rattle.decision.specs.declared.Shift.{Shift}
 use Rattle.decision.specs.declared.Shift.the-variants as H
@@ -10,7 +11,7 @@ use Rattle.unit.specs.declared.Device.{Device}
 use Rattle.unit.specs.Refusals.{Refusals, First, Clear}
 use Rattle.unit.specs.Device.{inRange}
 use Rattle.unit.specs.Calls.{requestRefusals, writeRefusals, readRefusals, dropRefusals, shiftRefusals}
-use Rattle.unit.specs.Machine.{Call, request, write, read, drop-fault, shift, Said, answered, reported, saidNumber, Step, step}
+use Rattle.unit.specs.Machine.{Call, request, write, read, drop-fault, shift, Said, answered, reported, saidNumber, Step, step, Bench, run}
 
 -- the refusals of each call
 abbrev pub refusalsOf : Lent → Device → Bill → Call → Refusals
@@ -60,6 +61,15 @@ pub record Unchanged (d : Device) (b : Bill) (s : Step) : Type 0 where
 abbrev pub NothingChanges : Type 0
 NothingChanges =
     (m : Lent) (d : Device) (b : Bill) (c : Call) → saidRefused (step m d b c .said) ≡ true → Unchanged d b (step m d b c)
+
+-- so the whole bench is as it was, its meters too; that the lent bytes are is by type: no call is lent them to write
+abbrev pub BenchStays : Type 0
+BenchStays =
+    (m : Lent) (s : Bench) (c : Call) → Within (s .meters) → saidRefused (step m (s .device) (s .bill) c .said) ≡ true → run m s (c ∷ []) ≡ s
+
+-- every call leaves a good bill good
+abbrev pub GoodKept : Type 0
+GoodKept = (m : Lent) (d : Device) (b : Bill) (c : Call) → Good b → Good (step m d b c .bill)
 
 -- what the type of a call says: a register's value has 16 bits
 abbrev pub ValueFits : Call → Type 0

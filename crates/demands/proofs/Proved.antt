@@ -1,22 +1,12 @@
 -- The three demands hold. Assumes nothing.
-use Rattle.page.specs.Words.{megabytes, limit}
+use Rattle.page.specs.Words.{limit}
 use mathlib.Core.Path.{_≡_, refl, sym, _∙_, ap, subst}
-use mathlib.Core.Bool.{Bool, true, false, false≢true, true≢false}
-use mathlib.Core.List.{List}
-use mathlib.Core.Logic.{_≢_}
-use Prim.Native.Nat.{ℕ}
-use lib.ListN.{length}
-use Rattle.memory.specs.Memory.{Lent, lentOk}
+use mathlib.Core.Bool.{Bool, true, false, true≢false}
+use Rattle.memory.specs.Memory.{lentOk}
 use Rattle.records.specs.Mappings.{mappings}
-use Rattle.lists.specs.Meanings.{holder}
-use Rattle.builder.specs.declared.Built.{Built}
-use Rattle.builder.specs.declared.Built.the-variants.{Length, BadMemory, BadRecord, Overlap, TooLong}
-use Rattle.image.specs.Image.{image}
-use Rattle.builder.specs.Build.{answerOf, buildOf, builtNumber, leaves}
 use Rattle.registers.specs.Answers.{isRefusal}
 use Rattle.unit.specs.declared.Device.{Device}
 use Rattle.unit.specs.Machine.{answered, step}
-use Rattle.coherence.specs.Agreement.{plain}
 use Rattle.walk.specs.Uniform.{Uniform}
 use Rattle.coherence.specs.Sessions.{after, asked, asks, started, lookFrom, CacheNeverShows}
 use Rattle.coherence.specs.Started.{startControl}
@@ -27,33 +17,27 @@ use Rattle.conduct.proofs.Ranged.{range-kept}
 use Rattle.conduct.proofs.Filled.{locked-kept, one-slot-filled, no-page-no-fill}
 use Rattle.conduct.proofs.Cached.{fault-not-cached}
 use Rattle.conduct.proofs.Flushed.{flush-exact}
-use Rattle.conduct.proofs.Metered.{metered, billed, posted-meters}
+use Rattle.conduct.proofs.Metered.{metered, billed, posted-meters, bench-stays, good-kept}
 use Rattle.conduct.proofs.Answered.{one-acknowledgement, off-is-virtual}
-use Rattle.translates.proofs.Theorems.{image-translates, accepted-no-refusal, no-refusal-accepted}
-use Rattle.demands.specs.Demands.{BuildRefuses, Demand1, Demand2, Demand3, byList}
+use Rattle.conduct.proofs.Answering.{answers-on}
+use Rattle.conduct.proofs.Held.{fault-held, fault-dropped}
+use Rattle.conduct.proofs.Kept.{frames}
+use Rattle.conduct.proofs.Written.{read-back, reset-fresh, load-copied, load-then-copy}
+use Rattle.translates.proofs.Theorems.{image-translates}
+use Rattle.demands.proofs.Building.{build-refuses}
+use Rattle.demands.specs.Demands.{Demand1, Demand2, Demand3, byList}
 use Rattle.demands.proofs.Lists.{list-said, refused-uniform, refused-plain, start-is}
 
--- a refused build leaves the memory
-left : (b : Built) (img before : List ℕ) → builtNumber b ≢ 0 → leaves b img before ≡ before
-left (Length n) img before h = absurd (h refl)
-left BadMemory img before h = refl
-left (BadRecord i) img before h = refl
-left (Overlap i) img before h = refl
-left (TooLong c) img before h = refl
-
-refused-left : (rs : List ℕ) (base : ℕ) (before : List ℕ) → builtNumber (buildOf rs base before .answer) ≢ 0 → buildOf rs base before .memory ≡ before
-unfolding buildOf
-refused-left rs base before h = left (answerOf rs base (length before)) (image megabytes (mappings rs) base) before h
-
-build-refuses : BuildRefuses
-build-refuses = record {
-  accepted = accepted-no-refusal;
-  not-refused = λ rs base room a. ap builtNumber (no-refusal-accepted rs base room a);
-  unchanged = refused-left;
-}
-
 pub demand-1 : Demand1
-demand-1 = record { when = exactly-when; otherwise = accepted-when; unchanged = nothing-changes; in-range = range-kept; builds = build-refuses }
+demand-1 = record {
+  when = exactly-when;
+  otherwise = accepted-when;
+  unchanged = nothing-changes;
+  meters = bench-stays;
+  in-range = range-kept;
+  good-bill = good-kept;
+  builds = build-refuses;
+}
 
 pub demand-2 : Demand2
 demand-2 = record {
@@ -65,8 +49,16 @@ demand-2 = record {
   metered = metered;
   billed = billed;
   posted = posted-meters;
-  acknowledged = one-acknowledgement;
+  held = fault-held;
+  dropped = fault-dropped;
+  on = answers-on;
   off = off-is-virtual;
+  acknowledged = one-acknowledgement;
+  kept = frames;
+  read-back = read-back;
+  reset = reset-fresh;
+  load-copy = load-copied;
+  load-then-copy = load-then-copy;
 }
 
 pub demand-3 : Demand3

@@ -1,16 +1,15 @@
 -- The three demands of the buyer, over the definitions that the code's contracts cite. Their proofs: proofs/Proved.antt.
 use Rattle.page.specs.Words.{megabytes}
-use Rattle.page.specs.Ground.{ℕ, _/_, _%_, _<_, _≡_, true, false, List, [], _∷_, length}
+use Rattle.page.specs.Ground.{ℕ, _/_, _%_, _^_, _<_, _≡_, false, List, [], _∷_}
 use Rattle.memory.specs.Memory.{Lent}
 use Rattle.records.specs.declared.Mapping.{Mapping}
 use Rattle.lists.specs.declared.Meaning.{Meaning}
 use Rattle.lists.specs.declared.Meaning.the-variants.{Byte, Permission, Translation}
 use Rattle.records.specs.Mappings.{mappings}
 use Rattle.lists.specs.Meanings.{meaning}
-use Rattle.builder.specs.declared.Built.{Built}
 use Rattle.builder.specs.declared.Built.the-variants.{Length}
 use Rattle.image.specs.Image.{image}
-use Rattle.builder.specs.Build.{answerOf, buildOf, builtNumber}
+use Rattle.builder.specs.Build.{answerOf}
 use Rattle.registers.specs.declared.Fault.the-variants as K
 use Rattle.registers.specs.declared.Answer.the-variants as A
 use Rattle.registers.specs.Answers.{isRefusal}
@@ -18,29 +17,29 @@ use Rattle.decision.specs.Types.{Access, VirtualAddress, Bill, Prices, Answer}
 use Rattle.unit.specs.declared.Device.{Device}
 use Rattle.unit.specs.Device.{freshDevice}
 use Rattle.unit.specs.Machine.{Call, write, answered, step}
-use Rattle.conduct.specs.Refused.{ExactlyWhen, AcceptedWhen, NothingChanges, RangeKept}
+use Rattle.conduct.specs.Refused.{ExactlyWhen, AcceptedWhen, NothingChanges, BenchStays, GoodKept, RangeKept}
 use Rattle.conduct.specs.Filled.{LockedKept, OneSlotFilled, NoPageNoFill, FaultNotCached}
 use Rattle.conduct.specs.Flushed.{FlushExact}
 use Rattle.conduct.specs.Metered.{Metered, Billed, PostedMeters}
-use Rattle.conduct.specs.Answered.{OneAcknowledgement, OffIsVirtual}
+use Rattle.conduct.specs.Answered.{OneAcknowledgement, OffIsVirtual, AnswersOn}
+use Rattle.conduct.specs.Held.{FaultHeld, FaultDropped}
+use Rattle.conduct.specs.Kept.{Frames}
+use Rattle.conduct.specs.Written.{ReadBack, ResetFresh, LoadCopied, LoadThenCopy}
 use Rattle.coherence.specs.Sessions.{after, Admitted, asked, asks, controlAt, baseHighAt, baseLowAt}
 use Rattle.coherence.specs.Sessions as Sessions
-use Rattle.translates.specs.Statements.{Bytes, Standing, Accepts}
-use mathlib.Core.Logic.{_≢_}
+use Rattle.translates.specs.Statements.{Bytes, Standing}
+use Rattle.demands.specs.Building.{BuildRefuses}
 
--- a build is refused exactly when one of its conditions holds, and then every byte of the memory is as it was
-pub record BuildRefuses : Type 0 where
-  pub accepted : (rs : List ℕ) (base room len : ℕ) → answerOf rs base room ≡ Length len → Accepts rs base room
-  pub not-refused : (rs : List ℕ) (base room : ℕ) → Accepts rs base room → builtNumber (answerOf rs base room) ≡ 0
-  pub unchanged : (rs : List ℕ) (base : ℕ) (before : List ℕ) → builtNumber (buildOf rs base before .answer) ≢ 0 → buildOf rs base before .memory ≡ before
-
--- 1. It takes anything; each refusal comes when the paper says and at no other time, and then nothing is changed
--- (that every function is safe and ends is what the check of its crate says)
+-- 1. It takes anything; each refusal comes when the paper says and at no other time, and then nothing is changed: device, bill and
+-- meters, and a memory lent to the builder (the unit's calls are lent memory that they cannot write, by its type; that every
+-- function is safe and ends is what the check of its crate says)
 pub record Demand1 : Type 0 where
   pub when : ExactlyWhen
   pub otherwise : AcceptedWhen
   pub unchanged : NothingChanges
+  pub meters : BenchStays
   pub in-range : RangeKept
+  pub good-bill : GoodKept
   pub builds : BuildRefuses
 
 -- 2. Answer and state after each call are those of the tables and the house rules (the contracts of the code are these very
@@ -54,8 +53,16 @@ pub record Demand2 : Type 0 where
   pub metered : Metered
   pub billed : Billed
   pub posted : PostedMeters
-  pub acknowledged : OneAcknowledgement
+  pub held : FaultHeld
+  pub dropped : FaultDropped
+  pub on : AnswersOn
   pub off : OffIsVirtual
+  pub acknowledged : OneAcknowledgement
+  pub kept : Frames
+  pub read-back : ReadBack
+  pub reset : ResetFresh
+  pub load-copy : LoadCopied
+  pub load-then-copy : LoadThenCopy
 
 -- what a list alone answers
 abbrev pub said : Meaning → Answer
@@ -73,6 +80,22 @@ startingWith base v p b =
 
 abbrev pub start : Lent → ℕ → ℕ → Prices → Bill → Device
 start m base v p b = after m freshDevice (startingWith base v p b)
+
+-- the three writes in each of their orders
+abbrev pub orders : {A : Type 0} → A → A → A → List (List A)
+orders x y z =
+    (x ∷ y ∷ z ∷ []) ∷ (x ∷ z ∷ y ∷ []) ∷ (y ∷ x ∷ z ∷ []) ∷ (y ∷ z ∷ x ∷ []) ∷ (z ∷ x ∷ y ∷ []) ∷ (z ∷ y ∷ x ∷ []) ∷ []
+
+abbrev pub Leaves : Lent → Device → List (List Sessions.Billed) → Type 0
+Leaves m d [] = Unit {0}
+Leaves m d (cs ∷ rest) = (after m freshDevice cs ≡ d) × Leaves m d rest
+
+-- all of them leave the same device
+abbrev pub StartInAnyOrder : Type 0
+StartInAnyOrder =
+    (m : Lent) (base v : ℕ) (p : Prices) (b : Bill) → base < 2 ^ 32 → base % 128 ≡ 0 → v % 8 ≡ 7
+    → Leaves m (start m base v p b)
+    (orders (b, write baseHighAt (base / 65536) p) (b, write baseLowAt (base % 65536) p) (b, write controlAt v p))
 
 -- 3. For a list that the builder accepts, its image standing at its base in one of the two memories, among any other bytes:
 -- after any calls but writes to control or base, with any prices and bills, each request or retry that is not refused answers

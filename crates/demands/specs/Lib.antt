@@ -1,2 +1,5 @@
+pub mod Building
 pub mod Demands
 pub mod Answering
+pub mod Buyer
+pub mod Signed

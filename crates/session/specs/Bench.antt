@@ -1,5 +1,4 @@
 -- A bench in the middle of a session: what a call of a record makes of it and says, by the machine's own step (01, demand 2; 02, P1).
-use Rattle.page.specs.Ground.{List, [], _∷_}
 use Rattle.meters.specs.Posted.{noMeters, posted}
 use Rattle.meters.specs.declared.Meters.{Meters}
 use Rattle.bill.specs.Bill.{freshBill}
@@ -39,8 +38,3 @@ stepped m p b (C.Request va a) = made (b .meters) (step m (b .device) (b .bill) 
 stepped m p b C.Drop = made (b .meters) (step m (b .device) (b .bill) M.drop-fault)
 stepped m p b (C.Shift va) = made (b .meters) (step m (b .device) (b .bill) (M.shift va))
 stepped m p b C.Bad = record { bench = b; said = Answered Done }
-
--- the bench after any calls in order
-abbrev pub benchRun : Lent → Prices → Bench → List Call → Bench
-benchRun m p b [] = b
-benchRun m p b (c ∷ cs) = benchRun m p (stepped m p b c .bench) cs

@@ -1,16 +1,16 @@
--- The image of an accepted list translates as the list (01, demand 3), and such lists are what the paper says. Assumes nothing.
+-- The image of an accepted list translates as the list (01, demand 3). Assumes nothing.
 use mathlib.Core.Path.{_≡_, refl, sym, ap, ap₂, _∙_, subst}
-use mathlib.Core.Bool.{Bool, true, false, not}
+use mathlib.Core.Bool.{Bool, true, false}
 use mathlib.Core.List.{List}
 use Prim.Native.Nat.{ℕ, _+_, _-_, _*_, _/_, _%_, _^_, _≤_, _<_}
 use native.Mathlib.Omega.{arith}
 use native.Mathlib.Decide.{decLe}
 use lib.Dec.{eqb, lit<}
-use borrow.Author.Tests.{eqb-true, le-ltb, ltb-false}
+use borrow.Author.Tests.{eqb-true}
 use lib.ListN.{length, take, drop, length-take, List·getD-eq-default}
 use lib.Seq.{getD-take, getD-drop, take-append-seam}
 use native.Mathlib.Nat.{le-refl}
-use Rattle.page.specs.Pick.{_and_, _or_}
+use Rattle.page.specs.Pick.{_or_}
 use Rattle.page.specs.Words.{lowBits, megabytes, limit}
 use Rattle.page.specs.declared.VirtualAddress.{VirtualAddress}
 use Rattle.page.proofs.Picks.{pick-by, and-right, or-no}
@@ -24,9 +24,8 @@ use Rattle.records.specs.declared.Mapping.{Mapping}
 use Rattle.records.specs.Mappings.{recordAt, mappingOf, mappings}
 use Rattle.lists.specs.Meanings.{holder}
 use Rattle.records.specs.Checks.{proper}
-use Rattle.lists.specs.Refusals.{bad, overlapping}
 use Rattle.records.proofs.Alls.{All, all-map}
-use Rattle.lists.proofs.Accepted.{accepted-proper, accepted-disjoint, all-records, fine-clean, clean-fine, Disjoint}
+use Rattle.lists.proofs.Accepted.{accepted-proper, accepted-disjoint, all-records, Disjoint}
 use Rattle.records.proofs.Bits.{agree-up}
 use Rattle.tables.specs.declared.Table as B
 use Rattle.builder.specs.declared.Built.{Built}
@@ -34,8 +33,8 @@ use Rattle.builder.specs.declared.Built.the-variants.{Length}
 use Rattle.tables.specs.Tables.{tableOf, tableStart, imageLength}
 use Rattle.image.specs.Image.{image}
 use Rattle.builder.specs.Build.{answerOf, leaves, buildOf}
-use Rattle.builder.proofs.Answers.{room-unit, room-memory, accepted, accepts}
-use Rattle.translates.specs.Statements.{lookIn, Gives, Inside, Has, Standing, Translates, Bytes, ImageTranslates, Accepts, LeavesImage}
+use Rattle.builder.proofs.Answers.{room-unit, room-memory, accepted}
+use Rattle.translates.specs.Statements.{lookIn, Gives, Inside, Has, Standing, Translates, Bytes, ImageTranslates, LeavesImage}
 use Rattle.translates.proofs.Written.{foundFor}
 use Rattle.translates.proofs.Over.{Narrow, known, walked, readsFor, over}
 use Rattle.translates.proofs.Faithful.{found-gives, found-uniform, reads-inside}
@@ -51,7 +50,7 @@ narrow-of n m e = either (eqb (m .access) 2) refl (and-right _ _ (and-right _ _ 
     either false t f = omega (arith, eqb-true (m .access) 3 (sym (or-no false (eqb (m .access) 3) refl) ∙ f))
 
 -- a word of bytes fits 32 bits, and parts of bytes are bytes
-bytes-drop : (n : ℕ) (l : List ℕ) → Bytes l → Bytes (drop n l)
+pub bytes-drop : (n : ℕ) (l : List ℕ) → Bytes l → Bytes (drop n l)
 bytes-drop n l h i = subst (λ (x : ℕ). x < 256) (sym (getD-drop n l i 0)) (h (n + i))
 
 bytes-take : (n : ℕ) (l : List ℕ) → Bytes l → Bytes (take n l)
@@ -107,22 +106,6 @@ image-translates rs base room len m bytes e ok standing =
     translates (mappings rs) (all-map (mappings rs) (narrow-of megabytes) (accepted-proper megabytes rs (a .records)))
     (accepted-disjoint megabytes rs (a .records)) (all-records Phys rs (λ k _. phys-of rs bytes k)) base (room-unit base room (a .memory))
     (omega (arith, a .fits, room-memory base room (a .memory))) m ok standing
-
--- a list is accepted exactly when no refusal's condition holds
-pub accepted-no-refusal : (rs : List ℕ) (base room len : ℕ) → answerOf rs base room ≡ Length len → Accepts rs base room
-accepted-no-refusal rs base room len e =
-    let a = accepted rs base room len e in
-    record {
-      no4 = a .memory;
-      no10 = λ i h. fine-clean megabytes rs (a .records) i h .0;
-      no11 = λ i h. fine-clean megabytes rs (a .records) i h .1;
-      no12 = le-ltb _ _ (a .fits);
-    }
-
-pub no-refusal-accepted : (rs : List ℕ) (base room : ℕ) → Accepts rs base room → answerOf rs base room ≡ Length (imageLength megabytes (mappings rs))
-no-refusal-accepted rs base room a =
-    accepts rs base room (imageLength megabytes (mappings rs))
-    (record { memory = a .no4; records = clean-fine megabytes rs (λ i h. (a .no10 i h, a .no11 i h)); fits = ltb-false _ _ (a .no12); length-is = refl })
 
 -- a build leaves the image of an accepted list
 pub leaves-image : LeavesImage

@@ -1,6 +1,6 @@
 -- What the image of an accepted list owes (01, demand 3): the plain walk over it finds what the list says, the same over a
 -- page's whole range, and needs no word outside it.
-use Rattle.page.specs.Ground.{ℕ, _+_, _-_, _<_, _≤_, _≡_, true, false, not, List, _++_, ltb, length, getD, take, drop}
+use Rattle.page.specs.Ground.{ℕ, _+_, _-_, _<_, _≤_, _≡_, true, List, _++_, length, getD, take, drop}
 use Rattle.page.specs.Words.{megabytes, limit}
 use Rattle.page.specs.declared.VirtualAddress.{VirtualAddress}
 use Rattle.memory.specs.Memory.{Lent, lentOk}
@@ -18,11 +18,10 @@ use Rattle.lists.specs.declared.Held.{Held}
 use Rattle.lists.specs.declared.Held.the-variants.{By, Nobody}
 use Rattle.records.specs.Mappings.{mappings, byteOf}
 use Rattle.lists.specs.Meanings.{holder}
-use Rattle.lists.specs.Refusals.{bad, overlapping, begun}
 use Rattle.builder.specs.declared.Built.the-variants.{Length}
 use Rattle.tables.specs.Tables.{imageLength}
 use Rattle.image.specs.Image.{image}
-use Rattle.builder.specs.Build.{roomOk, answerOf, buildOf}
+use Rattle.builder.specs.Build.{answerOf, buildOf}
 use mathlib.Core.Logic.{_⊎_}
 
 abbrev pub lookIn : Lent → ℕ → Look
@@ -70,13 +69,6 @@ abbrev pub ImageTranslates : Type 0
 ImageTranslates =
     (rs : List ℕ) (base room len : ℕ) (m : Lent) → Bytes rs → answerOf rs base room ≡ Length len → lentOk m ≡ true →
     Standing m base (image megabytes (mappings rs) base) → Translates m base (mappings rs)
-
--- a list is accepted exactly when no refusal's condition holds: 4, 10 and 11 of a record that the input begins, 12
-pub record Accepts (rs : List ℕ) (base room : ℕ) : Type 0 where
-  pub no4 : roomOk base room ≡ true
-  pub no10 : (i : ℕ) → i < begun rs → bad megabytes rs i ≡ false
-  pub no11 : (i : ℕ) → i < begun rs → overlapping rs i ≡ false
-  pub no12 : ltb room (imageLength megabytes (mappings rs)) ≡ false
 
 -- an accepted list's image is what a build leaves, and every later byte as it was
 abbrev pub LeavesImage : Type 0

@@ -6,7 +6,7 @@ use Prim.Native.Nat.{ℕ}
 use lib.Dec.{eqb}
 use Rattle.page.specs.Pick.{pick}
 use Rattle.page.proofs.Picks.{pick-yes, pick-no, pick-by}
-use Rattle.unit.specs.Refusals.{Refusals, refuses, Clear}
+use Rattle.unit.specs.Refusals.{Refusing, Refusals, refuses, Clear}
 
 module _ {A : Type 0} (t : Bool) (k : ℕ) (rs : Refusals) (say : ℕ → A) (else : A) where
   pub refused-here : t ≡ true → refuses ((t, k) ∷ rs) say else ≡ say k
@@ -28,14 +28,15 @@ module _ {A : Type 0} (say : ℕ → A) (else : A) where
   unfolding refuses
   last-same t k x e h = pick-by (λ y. x ≡ y) t (say k) else (λ q. e ∙ h q) (λ _. e)
 
+module _ {K A : Type 0} (say : K → A) (else : A) where
   -- where no condition holds the call goes on
-  pub clear-goes-on : (rs : Refusals) → Clear rs → refuses rs say else ≡ else
+  pub clear-goes-on : (rs : Refusing K) → Clear rs → refuses rs say else ≡ else
   unfolding refuses
   clear-goes-on [] c = refl
   clear-goes-on (r ∷ rs) c = pick-no _ _ _ (c .0) ∙ clear-goes-on rs (c .1)
 
   -- what holds of each refusal, and of what follows where none comes, holds of the call
-  pub refuses-by : (P : A → Type 0) (rs : Refusals) → ((k : ℕ) → P (say k)) → (Clear rs → P else) → P (refuses rs say else)
+  pub refuses-by : (P : A → Type 0) (rs : Refusing K) → ((k : K) → P (say k)) → (Clear rs → P else) → P (refuses rs say else)
   unfolding refuses
   refuses-by P [] f g = g tt
   refuses-by P (r ∷ rs) f g = pick-by P _ _ _ (λ _. f (r .1)) (λ e. refuses-by P rs f (λ c. g (e, c)))

@@ -1,0 +1,118 @@
+-- Demand 2: what a request or a retry answers while the unit is on. Assumes nothing.
+use mathlib.Core.Path.{_≡_, refl, sym, _∙_, ap, subst}
+use mathlib.Core.Bool.{Bool, true, false, true≢false, false≢true}
+use Prim.Native.Nat.{ℕ}
+use lib.ListN.{getD}
+use Rattle.page.specs.Words.{permits, wordAccess, wordAddress}
+use Rattle.page.proofs.Picks.{pick-yes, pick-no}
+use Rattle.descriptors.specs.Descriptors.{physicalOf}
+use Rattle.descriptors.specs.Statements.{isMissing}
+use Rattle.descriptors.specs.declared.Found.the-variants as D
+use Rattle.lanes.specs.Lanes.{slots, lookedUp}
+use Rattle.lanes.specs.declared.Matched.the-variants as M
+use Rattle.lanes.proofs.Searches.{found, lowest, Lowest}
+use Rattle.registers.specs.Fields.{isOn, isWalking}
+use Rattle.registers.specs.declared.Fault.the-variants as K
+use Rattle.registers.specs.declared.Answer.the-variants as A
+use Rattle.decision.specs.Decisions.{byAccess, byFound}
+use Rattle.decision.proofs.Joins.{decided-on, decided-miss, decided-walk}
+use Rattle.unit.specs.Device.{look, decidedBy, attemptOf}
+use Rattle.unit.specs.Calls.{noMatch, lacks}
+use Rattle.unit.specs.Machine.{request, write, read, drop-fault, shift, answered}
+use Rattle.conduct.specs.Types.{Access, VirtualAddress, PhysicalAddress, Lent, Reads, Page, Found, Bill, Prices, Matched, Decision, Device, Outcome}
+use Rattle.conduct.specs.Asked.{Asked, nothing, attempt, prefetch, asked}
+use Rattle.conduct.specs.Answered.{LowestMatch, NoSlot, WalkAnswers, OnAnswers, AnswersOn}
+use Rattle.conduct.proofs.Tests.{rest}
+use Rattle.conduct.proofs.Writes.{write-by}
+use Rattle.conduct.proofs.Calls.{accepted-request, accepted-write}
+
+-- a search that no slot answers finds nothing
+no-slot : (d : Device) (va : VirtualAddress) → NoSlot d va → lookedUp (d .bank .cam) va ≡ M.Nothing
+no-slot d va n = by (lookedUp (d .bank .cam) va) (lowest (d .bank .cam) va)
+  where
+    by : (x : Matched) → Lowest (d .bank .cam) va slots 0 x → x ≡ M.Nothing
+    by (M.At k) h = absurd (true≢false (sym (h .1 .0) ∙ n k (h .0)))
+    by M.Nothing h = refl
+
+-- an access that is permitted answers the byte, one that is not 23
+module _ (bits : ℕ) (at : PhysicalAddress) (a : Access) where
+  access-yes : permits bits a ≡ true → byAccess bits at a ≡ A.Address at
+  unfolding byAccess
+  access-yes h = pick-yes _ _ _ h
+
+  access-no : permits bits a ≡ false → byAccess bits at a ≡ A.Fault K.Permission
+  unfolding byAccess
+  access-no h = pick-no _ _ _ h
+
+-- what is found is what is answered
+module _ (va : VirtualAddress) (a : Access) (r : Reads) where
+  found-answers : (f : Found) → isMissing f ≡ false → WalkAnswers f va a (answered (byFound va a r f .answer))
+  unfolding byFound
+  found-answers D.Missing h = absurd (true≢false h)
+  found-answers D.NoPage h = record { byte = λ g e t. cc; refused = λ g e t. cc; none = λ _. refl; there = λ e. absurd (false≢true (ap isMissing e)) }
+  found-answers (D.Page p) h = record {
+    byte = λ g e t. let q : p ≡ g = cc in ap answered (access-yes _ _ a (ap (λ (x : Page). permits (x .access) a) q ∙ t) ∙ ap (λ (x : Page). A.Address (physicalOf x va)) q);
+    refused = λ g e t. let q : p ≡ g = cc in ap answered (access-no _ _ a (ap (λ (x : Page). permits (x .access) a) q ∙ t));
+    none = λ e. cc;
+    there = λ e. absurd (false≢true (ap isMissing e));
+  }
+
+module _ (m : Lent) (d : Device) (va : VirtualAddress) (a : Access) (on : isOn (d .registers .control) ≡ true) (h : lacks m d va ≡ false) where
+  abbrev x : Decision
+  x = decidedBy (look m d va) d va a
+
+  at-slot : (i : ℕ) → LowestMatch d va i → x .answer ≡ byAccess (wordAccess (getD (d .bank .ram) i 0)) (wordAddress (getD (d .bank .cam) i 0) (getD (d .bank .ram) i 0) va) a
+  at-slot i l =
+      ap (λ (y : Decision). y .answer)
+      (decided-on (look m d va) (d .registers .control) (d .bank .cam) (d .bank .ram) va a (M.At i) on (found (d .bank .cam) va i (l .slot) (l .matches) (l .below)))
+
+  is-there : NoSlot d va → isWalking (d .registers .control) ≡ true → isMissing (look m d va .found) ≡ false
+  unfolding lacks
+  is-there n w = rest _ _ w (rest _ _ (ap noMatch (no-slot d va n)) (rest _ _ on h))
+
+  on-answers : OnAnswers m d va a (answered (x .answer))
+  on-answers = record {
+    match = λ i l. record {
+      byte = λ t. ap answered (at-slot i l ∙ access-yes _ _ a t);
+      refused = λ t. ap answered (at-slot i l ∙ access-no _ _ a t);
+    };
+    miss = λ n w. ap (λ (y : Decision). answered (y .answer)) (decided-miss (look m d va) (d .registers .control) (d .bank .cam) (d .bank .ram) va a on (no-slot d va n) w);
+    walk = λ n w.
+        subst (λ (y : Decision). WalkAnswers (look m d va .found) va a (answered (y .answer)))
+        (sym (decided-walk (look m d va) (d .registers .control) (d .bank .cam) (d .bank .ram) va a on (no-slot d va n) w))
+        (found-answers va a (look m d va .reads) (look m d va .found) (is-there n w));
+  }
+
+module _ (m : Lent) (d : Device) (b : Bill) (p : Prices) (on : isOn (d .registers .control) ≡ true) (again : Bool) (va : VirtualAddress) (a : Access) where
+  abbrev On : Asked → Outcome → Type 0
+  On q o = q ≡ attempt again va a → OnAnswers m d va a (answered (o .answer))
+
+  asked-answers : (t : Bool) (x : VirtualAddress) (r : Access) → lacks m d x ≡ false → On (attempt t x r) (attemptOf m p b t d x r)
+  asked-answers t x r h e =
+      let q : x ≡ va = cc in
+      let s : r ≡ a = cc in
+      subst (λ (z : Access). OnAnswers m d va z (answered (decidedBy (look m d x) d x r .answer))) s
+      (subst (λ (y : VirtualAddress). OnAnswers m d y r (answered (decidedBy (look m d x) d x r .answer))) q (on-answers m d x r on h))
+
+abbrev isAttempt : Asked → Bool
+isAttempt nothing = false
+isAttempt (attempt t x r) = true
+isAttempt (prefetch x) = false
+
+no-attempt : {P : Type 0} (again : Bool) (va : VirtualAddress) (a : Access) (q : Asked) → isAttempt q ≡ false → q ≡ attempt again va a → P
+no-attempt again va a q n e = absurd (false≢true (sym n ∙ ap isAttempt e))
+
+pub answers-on : AnswersOn
+answers-on m d b (request x r p) again va a on e h =
+    accepted-request m p b d (λ (o : Outcome). OnAnswers m d va a (answered (o .answer))) x r
+    (λ c. asked-answers m d b p on again va a false x r (c .1 .1 .1 .1 .1 .0) e) h
+answers-on m d b (write o v p) again va a on e h =
+    accepted-write m p b d (On m d b p on again va a (asked d (write o v p))) o v
+    (write-by m p b d v (On m d b p on again va a) (no-attempt again va a nothing refl) (no-attempt again va a nothing refl)
+    (λ x r n. asked-answers m d b p on again va a true x r n)
+    (λ _. no-attempt again va a (prefetch _) refl)
+    o (λ _ _. no-attempt again va a nothing refl))
+    h e
+answers-on m d b (read o) again va a on e h = no-attempt again va a nothing refl e
+answers-on m d b drop-fault again va a on e h = no-attempt again va a nothing refl e
+answers-on m d b (shift x) again va a on e h = no-attempt again va a nothing refl e

@@ -1,0 +1,185 @@
+-- Demand 2: what is pending after each call. Assumes nothing.
+use mathlib.Core.Path.{_≡_, refl, sym, _∙_, ap}
+use mathlib.Core.Bool.{Bool, true, false, true≢false, false≢true}
+use mathlib.Core.List.{List}
+use Prim.Native.Nat.{ℕ, _%_}
+use native.Mathlib.Omega.{arith}
+use lib.Dec.{eqb}
+use borrow.Author.Tests.{eq-eqb, ne-eqb}
+use Rattle.page.specs.declared.Access.the-variants.{Read}
+use Rattle.descriptors.specs.declared.Found.the-variants as D
+use Rattle.lanes.specs.Lanes.{lookedUp}
+use Rattle.lanes.specs.declared.Matched.the-variants as M
+use Rattle.registers.specs.Answers.{isRefusal, isPrefetch}
+use Rattle.registers.specs.Table.{listed, commandOf, valueAt}
+use Rattle.registers.specs.declared.Fault.the-variants as K
+use Rattle.registers.specs.declared.Pending.the-variants as P
+use Rattle.registers.specs.declared.Answer.the-variants as A
+use Rattle.registers.proofs.Offsets.{by-offset}
+use Rattle.decision.specs.Decisions.{settled}
+use Rattle.decision.specs.Prefetches.{pageAt, prefetchFound, prefetchMatched, prefetchDecided}
+use Rattle.page.specs.Pick.{pick}
+use Rattle.page.proofs.Picks.{pick-yes, pick-no}
+use Rattle.unit.specs.Refusals.{Clear}
+use Rattle.unit.specs.Device.{look, cleared, told, toldRefused, doneWith, refusedWith, decidedBy, attemptOf}
+use Rattle.unit.specs.Calls.{prefetchAt, acknowledgeAt, requestRefusals, requestOf, writeRefusals, retried, carried, writeOf, readRefusals, readOf, dropRefusals, dropOf}
+use Rattle.unit.specs.Machine.{request, write, read, drop-fault, shift, Said, answered, reported, stepOut}
+use Rattle.unit.proofs.Refusing.{refuses-by}
+use Rattle.conduct.specs.Types.{Access, VirtualAddress, Lent, Reads, Found, Walked, Bill, Prices, Matched, Fault, Pending, Answer, Device, Outcome, Told}
+use Rattle.conduct.specs.Refused.{saidRefused}
+use Rattle.conduct.specs.Asked.{Asked, nothing, attempt, prefetch, asked}
+use Rattle.conduct.specs.Held.{HeldBy, FaultHeld, FaultDropped}
+use Rattle.conduct.proofs.Attempts.{isMet}
+use Rattle.conduct.proofs.Writes.{write-by}
+use Rattle.conduct.proofs.Calls.{accepted-write}
+
+-- an answer that is neither an address nor a fault
+abbrev saidMet : Said → Bool
+saidMet (answered r) = isMet r
+saidMet (reported s) = false
+
+-- such an answer holds and clears nothing
+still : (q : Asked) (before after : Pending) (s : Said) → saidMet s ≡ false → (saidRefused s ≡ true → after ≡ before) → HeldBy q before after s
+still q before after s n f = record {
+  fault = λ again va a k _ e. absurd (true≢false (sym (ap saidMet e) ∙ n));
+  prefetched = λ va k _ e. absurd (true≢false (sym (ap saidMet e) ∙ n));
+  address = λ x e. absurd (true≢false (sym (ap saidMet e) ∙ n));
+  refused = f;
+}
+
+module _ (va : VirtualAddress) (a : Access) (q : Pending) where
+  settled-fault : (r : Answer) (k : Fault) → r ≡ A.Fault k → settled va a q r ≡ P.Held k va a
+  settled-fault r k e = ap (settled va a q) e
+
+  settled-refused : (r : Answer) → isRefusal r ≡ true → settled va a q r ≡ q
+  settled-refused (A.Address x) h = absurd (false≢true h)
+  settled-refused (A.Fault k) h = absurd (false≢true h)
+  settled-refused (A.Value x) h = refl
+  settled-refused A.Done h = refl
+  settled-refused (A.Refused k) h = refl
+
+  attempt-held : (again : Bool) (r : Answer) → HeldBy (attempt again va a) q (settled va a q r) (answered r)
+  attempt-held again r = record {
+    fault = λ t x y k g e. by t x y k g (let z : r ≡ A.Fault k = cc in z);
+    prefetched = λ x k g e. (cc, cc);
+    address = λ x e. ap (settled va a q) (let z : r ≡ A.Address x = cc in z);
+    refused = settled-refused r;
+  }
+    where
+      by : (t : Bool) (x : VirtualAddress) (y : Access) (k : Fault) → attempt again va a ≡ attempt t x y → r ≡ A.Fault k → settled va a q r ≡ P.Held k x y
+      by t x y k g e = settled-fault r k e ∙ (let u : va ≡ x = cc in let w : a ≡ y = cc in cc)
+
+-- a prefetch answers 24, or nothing
+abbrev Fetches : Answer → Type 0
+Fetches (A.Address x) = ⊥
+Fetches (A.Fault k) = k ≡ K.Prefetch
+Fetches (A.Value x) = Unit {0}
+Fetches A.Done = Unit {0}
+Fetches (A.Refused k) = Unit {0}
+
+found-fetches : (va : VirtualAddress) (r : Reads) (f : Found) → Fetches (prefetchFound va r f .answer)
+unfolding prefetchFound
+found-fetches va r D.Missing = tt
+found-fetches va r D.NoPage = refl
+found-fetches va r (D.Page p) = tt
+
+matched-fetches : (w : Walked) (va : VirtualAddress) (x : Matched) → Fetches (prefetchMatched w va x .answer)
+matched-fetches w va (M.At i) = tt
+matched-fetches w va M.Nothing = found-fetches va (w .reads) (w .found)
+
+fetches : (w : Walked) (cam : List ℕ) (va : VirtualAddress) → Fetches (prefetchDecided w cam va .answer)
+unfolding prefetchDecided
+fetches w cam va = matched-fetches w va (lookedUp cam va)
+
+prefetch-held : (va : VirtualAddress) (q : Pending) (r : Answer) → Fetches r → HeldBy (prefetch va) q (settled va Read q r) (answered r)
+prefetch-held va q (A.Address x) f = absurd f
+prefetch-held va q (A.Value x) f = still (prefetch va) q q (answered (A.Value x)) refl (λ _. refl)
+prefetch-held va q A.Done f = still (prefetch va) q q (answered A.Done) refl (λ _. refl)
+prefetch-held va q (A.Refused k) f = still (prefetch va) q q (answered (A.Refused k)) refl (λ _. refl)
+prefetch-held va q (A.Fault j) f = record {
+  fault = λ t x y k g e. cc;
+  prefetched = λ x k g e. (let u : j ≡ k = cc in sym u ∙ f, let w : va ≡ x = cc in cc);
+  address = λ x e. cc;
+  refused = λ h. absurd (false≢true h);
+}
+
+read-still : (d : Device) (o : ℕ) → Clear (readRefusals d o) → isMet (valueAt o (d .registers) (d .bank .lock) (d .bank .victim) (d .pending)) ≡ false
+unfolding valueAt listed pick
+read-still d =
+    by-offset (λ (o : ℕ). Clear (readRefusals d o) → isMet (valueAt o (d .registers) (d .bank .lock) (d .bank .victim) (d .pending)) ≡ false)
+    (λ _. refl) (λ _. refl) (λ _. refl) (λ _. refl) (λ _. refl) (λ _. refl) (λ _. refl)
+    (λ _. refl) (λ _. refl) (λ _. refl) (λ _. refl) (λ _. refl) (λ _. refl) (λ _. refl)
+    (λ _. refl) (λ _. refl) (λ _. refl) (λ _. refl) (λ _. refl) (λ _. refl) (λ _. refl)
+    (λ o e c. absurd (true≢false (sym e ∙ c .1 .0)))
+
+module _ (d : Device) where
+  abbrev Holds : Asked → Outcome → Type 0
+  Holds q x = HeldBy q (d .pending) (x .device .pending) (answered (x .answer))
+
+  abbrev Tells : Told → Type 0
+  Tells t = HeldBy nothing (d .pending) (t .device .pending) (answered (t .answer))
+
+  quiet : (q : Asked) (x : Pending) (r : Answer) → isMet r ≡ false → isRefusal r ≡ false → HeldBy q (d .pending) x (answered r)
+  quiet q x r n f = still q (d .pending) x (answered r) n (λ h. absurd (true≢false (sym h ∙ f)))
+
+pub fault-held : FaultHeld
+unfolding requestOf writeOf readOf dropOf
+fault-held m d b (request va a p) =
+    refuses-by (refusedWith d b) (attemptOf m p b false d va a) (Holds d (attempt false va a)) (requestRefusals m p b d va)
+    (λ k. still (attempt false va a) (d .pending) (d .pending) (answered (A.Refused k)) refl (λ _. refl))
+    (λ _. attempt-held va a (d .pending) false (decidedBy (look m d va) d va a .answer))
+fault-held m d b (write o v p) =
+    refuses-by (refusedWith d b) (carried m p b d (commandOf o v)) (Holds d (asked d (write o v p))) (writeRefusals m p b d o v)
+    (λ k. still (asked d (write o v p)) (d .pending) (d .pending) (answered (A.Refused k)) refl (λ _. refl))
+    (write-by m p b d v (Holds d) (quiet d nothing _ A.Done refl refl) (quiet d nothing _ A.Done refl refl)
+    (λ va a _. attempt-held va a (d .pending) true (decidedBy (look m d va) d va a .answer))
+    (λ _. prefetch-held (pageAt v) (d .pending) _ (fetches (look m d (pageAt v)) (d .bank .cam) (pageAt v)))
+    o (λ _ d′. quiet d nothing _ A.Done refl refl))
+fault-held m d b (read o) =
+    refuses-by (toldRefused d) (told d (valueAt o (d .registers) (d .bank .lock) (d .bank .victim) (d .pending))) (Tells d) (readRefusals d o)
+    (λ k. still nothing (d .pending) (d .pending) (answered (A.Refused k)) refl (λ _. refl))
+    (λ c. still nothing (d .pending) (d .pending) _ (read-still d o c) (λ _. refl))
+fault-held m d b drop-fault =
+    refuses-by (toldRefused d) (told (cleared d) A.Done) (Tells d) (dropRefusals d)
+    (λ k. still nothing (d .pending) (d .pending) (answered (A.Refused k)) refl (λ _. refl))
+    (λ _. quiet d nothing P.Nothing A.Done refl refl)
+fault-held m d b (shift va) = still nothing (d .pending) (d .pending) (reported _) refl (λ _. refl)
+
+module _ (m : Lent) (p : Prices) (b : Bill) (d : Device) (v : ℕ) where
+  -- an acknowledgement by its bit 0
+  acknowledge-bit : (t : Bool) → eqb (v % 2) 1 ≡ t → carried m p b d (commandOf acknowledgeAt v) ≡ pick t (retried m p b d (d .pending)) (doneWith b d)
+  unfolding commandOf listed pick
+  acknowledge-bit t e = ap (λ (x : Bool). pick x (retried m p b d (d .pending)) (doneWith b d)) e
+
+  dropped-prefetch : (va : VirtualAddress) (a : Access) → d .pending ≡ P.Held K.Prefetch va a → v % 2 ≡ 1 → carried m p b d (commandOf acknowledgeAt v) ≡ doneWith b (cleared d)
+  dropped-prefetch va a e h =
+      acknowledge-bit true (eq-eqb (v % 2) 1 h) ∙ pick-yes true _ _ refl ∙ ap (retried m p b d) e ∙ pick-yes (isPrefetch K.Prefetch) _ _ refl
+
+  bit-clear : v % 2 ≡ 0 → carried m p b d (commandOf acknowledgeAt v) ≡ doneWith b d
+  bit-clear h = acknowledge-bit false (ne-eqb (v % 2) 1 (λ q. omega (arith, q, h))) ∙ pick-no false _ _ refl
+
+  done-kept : (r : Answer) → answered r ≡ answered A.Done → settled (pageAt v) Read (d .pending) r ≡ d .pending
+  done-kept r e = ap (settled (pageAt v) Read (d .pending)) (let z : r ≡ A.Done = cc in z)
+
+  found-kept : (x : Outcome) → x ≡ carried m p b d (commandOf prefetchAt v) → answered (x .answer) ≡ answered A.Done → x .device .pending ≡ d .pending
+  unfolding commandOf listed pick
+  found-kept x e h =
+      ap (λ (y : Outcome). y .device .pending) e
+      ∙ done-kept (prefetchDecided (look m d (pageAt v)) (d .bank .cam) (pageAt v) .answer) (sym (ap (λ (y : Outcome). answered (y .answer)) e) ∙ h)
+
+pub fault-dropped : FaultDropped
+unfolding writeOf dropOf
+fault-dropped m d b = record {
+  drop =
+      refuses-by (toldRefused d) (told (cleared d) A.Done) (λ (t : Told). isRefusal (t .answer) ≡ false → t .device .pending ≡ P.Nothing) (dropRefusals d)
+      (λ k h. absurd (true≢false h)) (λ _ _. refl);
+  acknowledged = λ va a v p e h g.
+      ap stepOut (accepted-write m p b d (λ (x : Outcome). x ≡ doneWith b (cleared d)) acknowledgeAt v (λ _. dropped-prefetch m p b d v va a e h) g);
+  idle-bit = λ v p h.
+      refuses-by (refusedWith d b) (carried m p b d (commandOf acknowledgeAt v)) (λ (x : Outcome). x .device ≡ d) (writeRefusals m p b d acknowledgeAt v)
+      (λ k. refl) (λ _. ap (λ (x : Outcome). x .device) (bit-clear m p b d v h));
+  found = λ v p.
+      refuses-by (refusedWith d b) (carried m p b d (commandOf prefetchAt v))
+      (λ (x : Outcome). answered (x .answer) ≡ answered A.Done → x .device .pending ≡ d .pending) (writeRefusals m p b d prefetchAt v)
+      (λ k _. refl) (λ _. found-kept m p b d v (carried m p b d (commandOf prefetchAt v)) refl);
+}

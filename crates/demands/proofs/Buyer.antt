@@ -1,0 +1,190 @@
+-- Demand 3 in the buyer's order, and a session with list A. Assumes nothing.
+use mathlib.Core.Path.{_≡_, refl, sym, _∙_, ap, ap₂, subst}
+use mathlib.Core.Bool.{Bool, true}
+use mathlib.Core.List.{List, [], _∷_, _++_}
+use mathlib.Core.Logic.{inl, inr}
+use Prim.Native.Nat.{ℕ, zero, suc, _+_, _-_, _/_, _<_}
+use native.Mathlib.Omega.{arith}
+use native.Mathlib.Decide.{decLe}
+use lib.Dec.{ltb}
+use lib.Count.{trailingZeros}
+use lib.Ieee.{ofFields, ofBits, odd, le, lt, eq}
+use lib.ListN.{length, drop, getD, replicate, length-append, length-drop, length-replicate, List·getD-append}
+use lib.Seq.{getD-append-add}
+use borrow.Author.Tests.{ltb-true}
+use Rattle.page.specs.Pick.{pick, _and_, _or_}
+use Rattle.page.specs.Low.{upper, joined}
+use Rattle.page.specs.declared.Access.the-variants.{Read}
+use Rattle.page.specs.Words.{virtual, physical, megabytes, kindOf}
+use Rattle.page.proofs.Picks.{and-yes, and-left, and-right}
+use Rattle.memory.specs.Memory.{Lent, lentOk, memoryOk, apart, memoriesOk, wordOf}
+use Rattle.records.specs.Mappings.{mappings, mappingsFrom, mappingOf, byteOf, holds}
+use Rattle.lists.specs.Meanings.{holder, meaning}
+use Rattle.tables.specs.Tables.{imageLength}
+use Rattle.image.specs.Image.{wordBytes, bytesOf, image}
+use Rattle.image.proofs.Whole.{image-length-is}
+use Rattle.builder.specs.declared.Built.the-variants.{Length}
+use Rattle.builder.specs.Build.{roomOk, answerOf, buildOf}
+use Rattle.builder.proofs.Answers.{accepted}
+use Rattle.prices.specs.Prices.{figureOk, every}
+use Rattle.bill.specs.Bill.{moneyOk, freshBill}
+use Rattle.registers.specs.declared.Answer.the-variants as A
+use Rattle.coherence.specs.Sessions.{after, Admitted}
+use Rattle.coherence.specs.Sessions as Sessions
+use Rattle.translates.specs.Statements.{Has, Standing, Bytes}
+use Rattle.translates.specs.ListA.{recordsA, baseA}
+use Rattle.translates.proofs.Theorems.{bytes-drop, leaves-image, built-has}
+use Rattle.translates.proofs.Samples.{accepts-a}
+use Rattle.demands.specs.Demands.{byList}
+use Rattle.demands.specs.Answering.{ValuesFit, Session}
+use Rattle.demands.specs.Buyer.{LentAt, BuiltThenCalled, builtIn, BuiltSession, memoryA, pricesA, deviceA, callsA, Exhibited}
+use Rattle.unit.specs.declared.Device.{Device}
+use Rattle.demands.proofs.Lists.{start-is}
+use Rattle.demands.proofs.Proved.{demand-3}
+use Rattle.demands.proofs.Answering.{requests-answered}
+
+-- a memory that was built in has the image, wherever it is lent
+module _ (rs : List ℕ) (base len : ℕ) (before : List ℕ) where
+  answer-is : buildOf rs base before .answer ≡ Length len → answerOf rs base (length before) ≡ Length len
+  unfolding buildOf
+  answer-is e = e
+
+  stands-at : (l : List ℕ) (b : ℕ) → l ≡ buildOf rs base before .memory → b ≡ base → answerOf rs base (length before) ≡ Length len → Has l b base (image megabytes (mappings rs) base)
+  stands-at l b e f h =
+      subst (λ (x : ℕ). Has l x base (image megabytes (mappings rs) base)) (sym f)
+      (subst (λ (x : List ℕ). Has x base base (image megabytes (mappings rs) base)) (sym e) (built-has rs base len before h))
+
+  stands : (m : Lent) → LentAt (buildOf rs base before .memory) base m → answerOf rs base (length before) ≡ Length len → Standing m base (image megabytes (mappings rs) base)
+  stands m (inl l) h = inl (stands-at (m .on) (m .onbase) (l .0) (l .1) h)
+  stands m (inr l) h = inr (stands-at (m .ext) (m .extbase) (l .0) (l .1) h)
+
+pub built-then-called : BuiltThenCalled
+built-then-called rs base len before m v p b₀ cs b c va a r bytes e l =
+    demand-3 rs base (length before) len m v p b₀ cs b c va a r bytes (answer-is rs base len before e) (stands rs base len before m l (answer-is rs base len before e))
+
+-- bytes
+bytes-append : (xs ys : List ℕ) → Bytes xs → Bytes ys → Bytes (xs ++ ys)
+bytes-append xs ys f g i = elim (decLe (length xs) i) [
+  | yes h ↦
+      let s : i ≡ length xs + (i - length xs) = omega arith in
+      subst (λ (x : ℕ). x < 256) (sym (ap (λ (k : ℕ). getD (xs ++ ys) k 0) s ∙ getD-append-add xs ys (i - length xs) 0)) (g (i - length xs))
+  | no h ↦ subst (λ (x : ℕ). x < 256) (sym (List·getD-append xs ys 0 i (omega arith))) (f i)
+]
+
+word-bytes : (w : ℕ) → Bytes (wordBytes w)
+word-bytes w zero = omega arith
+word-bytes w (suc zero) = omega arith
+word-bytes w (suc (suc zero)) = omega arith
+word-bytes w (suc (suc (suc zero))) = omega arith
+word-bytes w (suc (suc (suc (suc i)))) = omega arith
+
+bytes-of : (f : ℕ → ℕ) (k : ℕ) → Bytes (bytesOf f k)
+unfolding bytesOf
+bytes-of f zero = λ i. omega arith
+bytes-of f (suc k) = bytes-append (bytesOf f k) (wordBytes (f k)) (bytes-of f k) (word-bytes (f k))
+
+zero-bytes : (n : ℕ) → Bytes (replicate n 0)
+zero-bytes zero i = omega arith
+zero-bytes (suc n) zero = omega arith
+zero-bytes (suc n) (suc i) = zero-bytes n i
+
+-- a list whose every member is below 256
+abbrev below : List ℕ → Bool
+below [] = true
+below (x ∷ xs) = ltb x 256 and below xs
+
+bytes-below : (l : List ℕ) → below l ≡ true → Bytes l
+bytes-below [] h i = omega arith
+bytes-below (x ∷ xs) h zero = ltb-true x 256 (and-left _ _ h)
+bytes-below (x ∷ xs) h (suc i) = bytes-below xs (and-right (ltb x 256) _ h) i
+
+-- an empty memory may be lent beside any
+none-ok : memoryOk 0 0 ≡ true
+unfolding memoryOk _and_
+none-ok = refl
+
+none-apart : (base n : ℕ) → apart 0 0 base n ≡ true
+unfolding apart _or_
+none-apart base n = refl
+
+none-beside : (base n : ℕ) → memoryOk base n ≡ true → memoriesOk 0 0 base n ≡ true
+unfolding memoriesOk
+none-beside base n h = and-yes _ _ none-ok ∙ and-yes _ _ h ∙ none-apart base n
+
+-- an accepted build leaves as many bytes as there were, and bytes where there were bytes
+module _ (rs : List ℕ) (base len : ℕ) (before : List ℕ) (e : answerOf rs base (length before) ≡ Length len) where
+  abbrev img : List ℕ
+  img = image megabytes (mappings rs) base
+
+  built-length : length (buildOf rs base before .memory) ≡ length before
+  built-length =
+      let a = accepted rs base (length before) len e in
+      ap length (leaves-image rs base len before e)
+      ∙ length-append img (drop len before)
+      ∙ ap₂ (λ (x y : ℕ). x + y) (image-length-is megabytes (mappings rs) base) (length-drop len before)
+      ∙ (let f = a .fits in let g = a .length-is in omega arith)
+
+  built-bytes : Bytes before → Bytes (buildOf rs base before .memory)
+  unfolding image
+  built-bytes h =
+      subst Bytes (sym (leaves-image rs base len before e))
+      (bytes-append img (drop len before) (bytes-of _ (imageLength megabytes (mappings rs) / 4)) (bytes-drop len before h))
+
+  built-lent : lentOk (builtIn rs base before) ≡ true
+  unfolding roomOk
+  built-lent =
+      let a = accepted rs base (length before) len e in
+      subst (λ (n : ℕ). memoriesOk 0 0 base n ≡ true) (sym built-length) (none-beside base (length before) (and-right _ _ (a .memory)))
+
+pub built-session : BuiltSession
+built-session rs base len before v p b cs bytes old e on adm fit =
+    let h = answer-is rs base len before e in
+    record {
+      room = length before;
+      len = len;
+      v = v;
+      p = p;
+      b = b;
+      calls = cs;
+      bytes = bytes;
+      accepted = h;
+      lent = built-lent rs base len before h;
+      lent-bytes = (λ i. omega arith, built-bytes rs base len before h old);
+      standing = stands rs base len before (builtIn rs base before) (inr (refl, refl)) h;
+      on = on;
+      admitted = adm;
+      values = fit;
+      device = refl;
+    }
+
+-- list A
+bytes-a : Bytes recordsA
+unfolding _and_
+bytes-a = bytes-below recordsA refl
+
+built-a : buildOf recordsA baseA (replicate 8192 0) .answer ≡ Length 8192
+unfolding buildOf
+built-a = ap (answerOf recordsA baseA) (length-replicate {A = ℕ} 8192 0) ∙ accepts-a
+
+session-a : (cs : List Sessions.Billed) → Admitted cs → ValuesFit cs → Session recordsA baseA memoryA (after memoryA deviceA cs)
+session-a cs adm fit = built-session recordsA baseA 8192 (replicate 8192 0) 7 pricesA freshBill cs bytes-a (zero-bytes 8192) built-a refl adm fit
+
+-- what the list says of one address
+byte-a : byList (mappings recordsA) (virtual 0x012345) Read ≡ A.Address (physical 0x10022345)
+unfolding meaning holder holds byteOf mappings mappingsFrom mappingOf wordOf kindOf pick _and_ _or_ upper joined
+byte-a = refl
+
+money-a : moneyOk pricesA freshBill ≡ true
+unfolding moneyOk every figureOk le lt eq ofBits ofFields odd trailingZeros pick _and_ _or_
+money-a = refl
+
+pub exhibited : Exhibited
+unfolding _and_ _or_
+exhibited = record {
+  first = session-a [] tt tt;
+  session = session-a callsA (refl, (refl, (refl, (refl, (refl, (refl, (refl, tt))))))) (tt, (tt, (omega arith, (tt, (omega arith, (tt, (tt, tt)))))));
+  answers =
+      requests-answered recordsA baseA memoryA deviceA (session-a [] tt tt) pricesA freshBill (virtual 0x012345) Read
+      (ap (λ (d : Device). d .pending) (start-is recordsA baseA 8192 8192 accepts-a memoryA 7 pricesA freshBill refl)) (omega arith) money-a
+      ∙ byte-a;
+}

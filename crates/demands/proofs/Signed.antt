@@ -1,0 +1,19 @@
+-- All of it holds. Assumes nothing.
+use Rattle.demands.specs.Signed.{Signed}
+use Rattle.demands.proofs.Proved.{demand-1, demand-2, demand-3}
+use Rattle.demands.proofs.Answering.{requests-answered, retries-answered}
+use Rattle.demands.proofs.Orders.{start-in-any-order}
+use Rattle.demands.proofs.Buyer.{built-then-called, built-session, exhibited}
+
+pub signed : Signed
+signed = record {
+  first = demand-1;
+  second = demand-2;
+  third = demand-3;
+  requests = requests-answered;
+  retries = retries-answered;
+  any-order = start-in-any-order;
+  built = built-then-called;
+  sessions = built-session;
+  exhibited = exhibited;
+}

@@ -1,0 +1,42 @@
+-- Demand 1 for the builder: each refusal, with its index or count, exactly when the paper says (01, "When the unit says no").
+use Rattle.page.specs.Words.{megabytes}
+use Rattle.page.specs.Ground.{ℕ, zero, suc, _≡_, Bool, true, false, not, List, [], _∷_, eqb, ltb, length}
+use Rattle.records.specs.Mappings.{mappings}
+use Rattle.lists.specs.Refusals.{bad, overlapping, begun}
+use Rattle.tables.specs.Tables.{imageLength}
+use Rattle.builder.specs.declared.Built.{Built}
+use Rattle.builder.specs.Build.{roomOk, answerOf, buildOf, builtNumber, builtValue}
+use Rattle.unit.specs.Refusals.{Refusing, First, Clear}
+
+-- record by record, 10 then 11, each with the record's index; then the rest
+abbrev pub recordRefusals : List ℕ → ℕ → ℕ → Refusing (ℕ × ℕ) → Refusing (ℕ × ℕ)
+recordRefusals rs i zero rest = rest
+recordRefusals rs i (suc n) rest = (bad megabytes rs i, (10, i)) ∷ (overlapping rs i, (11, i)) ∷ recordRefusals rs (suc i) n rest
+
+-- 4; then every record that the input begins; then 12 with the count
+abbrev pub buildRefusals : List ℕ → ℕ → ℕ → Refusing (ℕ × ℕ)
+buildRefusals rs base room =
+    (not (roomOk base room), (4, 0))
+    ∷ recordRefusals rs 0 (begun rs) ((ltb room (imageLength megabytes (mappings rs)), (12, length (mappings rs))) ∷ [])
+
+-- a build is refused: its number is not 0; what it says is the number and the value beside it
+abbrev pub builtRefused : Built → Bool
+builtRefused x = not (eqb (builtNumber x) 0)
+
+abbrev pub builtSaid : Built → ℕ × ℕ
+builtSaid x = (builtNumber x, builtValue x)
+
+-- a build refuses with a number and a value exactly when their condition is the first that holds, is accepted exactly when none
+-- does, and a refused one leaves every byte of the lent memory
+pub record BuildRefuses : Type 0 where
+  pub when :
+      (rs : List ℕ) (base room k i : ℕ)
+      → ((builtRefused (answerOf rs base room) ≡ true) × (builtSaid (answerOf rs base room) ≡ (k, i)) → First (buildRefusals rs base room) (k, i))
+      × (First (buildRefusals rs base room) (k, i) → (builtRefused (answerOf rs base room) ≡ true) × (builtSaid (answerOf rs base room) ≡ (k, i)))
+  pub otherwise :
+      (rs : List ℕ) (base room : ℕ)
+      → (builtRefused (answerOf rs base room) ≡ false → Clear (buildRefusals rs base room))
+      × (Clear (buildRefusals rs base room) → builtRefused (answerOf rs base room) ≡ false)
+  pub answers : (rs : List ℕ) (base : ℕ) (before : List ℕ) → buildOf rs base before .answer ≡ answerOf rs base (length before)
+  pub unchanged :
+      (rs : List ℕ) (base : ℕ) (before : List ℕ) → builtRefused (buildOf rs base before .answer) ≡ true → buildOf rs base before .memory ≡ before

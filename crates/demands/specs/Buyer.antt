@@ -1,0 +1,87 @@
+-- Demand 3 in the buyer's order: build a list into a memory, lend that memory, start, call. And a session with list A.
+use Rattle.page.specs.Words.{virtual, physical}
+use Rattle.page.specs.Ground.{ℕ, _%_, _≡_, false, List, [], _∷_, replicate}
+use Rattle.page.specs.declared.Access.the-variants.{Read, Write}
+use Rattle.memory.specs.Memory.{Lent, lent}
+use Rattle.bill.specs.Bill.{f1, freshBill}
+use Rattle.records.specs.Mappings.{mappings}
+use Rattle.builder.specs.declared.Built.the-variants.{Length}
+use Rattle.builder.specs.Build.{buildOf}
+use Rattle.prices.specs.declared.Price.the-variants.{Flat}
+use Rattle.registers.specs.declared.Answer.the-variants as A
+use Rattle.registers.specs.Answers.{isRefusal}
+use Rattle.decision.specs.Types.{Access, VirtualAddress, Bill, Prices, Answer}
+use Rattle.unit.specs.declared.Device.{Device}
+use Rattle.unit.specs.Calls.{prefetchAt, acknowledgeAt, requestOf}
+use Rattle.unit.specs.Machine.{Call, request, write, read, drop-fault, answered, step}
+use Rattle.coherence.specs.Sessions.{after, Admitted, asked, asks}
+use Rattle.coherence.specs.Sessions as Sessions
+use Rattle.translates.specs.Statements.{Bytes}
+use Rattle.translates.specs.ListA.{recordsA, baseA}
+use Rattle.demands.specs.Demands.{byList, start}
+use Rattle.demands.specs.Answering.{ValuesFit, Session}
+use mathlib.Core.Logic.{_⊎_}
+
+-- bytes are lent at a base, as the on-chip or the external memory
+abbrev pub LentAt : List ℕ → ℕ → Lent → Type 0
+LentAt bytes base m = ((m .on ≡ bytes) × (m .onbase ≡ base)) ⊎ ((m .ext ≡ bytes) × (m .extbase ≡ base))
+
+-- a list is built into a memory, that memory is lent at the list's base, the unit is started from it and called: each request or
+-- retry that is not refused answers as the list alone would
+abbrev pub BuiltThenCalled : Type 0
+BuiltThenCalled =
+    (rs : List ℕ) (base len : ℕ) (before : List ℕ) (m : Lent) (v : ℕ) (p : Prices) (b₀ : Bill)
+    (cs : List Sessions.Billed) (b : Bill) (c : Call) (va : VirtualAddress) (a : Access) (r : Answer) →
+    Bytes rs →
+    buildOf rs base before .answer ≡ Length len →
+    LentAt (buildOf rs base before .memory) base m →
+    v % 8 ≡ 7 →
+    Admitted cs →
+    asked (after m (start m base v p b₀) cs) c ≡ asks va a →
+    step m (after m (start m base v p b₀) cs) b c .said ≡ answered r →
+    isRefusal r ≡ false →
+    r ≡ byList (mappings rs) va a
+
+-- what a build leaves in a memory, lent as the external one beside an empty on-chip one
+abbrev pub builtIn : List ℕ → ℕ → List ℕ → Lent
+builtIn rs base before = lent [] 0 (buildOf rs base before .memory) base
+
+-- and that is a session in which each is answered, whatever bytes stood in the memory before
+abbrev pub BuiltSession : Type 0
+BuiltSession =
+    (rs : List ℕ) (base len : ℕ) (before : List ℕ) (v : ℕ) (p : Prices) (b : Bill) (cs : List Sessions.Billed) →
+    Bytes rs →
+    Bytes before →
+    buildOf rs base before .answer ≡ Length len →
+    v % 8 ≡ 7 →
+    Admitted cs →
+    ValuesFit cs →
+    Session rs base (builtIn rs base before) (after (builtIn rs base before) (start (builtIn rs base before) base v p b) cs)
+
+-- list A in 8,192 zero bytes, a nanosecond a word
+abbrev pub memoryA : Lent
+memoryA = builtIn recordsA baseA (replicate 8192 0)
+
+abbrev pub pricesA : Prices
+pricesA = record { onchip = Flat f1; external = Flat f1 }
+
+abbrev pub deviceA : Device
+deviceA = start memoryA baseA 7 pricesA freshBill
+
+-- a request that is answered, one that is not permitted, its retry, a drop, a prefetch, a request again, a read
+abbrev pub callsA : List Sessions.Billed
+callsA =
+    (freshBill, request (virtual 0x012345) Read pricesA)
+    ∷ (freshBill, request (virtual 0x3abcde) Write pricesA)
+    ∷ (freshBill, write acknowledgeAt 1 pricesA)
+    ∷ (freshBill, drop-fault)
+    ∷ (freshBill, write prefetchAt 0x1401 pricesA)
+    ∷ (freshBill, request (virtual 0x5007ff) Read pricesA)
+    ∷ (freshBill, read 0x24)
+    ∷ []
+
+-- the start and the session after these calls meet the hypotheses of demand 3, and the start's first request is answered
+pub record Exhibited : Type 0 where
+  pub first : Session recordsA baseA memoryA deviceA
+  pub session : Session recordsA baseA memoryA (after memoryA deviceA callsA)
+  pub answers : requestOf memoryA pricesA freshBill deviceA (virtual 0x012345) Read .answer ≡ A.Address (physical 0x10022345)
