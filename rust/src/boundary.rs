@@ -258,7 +258,8 @@ fn decode(state: &[u8], total: f64, misses: f64) -> Option<(Image, Books)> {
     if state.len() != STATE {
         return None;
     }
-    if state[PENDING_AT + 1] > 1 {
+    // An access, then two zero bytes.
+    if state[PENDING_AT + 1] > 1 || state[PENDING_AT + 2..PENDING_AT + 4] != [0, 0] {
         return None;
     }
     let access = Access::from_byte(state[PENDING_AT + 1]);

@@ -407,6 +407,13 @@ fn not_as_said() {
     for length in [0, 1, 327, 329, 656] {
         check(&lending, &vec![0; length], &good, room, true);
     }
+    for at in [286, 287] {
+        for byte in [1, 2, 128, 255] {
+            let mut state = fresh;
+            state[at] = byte;
+            check(&lending, &state, &good, room, true);
+        }
+    }
     for status in 0..=255 {
         let mut state = fresh;
         state[284] = status;

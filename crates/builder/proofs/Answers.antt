@@ -84,10 +84,6 @@ accepted rs base room len =
     by-check h (C.BadRecord i) c e = let z : _≡_ {A = ℕ} 0 1 = cc in absurd (omega arith)
     by-check h (C.Overlap i) c e = let z : _≡_ {A = ℕ} 0 1 = cc in absurd (omega arith)
 
--- and such a list is accepted
-pub accepts : (rs : List ℕ) (base room len : ℕ) → Accepted rs base room len → answerOf rs base room ≡ Length len
-accepts rs base room len a = answer-length rs base room (a .memory) (a .records) (a .fits) ∙ ap Length (sym (a .length-is))
-
 -- what a build answers and leaves
 pub build-answer : (rs : List ℕ) (base : ℕ) (l o : List ℕ) (b : Built) → outcome b o ≡ buildOf rs base l → (b ≡ answerOf rs base (length l)) × (o ≡ leaves b (image megabytes (mappings rs) base) l)
 unfolding buildOf

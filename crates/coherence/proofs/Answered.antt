@@ -17,7 +17,8 @@ use Rattle.unit.specs.declared.Device.{Device}
 use Rattle.unit.specs.declared.Outcome.{Outcome}
 use Rattle.unit.specs.Refusals.{Clear}
 use Rattle.unit.specs.Device.{refusedWith, attemptOf}
-use Rattle.unit.specs.Calls.{lacks, retryLacks, writeLacks, isMalformed, isUntimely, acknowledgeAt, requestRefusals, requestOf, writeRefusals, writeOf, retried}
+use Rattle.unit.specs.Offsets.{acknowledgeAt}
+use Rattle.unit.specs.Calls.{lacks, retryLacks, writeLacks, isMalformed, isUntimely, requestRefusals, requestOf, writeRefusals, writeOf, retried}
 use Rattle.coherence.specs.Agreement.{Coherent}
 use Rattle.walk.specs.Uniform.{Look}
 use Rattle.coherence.specs.Sessions.{lookFrom}

@@ -22,7 +22,8 @@ use Rattle.unit.specs.declared.Device.{Device}
 use Rattle.unit.specs.declared.Outcome.{Outcome}
 use Rattle.unit.specs.declared.Told.{Told}
 use Rattle.unit.specs.Device.{inRange, cleared, toldRefused, doneWith, refusedWith, attemptOf}
-use Rattle.unit.specs.Calls.{acknowledgeAt, requestRefusals, requestOf, writeRefusals, writeOf, retried, carried, readRefusals, readOf, dropRefusals, dropOf}
+use Rattle.unit.specs.Offsets.{acknowledgeAt}
+use Rattle.unit.specs.Calls.{requestRefusals, requestOf, writeRefusals, writeOf, retried, carried, readRefusals, readOf, dropRefusals, dropOf}
 use Rattle.unit.specs.Machine.{Call, request, write, read, drop-fault, shift, Said, answered, reported, step}
 use Rattle.coherence.specs.Agreement.{plain, Below, Coherent}
 use Rattle.walk.specs.Uniform.{Look, Uniform}

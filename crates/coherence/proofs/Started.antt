@@ -1,7 +1,7 @@
--- Three register writes start a fresh device. Assumes nothing.
+-- Three register writes start a fresh device, in any order. Assumes nothing.
 use Prim.Native.Nat.{ℕ, _+_, _*_, _/_, _%_, _^_, _<_}
 use native.Mathlib.Omega.{arith}
-use mathlib.Core.Path.{_≡_, refl, _∙_, ap}
+use mathlib.Core.Path.{_≡_, refl, _∙_, ap, ap₂}
 use mathlib.Core.Bool.{true, false, not}
 use mathlib.Core.List.{_∷_}
 use lib.ListN.{replicate}
@@ -18,10 +18,13 @@ use Rattle.registers.proofs.Ranges.{registers-ranged}
 use Rattle.decision.specs.Types.{Lent, Bill, Prices}
 use Rattle.unit.specs.declared.Device.{Device}
 use Rattle.unit.specs.Refusals.{Clear}
-use Rattle.unit.specs.Device.{inRange, doneWith, refusedWith}
+use Rattle.unit.specs.declared.Outcome.{Outcome}
+use Rattle.unit.specs.Device.{freshDevice, inRange, doneWith, refusedWith}
 use Rattle.unit.specs.Calls.{isMalformed, isUntimely, writeLacks, writeRefusals, writeOf, carried}
-use Rattle.coherence.specs.Sessions.{controlAt, baseHighAt, baseLowAt, started}
-use Rattle.coherence.specs.Started.{Turns, startControl, StartedByWrites}
+use Rattle.unit.specs.Offsets.{controlAt, baseHighAt, baseLowAt}
+use Rattle.unit.specs.Machine.{write, step}
+use Rattle.coherence.specs.Sessions.{started}
+use Rattle.coherence.specs.Started.{setsHigh, setsLow, setsControl, orders, Leaves, TurnsOn, startControl, StartedInAnyOrder}
 use Rattle.unit.proofs.Refusing.{clear-goes-on}
 
 -- a started device is in range
@@ -72,46 +75,86 @@ module _ (m : Lent) (p : Prices) (b : Bill) (d : Device) (h : inRange d ≡ true
   unfolding noRegister isMalformed isUntimely writeLacks _and_ _or_ commandOf listed pick
   control-set v = goes-on controlAt v range-clear
 
-control-is : (v : ℕ) → v % 8 ≡ 7 → controlCommand v ≡ Set (Control (startControl v))
+control-is : (v : ℕ) → TurnsOn v → controlCommand v ≡ Set (Control (startControl v))
 unfolding controlCommand
 control-is v bits =
     let odd : v % 2 ≡ 1 = omega (arith, bits) in
     pick-yes _ _ _ (eq-eqb _ _ odd) ∙ ap (λ (n : ℕ). Set (Control (v / 32 % 2 * 32 + n))) bits
 
--- the control and base of a start, in range
-abbrev pub Ranged : ℕ → ℕ → Type 0
-Ranged control base = (control < 64) × (control / 8 % 4 ≡ 0) × ((base < 2 ^ 32) × (base % 128 ≡ 0))
+-- a fresh device but for its control and base, both in range
+record Stands (d : Device) (control base : ℕ) : Type 0 where
+  is : d ≡ started control base
+  control-low : control < 64
+  control-bits : control / 8 % 4 ≡ 0
+  base-low : base < 2 ^ 32
+  base-bits : base % 128 ≡ 0
 
--- each write turns any such device into another
-module _ (control base : ℕ) (r : Ranged control base) where
-  ranged : inRange (started control base) ≡ true
-  ranged = started-in-range control base (r .0) (r .1) (r .2 .0) (r .2 .1)
+fresh-stands : Stands freshDevice 0 0
+fresh-stands = record { is = refl; control-low = omega arith; control-bits = refl; base-low = omega arith; base-bits = refl }
 
-  pub high-turns : (n : ℕ) → Turns baseHighAt n (started control base) (started control (n * 65536 + base % 65536))
-  high-turns n m p b = high-set m p b (started control base) ranged n
+module _ (m : Lent) (p : Prices) (b : Bill) (base v : ℕ) (l : base < 2 ^ 32) (e : base % 128 ≡ 0) (bits : TurnsOn v) where
+  -- each of the three writes leaves such a device
+  module _ {d : Device} {control x : ℕ} (s : Stands d control x) where
+    ranged : inRange (started control x) ≡ true
+    ranged = started-in-range control x (s .control-low) (s .control-bits) (s .base-low) (s .base-bits)
 
-  pub low-turns : (n : ℕ) → Turns baseLowAt n (started control base) (started control (base / 65536 * 65536 + n / 128 * 128))
-  low-turns n m p b = low-set m p b (started control base) ranged n
+    turned : (o w : ℕ) (to : Device) → writeOf m p b (started control x) o w ≡ doneWith b to → step m d b (write o w p) .device ≡ to
+    turned o w to q = ap (λ (y : Device). step m y b (write o w p) .device) (s .is) ∙ ap (λ (y : Outcome). y .device) q
 
-  pub on-turns : (v : ℕ) → v % 8 ≡ 7 → Turns controlAt v (started control base) (started (startControl v) base)
-  on-turns v bits m p b = control-set m p b (started control base) ranged v ∙ ap (carried m p b (started control base)) (control-is v bits)
+    high : Stands (step m d b (write baseHighAt (base / 65536) p) .device) control (base / 65536 * 65536 + x % 65536)
+    high = record {
+      is = turned baseHighAt (base / 65536) _ (high-set m p b (started control x) ranged (base / 65536));
+      control-low = s .control-low;
+      control-bits = s .control-bits;
+      base-low = omega (arith, l);
+      base-bits = omega (arith, s .base-bits);
+    }
 
-module _ (v base : ℕ) (bits : v % 8 ≡ 7) (l : base < 2 ^ 32) (e : base % 128 ≡ 0) where
-  pub started-by-writes : StartedByWrites v base
-  started-by-writes = record {
-    high = λ m p b. high-turns 0 0 (omega arith, refl, (omega arith, refl)) (base / 65536) m p b ∙ ap (λ (n : ℕ). doneWith b (started 0 n)) (high base);
-    low = λ m p b. low-turns 0 _ (omega arith, refl, (high-lt base l, high-start base)) (base % 65536) m p b ∙ ap (λ (n : ℕ). doneWith b (started 0 n)) (whole base e);
-    on = on-turns 0 base (omega arith, refl, (l, e)) v bits;
-  }
-    where
-      high : (n : ℕ) → n / 65536 * 65536 + 0 % 65536 ≡ n / 65536 * 65536
-      high n = omega arith
+    low : Stands (step m d b (write baseLowAt (base % 65536) p) .device) control (x / 65536 * 65536 + base % 65536 / 128 * 128)
+    low = record {
+      is = turned baseLowAt (base % 65536) _ (low-set m p b (started control x) ranged (base % 65536));
+      control-low = s .control-low;
+      control-bits = s .control-bits;
+      base-low = omega (arith, s .base-low);
+      base-bits = omega arith;
+    }
 
-      high-lt : (n : ℕ) → n < 2 ^ 32 → n / 65536 * 65536 < 2 ^ 32
-      high-lt n h = omega arith
+    on : Stands (step m d b (write controlAt v p) .device) (startControl v) x
+    on = record {
+      is = turned controlAt v _ (control-set m p b (started control x) ranged v ∙ ap (carried m p b (started control x)) (control-is v bits));
+      control-low = omega arith;
+      control-bits = omega arith;
+      base-low = s .base-low;
+      base-bits = s .base-bits;
+    }
 
-      high-start : (n : ℕ) → n / 65536 * 65536 % 128 ≡ 0
-      high-start n = omega arith
+    -- and is started where these are the control and the base
+    whole : control ≡ startControl v → x ≡ base → d ≡ started (startControl v) base
+    whole c q = s .is ∙ ap₂ started c q
 
-      whole : (n : ℕ) → n % 128 ≡ 0 → n / 65536 * 65536 / 65536 * 65536 + n % 65536 / 128 * 128 ≡ n
-      whole n h = omega arith
+  high-first : (base / 65536 * 65536 + 0 % 65536) / 65536 * 65536 + base % 65536 / 128 * 128 ≡ base
+  high-first = omega (arith, e)
+
+  low-first : base / 65536 * 65536 + (0 / 65536 * 65536 + base % 65536 / 128 * 128) % 65536 ≡ base
+  low-first = omega (arith, e)
+
+  started-each : Leaves m (started (startControl v) base) (orders (setsHigh base p b) (setsLow base p b) (setsControl v p b))
+  started-each = (
+    whole (on (low (high fresh-stands))) refl high-first,
+    (
+      whole (low (on (high fresh-stands))) refl high-first,
+      (
+        whole (on (high (low fresh-stands))) refl low-first,
+        (
+          whole (high (on (low fresh-stands))) refl low-first,
+          (
+            whole (low (high (on fresh-stands))) refl high-first,
+            (whole (high (low (on fresh-stands))) refl low-first, tt),
+          ),
+        ),
+      ),
+    ),
+  )
+
+pub started-in-any-order : StartedInAnyOrder
+started-in-any-order m base v p b l e bits = started-each m p b base v l e bits

@@ -8,7 +8,8 @@ use Rattle.registers.specs.declared.Pending.the-variants.{Nothing, Held}
 use Rattle.decision.specs.Types.{Access, VirtualAddress, Lent, lentOk, Bill, Prices, Fault, Answer}
 use Rattle.unit.specs.declared.Device.{Device}
 use Rattle.unit.specs.Device.{inRange}
-use Rattle.unit.specs.Calls.{acknowledgeAt, requestOf, writeOf}
+use Rattle.unit.specs.Offsets.{acknowledgeAt}
+use Rattle.unit.specs.Calls.{requestOf, writeOf}
 use Rattle.coherence.specs.Agreement.{plain, Coherent}
 use Rattle.walk.specs.Uniform.{Look}
 use Rattle.coherence.specs.Sessions.{lookFrom}

@@ -12,7 +12,8 @@ use Rattle.registers.specs.declared.Pending.{Pending}
 use Rattle.registers.specs.declared.Pending.the-variants.{Nothing, Held}
 use Rattle.decision.specs.Types.{Access, VirtualAddress, Answer}
 use Rattle.unit.specs.declared.Device.{Device}
-use Rattle.unit.specs.Calls.{acknowledgeAt, oneOf}
+use Rattle.unit.specs.Offsets.{controlAt, acknowledgeAt, baseHighAt, baseLowAt}
+use Rattle.unit.specs.Calls.{oneOf}
 use Rattle.unit.specs.Machine.{Call, request, write, read, drop-fault, shift, answered, step}
 use Rattle.coherence.specs.Agreement.{plain}
 use Rattle.walk.specs.Uniform.{Look}
@@ -25,16 +26,6 @@ Billed = Bill × Call
 abbrev pub after : Lent → Device → List Billed → Device
 after m d [] = d
 after m d (c ∷ cs) = after m (step m d (c .0) (c .1) .device) cs
-
--- offsets of Table 3: control, base high and base low
-abbrev pub controlAt : ℕ
-controlAt = 0x08
-
-abbrev pub baseHighAt : ℕ
-baseHighAt = 0x1c
-
-abbrev pub baseLowAt : ℕ
-baseLowAt = 0x20
 
 -- the registers that a session leaves alone
 abbrev pub isFixed : ℕ → Bool

@@ -1,21 +1,46 @@
--- The start of a session as register writes: base high, base low, then control (01, "Registers", "Bench sheet").
-use Rattle.page.specs.Ground.{ℕ, _+_, _*_, _/_, _%_, _≡_}
+-- The start of a session: a fresh device, the base set to its two halves, on and walking (01, "Registers", "Bench sheet").
+use Rattle.page.specs.Ground.{ℕ, _+_, _*_, _/_, _%_, _^_, _<_, _≡_, List, [], _∷_}
 use Rattle.decision.specs.Types.{Lent, Bill, Prices}
 use Rattle.unit.specs.declared.Device.{Device}
-use Rattle.unit.specs.Device.{freshDevice, doneWith}
-use Rattle.unit.specs.Calls.{writeOf}
-use Rattle.coherence.specs.Sessions.{controlAt, baseHighAt, baseLowAt, started}
+use Rattle.unit.specs.Device.{freshDevice}
+use Rattle.unit.specs.Offsets.{controlAt, baseHighAt, baseLowAt}
+use Rattle.unit.specs.Machine.{write}
+use Rattle.coherence.specs.Sessions.{Billed, after, started}
 
--- a write of v at o is accepted, says nothing, and turns one device into another, whatever is lent with it
-abbrev pub Turns : ℕ → ℕ → Device → Device → Type 0
-Turns o v d e = (m : Lent) (p : Prices) (b : Bill) → writeOf m p b d o v ≡ doneWith b e
+-- the three writes: the halves of the base, and control
+abbrev pub setsHigh : ℕ → Prices → Bill → Billed
+setsHigh base p b = (b, write baseHighAt (base / 65536) p)
 
--- what control keeps of a value with bits 2, 1 and 0 set: these and burst
+abbrev pub setsLow : ℕ → Prices → Bill → Billed
+setsLow base p b = (b, write baseLowAt (base % 65536) p)
+
+abbrev pub setsControl : ℕ → Prices → Bill → Billed
+setsControl v p b = (b, write controlAt v p)
+
+-- fresh from reset: base high, base low, then control
+abbrev pub start : Lent → ℕ → ℕ → Prices → Bill → Device
+start m base v p b = after m freshDevice (setsHigh base p b ∷ setsLow base p b ∷ setsControl v p b ∷ [])
+
+-- three things in each of their orders
+abbrev pub orders : {A : Type 0} → A → A → A → List (List A)
+orders x y z =
+    (x ∷ y ∷ z ∷ []) ∷ (x ∷ z ∷ y ∷ []) ∷ (y ∷ x ∷ z ∷ []) ∷ (y ∷ z ∷ x ∷ []) ∷ (z ∷ x ∷ y ∷ []) ∷ (z ∷ y ∷ x ∷ []) ∷ []
+
+-- each of some lists of calls makes this device of a fresh one
+abbrev pub Leaves : Lent → Device → List (List Billed) → Type 0
+Leaves m d [] = Unit {0}
+Leaves m d (cs ∷ rest) = (after m freshDevice cs ≡ d) × Leaves m d rest
+
+-- a value for control with bits 2, 1 and 0 set: walking, on, and no reset
+abbrev pub TurnsOn : ℕ → Type 0
+TurnsOn v = v % 8 ≡ 7
+
+-- what control keeps of it: these bits and burst
 abbrev pub startControl : ℕ → ℕ
 startControl v = v / 32 % 2 * 32 + 7
 
--- from a fresh device to a started one
-pub record StartedByWrites (v base : ℕ) : Type 0 where
-  pub high : Turns baseHighAt (base / 65536) freshDevice (started 0 (base / 65536 * 65536))
-  pub low : Turns baseLowAt (base % 65536) (started 0 (base / 65536 * 65536)) (started 0 base)
-  pub on : Turns controlAt v (started 0 base) (started (startControl v) base)
+-- in any order the three writes leave the fresh device, but for control and base
+abbrev pub StartedInAnyOrder : Type 0
+StartedInAnyOrder =
+    (m : Lent) (base v : ℕ) (p : Prices) (b : Bill) → base < 2 ^ 32 → base % 128 ≡ 0 → TurnsOn v
+    → Leaves m (started (startControl v) base) (orders (setsHigh base p b) (setsLow base p b) (setsControl v p b))

@@ -19,7 +19,8 @@ use Rattle.registers.specs.declared.Answer.the-variants as A
 use Rattle.decision.specs.Decisions.{plainly, byAccess, meteredOnce}
 use Rattle.decision.proofs.Joins.{decided-off, decided-on}
 use Rattle.unit.specs.Device.{look, decidedBy, concluded, attemptOf}
-use Rattle.unit.specs.Calls.{acknowledgeAt, retried, carried}
+use Rattle.unit.specs.Offsets.{acknowledgeAt}
+use Rattle.unit.specs.Calls.{retried, carried}
 use Rattle.unit.specs.Machine.{request, write, read, drop-fault, shift, answered}
 use Rattle.conduct.specs.Types.{Access, VirtualAddress, Lent, Bill, Prices, Fault, Answer, Decision, Device, Outcome}
 use Rattle.conduct.specs.Asked.{Asked, nothing, attempt, prefetch, asked}

@@ -1,9 +1,11 @@
--- Demand 2: what a request or a retry answers while the unit is on. Assumes nothing.
+-- Demand 2: what a request or a retry answers while the unit is on, a prefetch and a shift report. Assumes nothing.
 use mathlib.Core.Path.{_≡_, refl, sym, _∙_, ap, subst}
-use mathlib.Core.Bool.{Bool, true, false, true≢false, false≢true}
-use Prim.Native.Nat.{ℕ}
+use mathlib.Core.Bool.{Bool, true, false, not, true≢false, false≢true}
+use Prim.Native.Nat.{ℕ, _<_}
 use lib.ListN.{getD}
-use Rattle.page.specs.Words.{permits, wordAccess, wordAddress}
+use borrow.Author.Tests.{lt-leb}
+use Rattle.page.specs.Pick.{pick}
+use Rattle.page.specs.Words.{limit, permits, wordAccess, wordAddress}
 use Rattle.page.proofs.Picks.{pick-yes, pick-no}
 use Rattle.descriptors.specs.Descriptors.{physicalOf}
 use Rattle.descriptors.specs.Statements.{isMissing}
@@ -12,16 +14,21 @@ use Rattle.lanes.specs.Lanes.{slots, lookedUp}
 use Rattle.lanes.specs.declared.Matched.the-variants as M
 use Rattle.lanes.proofs.Searches.{found, lowest, Lowest}
 use Rattle.registers.specs.Fields.{isOn, isWalking}
+use Rattle.registers.specs.Table.{listed, commandOf}
 use Rattle.registers.specs.declared.Fault.the-variants as K
 use Rattle.registers.specs.declared.Answer.the-variants as A
 use Rattle.decision.specs.Decisions.{byAccess, byFound}
+use Rattle.decision.specs.Prefetches.{pageAt, prefetchFound, prefetchMatched, prefetchDecided, shiftBy}
+use Rattle.decision.specs.declared.Shift.the-variants as H
 use Rattle.decision.proofs.Joins.{decided-on, decided-miss, decided-walk}
-use Rattle.unit.specs.Device.{look, decidedBy, attemptOf}
-use Rattle.unit.specs.Calls.{noMatch, lacks}
+use Rattle.unit.specs.Refusals.{refuses}
+use Rattle.unit.specs.Device.{inRange, look, decidedBy, attemptOf}
+use Rattle.unit.specs.Offsets.{prefetchAt}
+use Rattle.unit.specs.Calls.{noMatch, lacks, shiftOf}
 use Rattle.unit.specs.Machine.{request, write, read, drop-fault, shift, answered}
-use Rattle.conduct.specs.Types.{Access, VirtualAddress, PhysicalAddress, Lent, Reads, Page, Found, Bill, Prices, Matched, Decision, Device, Outcome}
+use Rattle.conduct.specs.Types.{Access, VirtualAddress, PhysicalAddress, Lent, lentOk, Reads, Page, Found, Bill, Prices, Matched, Decision, Device, Outcome}
 use Rattle.conduct.specs.Asked.{Asked, nothing, attempt, prefetch, asked}
-use Rattle.conduct.specs.Answered.{LowestMatch, NoSlot, WalkAnswers, OnAnswers, AnswersOn}
+use Rattle.conduct.specs.Answered.{LowestMatch, NoSlot, WalkAnswers, OnAnswers, AnswersOn, PrefetchAnswers, PrefetchAnswered, ShiftTells, ShiftAnswered}
 use Rattle.conduct.proofs.Tests.{rest}
 use Rattle.conduct.proofs.Writes.{write-by}
 use Rattle.conduct.proofs.Calls.{accepted-request, accepted-write}
@@ -116,3 +123,40 @@ answers-on m d b (write o v p) again va a on e h =
 answers-on m d b (read o) again va a on e h = no-attempt again va a nothing refl e
 answers-on m d b drop-fault again va a on e h = no-attempt again va a nothing refl e
 answers-on m d b (shift x) again va a on e h = no-attempt again va a nothing refl e
+
+-- a prefetch
+module _ (m : Lent) (d : Device) (va : VirtualAddress) where
+  matched-answers : (x : Matched) → lookedUp (d .bank .cam) va ≡ x → prefetchDecided (look m d va) (d .bank .cam) va .answer ≡ prefetchMatched (look m d va) va x .answer
+  unfolding prefetchDecided
+  matched-answers x e = ap (λ (y : Matched). prefetchMatched (look m d va) va y .answer) e
+
+  walk-answers : NoSlot d va → (f : Found) → look m d va .found ≡ f → prefetchDecided (look m d va) (d .bank .cam) va .answer ≡ prefetchFound va (look m d va .reads) f .answer
+  walk-answers n f e = matched-answers M.Nothing (no-slot d va n) ∙ ap (λ (y : Found). prefetchFound va (look m d va .reads) y .answer) e
+
+  fetch-answers : PrefetchAnswers m d va (answered (prefetchDecided (look m d va) (d .bank .cam) va .answer))
+  unfolding prefetchFound
+  fetch-answers = record {
+    match = λ i l. ap answered (matched-answers (M.At i) (found (d .bank .cam) va i (l .slot) (l .matches) (l .below)));
+    page = λ g n e. ap answered (walk-answers n (D.Page g) e);
+    none = λ n e. ap answered (walk-answers n D.NoPage e);
+  }
+
+pub prefetch-answered : PrefetchAnswered
+unfolding commandOf listed pick
+prefetch-answered m d b v p =
+    accepted-write m p b d (λ (x : Outcome). PrefetchAnswers m d (pageAt v) (answered (x .answer))) prefetchAt v (λ _. fetch-answers m d (pageAt v))
+
+-- a shift report
+found-tells : (va : VirtualAddress) (f : Found) → ShiftTells va f (pick (isMissing f) (H.Refused 3) (shiftBy va f))
+unfolding pick
+found-tells va (D.Page g) = record { number = refl; values = refl }
+found-tells va D.NoPage = record { number = refl; values = refl }
+found-tells va D.Missing = record { number = refl; values = refl }
+
+shift-is : (m : Lent) (d : Device) (va : VirtualAddress) → inRange d ≡ true → va .0 < limit → lentOk m ≡ true → shiftOf m d va ≡ pick (isMissing (look m d va .found)) (H.Refused 3) (shiftBy va (look m d va .found))
+unfolding shiftOf refuses
+shift-is m d va r l o = pick-no _ _ _ (ap not r) ∙ pick-no _ _ _ (lt-leb limit (va .0) l) ∙ pick-no _ _ _ (ap not o)
+
+pub shift-answered : ShiftAnswered
+shift-answered m d b va s r l o e =
+    subst (ShiftTells va (look m d va .found)) (let z : shiftOf m d va ≡ s = cc in sym (shift-is m d va r l o) ∙ z) (found-tells va (look m d va .found))

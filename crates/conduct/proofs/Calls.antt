@@ -10,7 +10,8 @@ use Rattle.decision.specs.Decisions.{meteredOnce}
 use Rattle.decision.specs.Prefetches.{pageAt, prefetchDecided}
 use Rattle.unit.specs.Refusals.{Clear}
 use Rattle.unit.specs.Device.{look, refusedWith, decidedBy, attemptOf}
-use Rattle.unit.specs.Calls.{lacks, prefetchAt, requestRefusals, requestOf, writeRefusals, prefetched, carried, writeOf}
+use Rattle.unit.specs.Offsets.{prefetchAt}
+use Rattle.unit.specs.Calls.{lacks, requestRefusals, requestOf, writeRefusals, prefetched, carried, writeOf}
 use Rattle.unit.specs.Machine.{request, write, Said, answered}
 use Rattle.conduct.specs.Types.{Access, VirtualAddress, Lent, Bill, Prices, Reads, Seen, Decision, Device, Outcome}
 use Rattle.conduct.specs.Refused.{Accepted}

@@ -26,10 +26,10 @@ use Rattle.registers.specs.declared.Fault.the-variants as K
 use Rattle.decision.specs.Decisions.{byAccess, byFound, decided}
 use Rattle.unit.specs.Refusals.{refuses}
 use Rattle.unit.specs.Device.{freshDevice, inRange, setRegisters, setBank}
-use Rattle.unit.specs.Calls.{acknowledgeAt, lacks, isMalformed, isUntimely, writeLacks, requestOf, writeOf}
+use Rattle.unit.specs.Offsets.{acknowledgeAt, flushAt, entryFlushAt}
+use Rattle.unit.specs.Calls.{lacks, isMalformed, isUntimely, writeLacks, requestOf, writeOf}
 use Rattle.unit.specs.Machine.{request, write, answered, Step, step}
 use Rattle.conduct.specs.Types.{Access, Words, Lent, Prices, Device}
-use Rattle.conduct.specs.Flushed.{flushAt, entryFlushAt}
 use Rattle.conduct.specs.Metered.{oneFresh, oneRetry}
 
 abbrev free : Prices

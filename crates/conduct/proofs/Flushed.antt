@@ -18,7 +18,8 @@ use Rattle.unit.specs.Refusals.{Clear}
 use Rattle.unit.specs.Device.{inRange, setBank, refusedWith}
 use Rattle.unit.specs.Calls.{isMalformed, isUntimely, writeLacks, writeRefusals, carried, writeOf}
 use Rattle.conduct.specs.Types.{VirtualAddress, Lent, Bill, Prices, Command, Tending, Device, Outcome}
-use Rattle.conduct.specs.Flushed.{flushAt, entryFlushAt, camAt, ValidWhere, Flushes, FlushExact}
+use Rattle.unit.specs.Offsets.{flushAt, entryFlushAt}
+use Rattle.conduct.specs.Flushed.{camAt, ValidWhere, Flushes, FlushExact}
 use Rattle.unit.proofs.Refusing.{clear-goes-on, refuses-by}
 
 -- a flushed word keeps all but V

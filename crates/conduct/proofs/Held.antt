@@ -22,7 +22,8 @@ use Rattle.page.specs.Pick.{pick}
 use Rattle.page.proofs.Picks.{pick-yes, pick-no}
 use Rattle.unit.specs.Refusals.{Clear}
 use Rattle.unit.specs.Device.{look, cleared, told, toldRefused, doneWith, refusedWith, decidedBy, attemptOf}
-use Rattle.unit.specs.Calls.{prefetchAt, acknowledgeAt, requestRefusals, requestOf, writeRefusals, retried, carried, writeOf, readRefusals, readOf, dropRefusals, dropOf}
+use Rattle.unit.specs.Offsets.{prefetchAt, acknowledgeAt}
+use Rattle.unit.specs.Calls.{requestRefusals, requestOf, writeRefusals, retried, carried, writeOf, readRefusals, readOf, dropRefusals, dropOf}
 use Rattle.unit.specs.Machine.{request, write, read, drop-fault, shift, Said, answered, reported, stepOut}
 use Rattle.unit.proofs.Refusing.{refuses-by}
 use Rattle.conduct.specs.Types.{Access, VirtualAddress, Lent, Reads, Found, Walked, Bill, Prices, Matched, Fault, Pending, Answer, Device, Outcome, Told}
@@ -38,14 +39,27 @@ abbrev saidMet : Said → Bool
 saidMet (answered r) = isMet r
 saidMet (reported s) = false
 
--- such an answer holds and clears nothing
-still : (q : Asked) (before after : Pending) (s : Said) → saidMet s ≡ false → (saidRefused s ≡ true → after ≡ before) → HeldBy q before after s
-still q before after s n f = record {
-  fault = λ again va a k _ e. absurd (true≢false (sym (ap saidMet e) ∙ n));
-  prefetched = λ va k _ e. absurd (true≢false (sym (ap saidMet e) ∙ n));
-  address = λ x e. absurd (true≢false (sym (ap saidMet e) ∙ n));
-  refused = f;
-}
+module _ (q : Asked) (s : Said) (n : saidMet s ≡ false) where
+  unmet : {P : Type 0} (r : Answer) → isMet r ≡ true → s ≡ answered r → P
+  unmet r h e = absurd (true≢false (sym h ∙ sym (ap saidMet e) ∙ n))
+
+  -- where such an answer leaves what is pending, that is as said
+  still : (before : Pending) → HeldBy q before before s
+  still before = record {
+    fault = λ again va a k _ e. unmet (A.Fault k) refl e;
+    prefetched = λ va k _ e. unmet (A.Fault k) refl e;
+    address = λ x e. unmet (A.Address x) refl e;
+    refused = λ _. refl;
+  }
+
+  -- and where it is no refusal, whatever it leaves
+  quiet : saidRefused s ≡ false → (before after : Pending) → HeldBy q before after s
+  quiet f before after = record {
+    fault = λ again va a k _ e. unmet (A.Fault k) refl e;
+    prefetched = λ va k _ e. unmet (A.Fault k) refl e;
+    address = λ x e. unmet (A.Address x) refl e;
+    refused = λ h. absurd (true≢false (sym h ∙ f));
+  }
 
 module _ (va : VirtualAddress) (a : Access) (q : Pending) where
   settled-fault : (r : Answer) (k : Fault) → r ≡ A.Fault k → settled va a q r ≡ P.Held k va a
@@ -93,9 +107,9 @@ fetches w cam va = matched-fetches w va (lookedUp cam va)
 
 prefetch-held : (va : VirtualAddress) (q : Pending) (r : Answer) → Fetches r → HeldBy (prefetch va) q (settled va Read q r) (answered r)
 prefetch-held va q (A.Address x) f = absurd f
-prefetch-held va q (A.Value x) f = still (prefetch va) q q (answered (A.Value x)) refl (λ _. refl)
-prefetch-held va q A.Done f = still (prefetch va) q q (answered A.Done) refl (λ _. refl)
-prefetch-held va q (A.Refused k) f = still (prefetch va) q q (answered (A.Refused k)) refl (λ _. refl)
+prefetch-held va q (A.Value x) f = still (prefetch va) (answered (A.Value x)) refl q
+prefetch-held va q A.Done f = still (prefetch va) (answered A.Done) refl q
+prefetch-held va q (A.Refused k) f = still (prefetch va) (answered (A.Refused k)) refl q
 prefetch-held va q (A.Fault j) f = record {
   fault = λ t x y k g e. cc;
   prefetched = λ x k g e. (let u : j ≡ k = cc in sym u ∙ f, let w : va ≡ x = cc in cc);
@@ -119,31 +133,31 @@ module _ (d : Device) where
   abbrev Tells : Told → Type 0
   Tells t = HeldBy nothing (d .pending) (t .device .pending) (answered (t .answer))
 
-  quiet : (q : Asked) (x : Pending) (r : Answer) → isMet r ≡ false → isRefusal r ≡ false → HeldBy q (d .pending) x (answered r)
-  quiet q x r n f = still q (d .pending) x (answered r) n (λ h. absurd (true≢false (sym h ∙ f)))
+  done : (x : Pending) → HeldBy nothing (d .pending) x (answered A.Done)
+  done x = quiet nothing (answered A.Done) refl refl (d .pending) x
 
 pub fault-held : FaultHeld
 unfolding requestOf writeOf readOf dropOf
 fault-held m d b (request va a p) =
     refuses-by (refusedWith d b) (attemptOf m p b false d va a) (Holds d (attempt false va a)) (requestRefusals m p b d va)
-    (λ k. still (attempt false va a) (d .pending) (d .pending) (answered (A.Refused k)) refl (λ _. refl))
+    (λ k. still (attempt false va a) (answered (A.Refused k)) refl (d .pending))
     (λ _. attempt-held va a (d .pending) false (decidedBy (look m d va) d va a .answer))
 fault-held m d b (write o v p) =
     refuses-by (refusedWith d b) (carried m p b d (commandOf o v)) (Holds d (asked d (write o v p))) (writeRefusals m p b d o v)
-    (λ k. still (asked d (write o v p)) (d .pending) (d .pending) (answered (A.Refused k)) refl (λ _. refl))
-    (write-by m p b d v (Holds d) (quiet d nothing _ A.Done refl refl) (quiet d nothing _ A.Done refl refl)
+    (λ k. still (asked d (write o v p)) (answered (A.Refused k)) refl (d .pending))
+    (write-by m p b d v (Holds d) (done d _) (done d _)
     (λ va a _. attempt-held va a (d .pending) true (decidedBy (look m d va) d va a .answer))
     (λ _. prefetch-held (pageAt v) (d .pending) _ (fetches (look m d (pageAt v)) (d .bank .cam) (pageAt v)))
-    o (λ _ d′. quiet d nothing _ A.Done refl refl))
+    o (λ _ d′. done d (d′ .pending)))
 fault-held m d b (read o) =
     refuses-by (toldRefused d) (told d (valueAt o (d .registers) (d .bank .lock) (d .bank .victim) (d .pending))) (Tells d) (readRefusals d o)
-    (λ k. still nothing (d .pending) (d .pending) (answered (A.Refused k)) refl (λ _. refl))
-    (λ c. still nothing (d .pending) (d .pending) _ (read-still d o c) (λ _. refl))
+    (λ k. still nothing (answered (A.Refused k)) refl (d .pending))
+    (λ c. still nothing (answered (valueAt o (d .registers) (d .bank .lock) (d .bank .victim) (d .pending))) (read-still d o c) (d .pending))
 fault-held m d b drop-fault =
     refuses-by (toldRefused d) (told (cleared d) A.Done) (Tells d) (dropRefusals d)
-    (λ k. still nothing (d .pending) (d .pending) (answered (A.Refused k)) refl (λ _. refl))
-    (λ _. quiet d nothing P.Nothing A.Done refl refl)
-fault-held m d b (shift va) = still nothing (d .pending) (d .pending) (reported _) refl (λ _. refl)
+    (λ k. still nothing (answered (A.Refused k)) refl (d .pending))
+    (λ _. done d P.Nothing)
+fault-held m d b (shift va) = still nothing (reported _) refl (d .pending)
 
 module _ (m : Lent) (p : Prices) (b : Bill) (d : Device) (v : ℕ) where
   -- an acknowledgement by its bit 0

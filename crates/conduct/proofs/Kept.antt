@@ -20,12 +20,12 @@ use Rattle.registers.proofs.Offsets.{by-offset}
 use Rattle.decision.specs.Prefetches.{pageAt, prefetchDecided}
 use Rattle.unit.specs.Refusals.{Clear}
 use Rattle.unit.specs.Device.{look, cleared, told, toldRefused, refusedWith, decidedBy, attemptOf}
-use Rattle.unit.specs.Calls.{prefetchAt, acknowledgeAt, lockAt, loadAt, mayWalk, requestRefusals, requestOf, writeRefusals, retried, carried, writeOf, readRefusals, readOf, dropRefusals, dropOf}
+use Rattle.unit.specs.Offsets.{prefetchAt, controlAt, acknowledgeAt, baseHighAt, baseLowAt, lockAt, loadAt, camHighAt, camLowAt, ramHighAt, ramLowAt, flushAt, entryFlushAt}
+use Rattle.unit.specs.Calls.{mayWalk, requestRefusals, requestOf, writeRefusals, retried, carried, writeOf, readRefusals, readOf, dropRefusals, dropOf}
 use Rattle.unit.specs.Machine.{request, write, read, shift}
 use Rattle.unit.proofs.Refusing.{refuses-by}
 use Rattle.conduct.specs.Types.{Access, VirtualAddress, Lent, Bill, Prices, Bank, Fill, Pending, Command, Device, Outcome, Told}
-use Rattle.conduct.specs.Flushed.{flushAt, entryFlushAt}
-use Rattle.conduct.specs.Kept.{controlAt, baseHighAt, baseLowAt, camHighAt, camLowAt, ramHighAt, ramLowAt, isReset, WriteKeeps, Frames}
+use Rattle.conduct.specs.Kept.{isReset, WriteKeeps, Frames}
 
 -- no fill moves the lock base
 fill-lock-kept : (b : Bank) (f : Fill) → entryFilled b f .lock ≡ b .lock

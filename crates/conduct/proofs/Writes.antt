@@ -19,7 +19,8 @@ use Rattle.registers.proofs.Offsets.{by-offset}
 use Rattle.decision.specs.Prefetches.{pageAt}
 use Rattle.unit.specs.Refusals.{Clear}
 use Rattle.unit.specs.Device.{look, cleared, doneWith, attemptOf}
-use Rattle.unit.specs.Calls.{prefetchAt, acknowledgeAt, lockAt, loadAt, noMatch, lacks, isReadOnly, mayWalk, retryLacks, writeLacks, isMalformed, isUntimely, writeRefusals, prefetched, heldRetried, retried, carried}
+use Rattle.unit.specs.Offsets.{prefetchAt, acknowledgeAt, lockAt, loadAt}
+use Rattle.unit.specs.Calls.{noMatch, lacks, isReadOnly, mayWalk, retryLacks, writeLacks, isMalformed, isUntimely, writeRefusals, prefetched, heldRetried, retried, carried}
 use Rattle.conduct.specs.Types.{Access, VirtualAddress, Lent, Bill, Prices, Fault, Pending, Command, Device, Outcome, Tending}
 use Rattle.conduct.specs.Asked.{Asked, nothing, attempt, prefetch, retryAsked, writeAsked}
 use Rattle.conduct.proofs.Tests.{rest, either-left, either-right, pick-both, four}

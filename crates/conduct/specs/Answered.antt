@@ -1,8 +1,10 @@
--- Demand 2, what a request or a retry answers (01, "The unit", "The walk", "Registers").
-use Rattle.page.specs.Ground.{ℕ, _%_, _<_, _≡_, Bool, true, false, getD}
-use Rattle.page.specs.Words.{physical, permits, wordAccess, wordMatches, wordAddress}
+-- Demand 2, what a request, a retry, a prefetch and a shift report answer (01, "The unit", "The walk", "Registers", "Meters and the walk
+-- bill").
+use Rattle.page.specs.Ground.{ℕ, _%_, _<_, _≡_, Bool, true, false, List, [], _∷_, getD}
+use Rattle.page.specs.Words.{limit, physical, permits, wordAccess, wordMatches, wordAddress}
 use mathlib.Core.Logic.{_≢_}
-use Rattle.descriptors.specs.Descriptors.{physicalOf}
+use lib.IntN.{ℤ}
+use Rattle.descriptors.specs.Descriptors.{physicalOf, distanceOf, foundNumber}
 use Rattle.descriptors.specs.declared.Found.the-variants as D
 use Rattle.lanes.specs.Lanes.{slots}
 use Rattle.registers.specs.Answers.{isPrefetch}
@@ -10,10 +12,11 @@ use Rattle.registers.specs.Fields.{isOn, isWalking}
 use Rattle.registers.specs.declared.Fault.the-variants as K
 use Rattle.registers.specs.declared.Pending.the-variants as P
 use Rattle.registers.specs.declared.Answer.the-variants as A
-use Rattle.unit.specs.Calls.{acknowledgeAt}
-use Rattle.unit.specs.Device.{look}
-use Rattle.unit.specs.Machine.{Call, write, Said, answered, step}
-use Rattle.conduct.specs.Types.{Access, VirtualAddress, Lent, Page, Found, Bill, Prices, Fault, Device}
+use Rattle.decision.specs.Prefetches.{pageAt, shiftNumber, shiftValues}
+use Rattle.unit.specs.Offsets.{prefetchAt, acknowledgeAt}
+use Rattle.unit.specs.Device.{inRange, look}
+use Rattle.unit.specs.Machine.{Call, write, shift, Said, answered, reported, step}
+use Rattle.conduct.specs.Types.{Access, VirtualAddress, Lent, lentOk, Page, Found, Bill, Prices, Fault, Shift, Device}
 use Rattle.conduct.specs.Refused.{Accepted}
 use Rattle.conduct.specs.Asked.{attempt, asked}
 
@@ -73,3 +76,31 @@ AnswersOn =
     (m : Lent) (d : Device) (b : Bill) (c : Call) (again : Bool) (va : VirtualAddress) (a : Access)
     → isOn (d .registers .control) ≡ true → asked d c ≡ attempt again va a → Accepted m d b c
     → OnAnswers m d va a (step m d b c .said)
+
+-- a prefetch that is not refused says nothing on a match and where its walk finds a page, whatever its access, and 24 where it finds none
+pub record PrefetchAnswers (m : Lent) (d : Device) (va : VirtualAddress) (s : Said) : Type 0 where
+  pub match : (i : ℕ) → LowestMatch d va i → s ≡ answered A.Done
+  pub page : (g : Page) → NoSlot d va → look m d va .found ≡ D.Page g → s ≡ answered A.Done
+  pub none : NoSlot d va → look m d va .found ≡ D.NoPage → s ≡ answered (A.Fault K.Prefetch)
+
+abbrev pub PrefetchAnswered : Type 0
+PrefetchAnswered =
+    (m : Lent) (d : Device) (b : Bill) (v : ℕ) (p : Prices) → Accepted m d b (write prefetchAt v p)
+    → PrefetchAnswers m d (pageAt v) (step m d b (write prefetchAt v p) .said)
+
+-- the distance to what is found
+abbrev pub distances : VirtualAddress → Found → List ℤ
+distances va (D.Page g) = distanceOf (physicalOf g va) va ∷ []
+distances va D.NoPage = []
+distances va D.Missing = []
+
+-- a shift report tells the number of what the plain walk finds, 0, 21 or 3, and beside it the distance to a page
+pub record ShiftTells (va : VirtualAddress) (f : Found) (s : Shift) : Type 0 where
+  pub number : shiftNumber s ≡ foundNumber f
+  pub values : shiftValues s ≡ distances va f
+
+-- whatever control, slots and access say, where neither 8 nor 1 nor 4 holds
+abbrev pub ShiftAnswered : Type 0
+ShiftAnswered =
+    (m : Lent) (d : Device) (b : Bill) (va : VirtualAddress) (s : Shift) → inRange d ≡ true → va .0 < limit → lentOk m ≡ true
+    → step m d b (shift va) .said ≡ reported s → ShiftTells va (look m d va .found) s

@@ -8,7 +8,8 @@ use Rattle.registers.specs.Fields.{isOn, isWalking}
 use Rattle.registers.specs.declared.Pending.the-variants.{Nothing, Held}
 use Rattle.decision.specs.Prefetches.{pageAt}
 use Rattle.unit.specs.Device.{look}
-use Rattle.unit.specs.Calls.{prefetchAt, acknowledgeAt, noMatch, mayWalk}
+use Rattle.unit.specs.Offsets.{prefetchAt, acknowledgeAt}
+use Rattle.unit.specs.Calls.{noMatch, mayWalk}
 use Rattle.unit.specs.Machine.{Call, request, write, read, drop-fault, shift}
 use Rattle.conduct.specs.Types.{Access, VirtualAddress, Lent, Reads, Pending, Device}
 

@@ -5,7 +5,7 @@ use Rattle.registers.specs.declared.Fault.the-variants as K
 use Rattle.registers.specs.declared.Pending.the-variants as P
 use Rattle.registers.specs.declared.Answer.the-variants as A
 use Rattle.unit.specs.Device.{cleared, doneWith}
-use Rattle.unit.specs.Calls.{prefetchAt, acknowledgeAt}
+use Rattle.unit.specs.Offsets.{prefetchAt, acknowledgeAt}
 use Rattle.unit.specs.Machine.{Call, write, drop-fault, Said, answered, stepOut, step}
 use Rattle.conduct.specs.Types.{Access, VirtualAddress, PhysicalAddress, Lent, Bill, Prices, Fault, Pending, Device}
 use Rattle.conduct.specs.Refused.{saidRefused, Accepted}

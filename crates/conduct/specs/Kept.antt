@@ -2,32 +2,10 @@
 use Rattle.page.specs.Ground.{ℕ, _/_, _%_, _^_, _<_, _≡_, Bool, false, eqb}
 use Rattle.page.specs.Pick.{_and_}
 use mathlib.Core.Logic.{_≢_}
-use Rattle.unit.specs.Calls.{prefetchAt, lockAt, loadAt, mayWalk}
+use Rattle.unit.specs.Offsets.{prefetchAt, controlAt, baseHighAt, baseLowAt, lockAt, loadAt, camHighAt, camLowAt, ramHighAt, ramLowAt, flushAt, entryFlushAt}
+use Rattle.unit.specs.Calls.{mayWalk}
 use Rattle.unit.specs.Machine.{request, write, read, drop-fault, shift, step}
 use Rattle.conduct.specs.Types.{Access, VirtualAddress, Lent, Bill, Prices, Device}
-use Rattle.conduct.specs.Flushed.{flushAt, entryFlushAt}
-
--- offsets of Table 3: control, the halves of the base, the four staged registers
-abbrev pub controlAt : ℕ
-controlAt = 0x08
-
-abbrev pub baseHighAt : ℕ
-baseHighAt = 0x1c
-
-abbrev pub baseLowAt : ℕ
-baseLowAt = 0x20
-
-abbrev pub camHighAt : ℕ
-camHighAt = 0x2c
-
-abbrev pub camLowAt : ℕ
-camLowAt = 0x30
-
-abbrev pub ramHighAt : ℕ
-ramHighAt = 0x34
-
-abbrev pub ramLowAt : ℕ
-ramLowAt = 0x38
 
 -- a write of control with bit 0 clear
 abbrev pub isReset : ℕ → ℕ → Bool

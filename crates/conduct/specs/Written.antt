@@ -4,16 +4,17 @@ use Rattle.page.specs.Pick.{pick}
 use mathlib.Core.Logic.{_≢_}
 use Rattle.meters.specs.Posted.{noTally}
 use Rattle.bank.specs.Slots.{slotAt}
+use Rattle.registers.specs.Answers.{faultStatus, faultAddress}
 use Rattle.registers.specs.Fields.{wordsOf, entryOf}
 use Rattle.registers.specs.Table.{listed}
 use Rattle.registers.specs.declared.Answer.the-variants as A
 use Rattle.unit.specs.Device.{freshDevice, inRange}
-use Rattle.unit.specs.Calls.{prefetchAt, acknowledgeAt, lockAt, loadAt}
+use Rattle.unit.specs.Offsets.{prefetchAt, walkStatusAt, controlAt, faultHighAt, faultLowAt, faultStatusAt, acknowledgeAt, baseHighAt, baseLowAt, lockAt, loadAt, camHighAt, camLowAt, ramHighAt, ramLowAt, readCamHighAt, readCamLowAt, readRamHighAt, readRamLowAt}
+use Rattle.unit.specs.Calls.{isReadOnly}
 use Rattle.unit.specs.Machine.{write, read, answered, Step, step}
 use Rattle.conduct.specs.Types.{Lent, Bill, Prices, Device}
 use Rattle.conduct.specs.Refused.{Accepted, BytesFit}
 use Rattle.conduct.specs.Filled.{LanesFit}
-use Rattle.conduct.specs.Kept.{controlAt, baseHighAt, baseLowAt, camHighAt, camLowAt, ramHighAt, ramLowAt}
 
 -- what a register keeps of a value: reserved bits are dropped, load and the flushes read zero, and so does control after a reset
 unfoldable pub keptBits : ℕ → ℕ → ℕ
@@ -37,6 +38,26 @@ ReadBack =
     (m : Lent) (d : Device) (b b′ : Bill) (o v : ℕ) (p : Prices)
     → BytesFit m → v < 2 ^ 16 → o ≢ acknowledgeAt → Accepted m d b (write o v p)
     → step m (step m d b (write o v p) .device) b′ (read o) .said ≡ answered (A.Value (keptBits o v))
+
+-- what each register that is only read shows: walk status zero, the pending fault and its address, the entry last copied
+unfoldable pub shownOnly : Device → ℕ → ℕ
+shownOnly d o =
+    listed (
+    (walkStatusAt, 0)
+    ∷ (faultHighAt, faultAddress (d .pending) / 65536 % 256)
+    ∷ (faultLowAt, faultAddress (d .pending) / 128 % 512 * 128)
+    ∷ (faultStatusAt, faultStatus (d .pending))
+    ∷ (readCamHighAt, d .registers .copied .camhi)
+    ∷ (readCamLowAt, d .registers .copied .camlo)
+    ∷ (readRamHighAt, d .registers .copied .ramhi)
+    ∷ (readRamLowAt, d .registers .copied .ramlo)
+    ∷ [])
+    0 o
+
+abbrev pub ReadShown : Type 0
+ReadShown =
+    (m : Lent) (d : Device) (b : Bill) (o : ℕ) → isReadOnly o ≡ true → Accepted m d b (read o)
+    → step m d b (read o) .said ≡ answered (A.Value (shownOnly d o))
 
 -- a write of control with bit 0 clear makes any device in range fresh, leaves the bill and adds nothing to the meters
 pub record Resets (b : Bill) (s : Step) : Type 0 where

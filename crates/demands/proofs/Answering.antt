@@ -1,22 +1,17 @@
 -- Each request and each retry that the paper does not refuse is answered, as the list says. Assumes nothing.
-use mathlib.Core.Path.{_≡_, refl, sym, _∙_, ap, subst}
-use mathlib.Core.Bool.{Bool, true, false}
+use mathlib.Core.Path.{_≡_, sym, _∙_, ap, subst}
+use mathlib.Core.Bool.{true}
 use mathlib.Core.List.{List, [], _∷_}
-use Prim.Native.Nat.{ℕ, _<_, _%_}
-use native.Mathlib.Omega.{arith}
-use Rattle.memory.specs.Memory.{Lent, lentOk}
+use Prim.Native.Nat.{ℕ}
+use Rattle.memory.specs.Memory.{Lent}
 use Rattle.records.specs.Mappings.{mappings}
 use Rattle.lists.specs.Meanings.{holder}
-use Rattle.page.specs.Words.{limit}
-use Rattle.registers.specs.declared.Pending.the-variants.{Nothing, Held}
-use Rattle.decision.specs.Types.{VirtualAddress}
 use Rattle.unit.specs.declared.Device.{Device}
 use Rattle.unit.specs.Device.{inRange}
 use Rattle.unit.specs.Machine.{step}
 use Rattle.conduct.specs.Refused.{BytesFit}
 use Rattle.conduct.proofs.Ranged.{range-kept}
 use Rattle.coherence.specs.Agreement.{Coherent, Below}
-use Rattle.coherence.specs.Answered.{Ready}
 use Rattle.coherence.specs.Sessions.{after, started, lookFrom}
 use Rattle.coherence.specs.Sessions as Sessions
 use Rattle.coherence.specs.Started.{startControl}
@@ -25,9 +20,8 @@ use Rattle.coherence.proofs.Started.{start-on, start-walking, start-in-range}
 use Rattle.coherence.proofs.Answered.{request-answered, retry-answered}
 use Rattle.translates.specs.Statements.{Translates}
 use Rattle.translates.proofs.Theorems.{image-translates}
-use Rattle.demands.specs.Demands.{start, byList}
 use Rattle.demands.specs.Answering.{ValuesFit, Session, RequestsAnswered, RetriesAnswered}
-use Rattle.demands.proofs.Lists.{list-said, gives-found, start-is, base-low, base-128}
+use Rattle.demands.proofs.Lists.{list-said, as-list, gives-found, start-is, base-low, base-128}
 
 -- every device of a session is in range
 ranges : (m : Lent) → BytesFit m → (cs : List Sessions.Billed) → ValuesFit cs → (d : Device) → inRange d ≡ true → inRange (after m d cs) ≡ true
@@ -57,15 +51,15 @@ pub requests-answered : RequestsAnswered
 requests-answered rs base m d s p b va a q l money =
     let t = owes rs base m d s in
     let g = t .gives va l in
-    request-answered m base p b d va a (coherent rs base m d s) (record { range = in-range rs base m d s; memories = s .lent; money = money }) q l
+    as-list _ _ (request-answered m base p b d va a (coherent rs base m d s) (record { range = in-range rs base m d s; memories = s .lent; money = money }) q l
     (gives-found (holder (mappings rs) va) va (lookFrom m base va .found) g) .plainly
-    ∙ list-said (lookFrom m base) (mappings rs) va a g
+    ∙ list-said (lookFrom m base) (mappings rs) va a g)
 
 pub retries-answered : RetriesAnswered
 retries-answered rs base m d s p b v k va a q f o money =
     let t = owes rs base m d s in
     let h = coherent rs base m d s in
     let g = t .gives va (subst Below q (h .below)) in
-    retry-answered m base p b d v k va a h (record { range = in-range rs base m d s; memories = s .lent; money = money }) q f o
+    as-list _ _ (retry-answered m base p b d v k va a h (record { range = in-range rs base m d s; memories = s .lent; money = money }) q f o
     (gives-found (holder (mappings rs) va) va (lookFrom m base va .found) g) .plainly
-    ∙ list-said (lookFrom m base) (mappings rs) va a g
+    ∙ list-said (lookFrom m base) (mappings rs) va a g)

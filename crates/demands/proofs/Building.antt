@@ -1,5 +1,5 @@
--- The builder's answer is the first of its refusals, else the image's length. Assumes nothing.
-use mathlib.Core.Path.{_≡_, refl, sym, ap, subst}
+-- The builder's answer is the first of its refusals, else the image's length, and then it leaves the image. Assumes nothing.
+use mathlib.Core.Path.{_≡_, refl, sym, _∙_, ap, subst}
 use mathlib.Core.Bool.{Bool, true, false, not, false≢true}
 use mathlib.Core.List.{List, [], _∷_}
 use mathlib.Core.Logic.{inl, inr}
@@ -14,12 +14,15 @@ use Rattle.lists.specs.declared.Checked.{Checked}
 use Rattle.lists.specs.declared.Checked.the-variants as C
 use Rattle.tables.specs.Tables.{imageLength}
 use Rattle.image.specs.Image.{image}
+use Rattle.image.proofs.Whole.{image-length-is}
 use Rattle.builder.specs.declared.Built.{Built}
 use Rattle.builder.specs.declared.Built.the-variants.{Length, BadMemory, BadRecord, Overlap, TooLong}
 use Rattle.builder.specs.Build.{roomOk, afterCheck, lengthOr, answerOf, leaves, buildOf}
+use Rattle.builder.proofs.Answers.{accepted}
+use Rattle.translates.proofs.Theorems.{leaves-image}
 use Rattle.unit.specs.Refusals.{Refusing, refuses, First, Clear}
 use Rattle.conduct.proofs.Firsts.{exactly-first, accepted-clear}
-use Rattle.demands.specs.Building.{recordRefusals, buildRefusals, builtRefused, builtSaid, BuildRefuses}
+use Rattle.demands.specs.Building.{recordRefusals, buildRefusals, builtRefused, builtSaid, BuildRefuses, BuildLeaves}
 
 -- a refusal as the builder's answer, by its number
 abbrev say : ℕ × ℕ → Built
@@ -113,3 +116,12 @@ refused-left rs base before h = left (answerOf rs base (length before)) (image m
 
 pub build-refuses : BuildRefuses
 build-refuses = record { when = exactly; otherwise = clear; answers = build-answers; unchanged = refused-left }
+
+-- an accepted one answers and leaves the image
+pub build-leaves : BuildLeaves
+build-leaves rs base len before e =
+    let h = sym (build-answers rs base before) ∙ e in
+    record {
+      length-is = accepted rs base (length before) len h .length-is ∙ sym (image-length-is megabytes (mappings rs) base);
+      memory = leaves-image rs base len before h;
+    }

@@ -35,7 +35,7 @@ use Rattle.translates.specs.Statements.{Has, Standing, Bytes}
 use Rattle.translates.specs.ListA.{recordsA, baseA}
 use Rattle.translates.proofs.Theorems.{bytes-drop, leaves-image, built-has}
 use Rattle.translates.proofs.Samples.{accepts-a}
-use Rattle.demands.specs.Demands.{byList}
+use Rattle.demands.specs.Demands.{said}
 use Rattle.demands.specs.Answering.{ValuesFit, Session}
 use Rattle.demands.specs.Buyer.{LentAt, BuiltThenCalled, builtIn, BuiltSession, memoryA, pricesA, deviceA, callsA, Exhibited}
 use Rattle.unit.specs.declared.Device.{Device}
@@ -170,7 +170,7 @@ session-a : (cs : List Sessions.Billed) → Admitted cs → ValuesFit cs → Ses
 session-a cs adm fit = built-session recordsA baseA 8192 (replicate 8192 0) 7 pricesA freshBill cs bytes-a (zero-bytes 8192) built-a refl adm fit
 
 -- what the list says of one address
-byte-a : byList (mappings recordsA) (virtual 0x012345) Read ≡ A.Address (physical 0x10022345)
+byte-a : said (meaning (mappings recordsA) (virtual 0x012345) Read) ≡ A.Address (physical 0x10022345)
 unfolding meaning holder holds byteOf mappings mappingsFrom mappingOf wordOf kindOf pick _and_ _or_ upper joined
 byte-a = refl
 
@@ -185,6 +185,6 @@ exhibited = record {
   session = session-a callsA (refl, (refl, (refl, (refl, (refl, (refl, (refl, tt))))))) (tt, (tt, (omega arith, (tt, (omega arith, (tt, (tt, tt)))))));
   answers =
       requests-answered recordsA baseA memoryA deviceA (session-a [] tt tt) pricesA freshBill (virtual 0x012345) Read
-      (ap (λ (d : Device). d .pending) (start-is recordsA baseA 8192 8192 accepts-a memoryA 7 pricesA freshBill refl)) (omega arith) money-a
+      (ap (λ (d : Device). d .pending) (start-is recordsA baseA 8192 8192 accepts-a memoryA 7 pricesA freshBill refl)) (omega arith) money-a .answer
       ∙ byte-a;
 }

@@ -1,14 +1,12 @@
 -- The plain walk over an image answers as the list, and the start is what its writes leave. Assumes nothing.
 use mathlib.Core.Path.{_≡_, refl, sym, _∙_, ap, ap₂, subst}
-use mathlib.Core.Bool.{Bool, true, false, true≢false, false≢true}
+use mathlib.Core.Bool.{Bool, true, false, false≢true}
 use mathlib.Core.List.{List}
-use Prim.Native.Nat.{ℕ, _+_, _*_, _/_, _%_, _^_, _<_, _≤_}
+use Prim.Native.Nat.{ℕ, _%_, _^_, _<_}
 use native.Mathlib.Omega.{arith}
-use Rattle.page.proofs.Picks.{pick-by}
 use Rattle.page.specs.Pick.{pick}
 use Rattle.page.specs.Words.{permits, megabytes, limit}
 use Rattle.memory.specs.Memory.{Lent, lentOk}
-use Rattle.descriptors.specs.Descriptors.{physicalOf}
 use Rattle.descriptors.specs.Statements.{isMissing}
 use Rattle.descriptors.specs.declared.Found.the-variants as D
 use Rattle.walk.proofs.Walks.{walk-refused}
@@ -23,21 +21,16 @@ use Rattle.builder.specs.declared.Built.the-variants.{Length}
 use Rattle.builder.specs.Build.{answerOf}
 use Rattle.builder.proofs.Answers.{accepted, room-unit, room-memory}
 use Rattle.tables.proofs.Places.{image-first}
-use Rattle.registers.specs.declared.Fault.the-variants as K
 use Rattle.registers.specs.declared.Answer.the-variants as A
 use Rattle.decision.specs.Types.{Access, VirtualAddress, PhysicalAddress, Reads, Found, Walked, Bill, Prices, Answer}
 use Rattle.decision.specs.Decisions.{byAccess, byFound}
-use Rattle.unit.specs.declared.Device.{Device}
-use Rattle.unit.specs.declared.Outcome.{Outcome}
-use Rattle.unit.specs.Device.{freshDevice}
-use Rattle.unit.specs.Machine.{write, step}
 use Rattle.coherence.specs.Agreement.{plain}
 use Rattle.walk.specs.Uniform.{Look, Uniform}
-use Rattle.coherence.specs.Sessions.{started, lookFrom, controlAt, baseHighAt, baseLowAt}
-use Rattle.coherence.specs.Started.{startControl}
-use Rattle.coherence.proofs.Started.{started-by-writes}
-use Rattle.translates.specs.Statements.{Gives, Inside}
-use Rattle.demands.specs.Demands.{said, byList, start}
+use Rattle.coherence.specs.Sessions.{started, lookFrom}
+use Rattle.coherence.specs.Started.{TurnsOn, start, startControl}
+use Rattle.coherence.proofs.Started.{started-in-any-order}
+use Rattle.translates.specs.Statements.{Gives}
+use Rattle.demands.specs.Demands.{said, AsList}
 
 -- a byte with its access, and what a mapping says of it
 access-said : (m : Mapping) (va : VirtualAddress) (a : Access) (t : Bool) → permits (m .access) a ≡ t → byAccess (m .access) (byteOf m va) a ≡ said (heldMeaning (By m) va a)
@@ -55,9 +48,18 @@ gives-said Nobody va a r (D.Page p) g = absurd g
 gives-said Nobody va a r D.NoPage g = refl
 gives-said Nobody va a r D.Missing g = absurd g
 
-pub list-said : (look : Look) (ms : List Mapping) (va : VirtualAddress) (a : Access) → Gives (holder ms va) va (look va .found) → plain look va a ≡ byList ms va a
+pub list-said : (look : Look) (ms : List Mapping) (va : VirtualAddress) (a : Access) → Gives (holder ms va) va (look va .found) → plain look va a ≡ said (meaning ms va a)
 unfolding meaning
 list-said look ms va a g = gives-said (holder ms va) va a (look va .reads) (look va .found) g
+
+-- in the paper's number and values too
+numbers : (x : Meaning) → AsList (said x) x
+numbers (Byte p) = record { answer = refl; number = refl; values = refl }
+numbers Permission = record { answer = refl; number = refl; values = refl }
+numbers Translation = record { answer = refl; number = refl; values = refl }
+
+pub as-list : (r : Answer) (x : Meaning) → r ≡ said x → AsList r x
+as-list r x e = subst (λ (y : Answer). AsList y x) (sym e) (numbers x)
 
 -- a walk that gives what the list says misses no word
 pub gives-found : (h : Held) (va : VirtualAddress) (f : Found) → Gives h va f → isMissing f ≡ false
@@ -87,12 +89,5 @@ module _ (rs : List ℕ) (base room len : ℕ) (e : answerOf rs base room ≡ Le
   pub base-128 : base % 128 ≡ 0
   base-128 = omega (arith, room-unit base room (accepted rs base room len e .memory))
 
-  pub start-is : (m : Lent) (v : ℕ) (p : Prices) (b : Bill) → v % 8 ≡ 7 → start m base v p b ≡ started (startControl v) base
-  start-is m v p b h =
-      let w = started-by-writes v base h base-low base-128 in
-      ap (λ (d : Device). step m (step m d b (write baseLowAt (base % 65536) p) .device) b (write controlAt v p) .device) (dev (w .high m p b))
-      ∙ ap (λ (d : Device). step m d b (write controlAt v p) .device) (dev (w .low m p b))
-      ∙ dev (w .on m p b)
-    where
-      dev : {x y : Outcome} → x ≡ y → x .device ≡ y .device
-      dev q = ap (λ (o : Outcome). o .device) q
+  pub start-is : (m : Lent) (v : ℕ) (p : Prices) (b : Bill) → TurnsOn v → start m base v p b ≡ started (startControl v) base
+  start-is m v p b h = started-in-any-order m base v p b base-low base-128 h .0

@@ -4,6 +4,7 @@ use mathlib.Core.Path.{_≡_, refl, sym, _∙_, ap, subst}
 use mathlib.Core.Bool.{Bool, true, false, true≢false}
 use Rattle.memory.specs.Memory.{lentOk}
 use Rattle.records.specs.Mappings.{mappings}
+use Rattle.lists.specs.Meanings.{meaning}
 use Rattle.registers.specs.Answers.{isRefusal}
 use Rattle.unit.specs.declared.Device.{Device}
 use Rattle.unit.specs.Machine.{answered, step}
@@ -19,14 +20,14 @@ use Rattle.conduct.proofs.Cached.{fault-not-cached}
 use Rattle.conduct.proofs.Flushed.{flush-exact}
 use Rattle.conduct.proofs.Metered.{metered, billed, posted-meters, bench-stays, good-kept}
 use Rattle.conduct.proofs.Answered.{one-acknowledgement, off-is-virtual}
-use Rattle.conduct.proofs.Answering.{answers-on}
+use Rattle.conduct.proofs.Answering.{answers-on, prefetch-answered, shift-answered}
 use Rattle.conduct.proofs.Held.{fault-held, fault-dropped}
 use Rattle.conduct.proofs.Kept.{frames}
-use Rattle.conduct.proofs.Written.{read-back, reset-fresh, load-copied, load-then-copy}
+use Rattle.conduct.proofs.Written.{read-back, read-shown, reset-fresh, load-copied, load-then-copy}
 use Rattle.translates.proofs.Theorems.{image-translates}
-use Rattle.demands.proofs.Building.{build-refuses}
-use Rattle.demands.specs.Demands.{Demand1, Demand2, Demand3, byList}
-use Rattle.demands.proofs.Lists.{list-said, refused-uniform, refused-plain, start-is}
+use Rattle.demands.proofs.Building.{build-refuses, build-leaves}
+use Rattle.demands.specs.Demands.{Demand1, Demand2, Demand3, AsList}
+use Rattle.demands.proofs.Lists.{list-said, as-list, refused-uniform, refused-plain, start-is}
 
 pub demand-1 : Demand1
 demand-1 = record {
@@ -54,16 +55,20 @@ demand-2 = record {
   on = answers-on;
   off = off-is-virtual;
   acknowledged = one-acknowledgement;
+  prefetched = prefetch-answered;
+  shifted = shift-answered;
   kept = frames;
   read-back = read-back;
+  read-shown = read-shown;
   reset = reset-fresh;
   load-copy = load-copied;
   load-then-copy = load-then-copy;
+  built = build-leaves;
 }
 
 pub demand-3 : Demand3
 demand-3 rs base room len m v p b₀ cs b c va a r bytes acc standing on adm =
-    subst (λ (d : Device). asked (after m d cs) c ≡ asks va a → step m (after m d cs) b c .said ≡ answered r → isRefusal r ≡ false → r ≡ byList (mappings rs) va a)
+    subst (λ (d : Device). asked (after m d cs) c ≡ asks va a → step m (after m d cs) b c .said ≡ answered r → isRefusal r ≡ false → AsList r (meaning (mappings rs) va a))
     (sym (start-is rs base room len acc m v p b₀ on))
     (by (lentOk m) refl)
   where
@@ -71,11 +76,11 @@ demand-3 rs base room len m v p b₀ cs b c va a r bytes acc standing on adm =
     never = cache-never-shows m (startControl v) base (start-on v) (start-walking v)
 
     by : (t : Bool) → lentOk m ≡ t → asked (after m (started (startControl v) base) cs) c ≡ asks va a →
-        step m (after m (started (startControl v) base) cs) b c .said ≡ answered r → isRefusal r ≡ false → r ≡ byList (mappings rs) va a
+        step m (after m (started (startControl v) base) cs) b c .said ≡ answered r → isRefusal r ≡ false → AsList r (meaning (mappings rs) va a)
     by true e q s f =
         let t = image-translates rs base room len m bytes acc e standing in
         let n = never (t .uniform) cs b c va a r adm q s f in
-        n .1 ∙ list-said (lookFrom m base) (mappings rs) va a (t .gives va (n .0))
+        as-list r _ (n .1 ∙ list-said (lookFrom m base) (mappings rs) va a (t .gives va (n .0)))
     by false e q s f =
         let n = never (refused-uniform m base e) cs b c va a r adm q s f in
         absurd (true≢false (sym (ap isRefusal (n .1 ∙ refused-plain m base va a e)) ∙ f))

@@ -2,7 +2,7 @@
 use Rattle.demands.specs.Signed.{Signed}
 use Rattle.demands.proofs.Proved.{demand-1, demand-2, demand-3}
 use Rattle.demands.proofs.Answering.{requests-answered, retries-answered}
-use Rattle.demands.proofs.Orders.{start-in-any-order}
+use Rattle.coherence.proofs.Started.{started-in-any-order}
 use Rattle.demands.proofs.Buyer.{built-then-called, built-session, exhibited}
 
 pub signed : Signed
@@ -12,7 +12,7 @@ signed = record {
   third = demand-3;
   requests = requests-answered;
   retries = retries-answered;
-  any-order = start-in-any-order;
+  any-order = started-in-any-order;
   built = built-then-called;
   sessions = built-session;
   exhibited = exhibited;

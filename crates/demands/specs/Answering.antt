@@ -4,6 +4,7 @@ use Rattle.page.specs.Ground.{ℕ, _%_, _<_, _≡_, true, false, List, [], _∷
 use Rattle.memory.specs.Memory.{Lent, lentOk}
 use Rattle.bill.specs.Bill.{moneyOk}
 use Rattle.records.specs.Mappings.{mappings}
+use Rattle.lists.specs.Meanings.{meaning}
 use Rattle.builder.specs.declared.Built.the-variants.{Length}
 use Rattle.image.specs.Image.{image}
 use Rattle.builder.specs.Build.{answerOf}
@@ -11,12 +12,14 @@ use Rattle.registers.specs.Answers.{isPrefetch}
 use Rattle.registers.specs.declared.Pending.the-variants.{Nothing, Held}
 use Rattle.decision.specs.Types.{Access, VirtualAddress, Bill, Prices, Fault}
 use Rattle.unit.specs.declared.Device.{Device}
-use Rattle.unit.specs.Calls.{acknowledgeAt, requestOf, writeOf}
+use Rattle.unit.specs.Offsets.{acknowledgeAt}
+use Rattle.unit.specs.Calls.{requestOf, writeOf}
 use Rattle.conduct.specs.Refused.{BytesFit, ValueFits}
 use Rattle.coherence.specs.Sessions.{after, Admitted}
 use Rattle.coherence.specs.Sessions as Sessions
+use Rattle.coherence.specs.Started.{TurnsOn, start}
 use Rattle.translates.specs.Statements.{Bytes, Standing}
-use Rattle.demands.specs.Demands.{byList, start}
+use Rattle.demands.specs.Demands.{AsList}
 
 -- every value written has 16 bits, as its type says
 abbrev pub ValuesFit : List Sessions.Billed → Type 0
@@ -36,7 +39,7 @@ pub record Session (rs : List ℕ) (base : ℕ) (m : Lent) (d : Device) : Type 0
   pub lent : lentOk m ≡ true
   pub lent-bytes : BytesFit m
   pub standing : Standing m base (image megabytes (mappings rs) base)
-  pub on : v % 8 ≡ 7
+  pub on : TurnsOn v
   pub admitted : Admitted calls
   pub values : ValuesFit calls
   pub device : d ≡ after m (start m base v p b) calls
@@ -47,7 +50,7 @@ RequestsAnswered =
     (rs : List ℕ) (base : ℕ) (m : Lent) (d : Device) → Session rs base m d →
     (p : Prices) (b : Bill) (va : VirtualAddress) (a : Access) →
     d .pending ≡ Nothing → va .0 < limit → moneyOk p b ≡ true →
-    requestOf m p b d va a .answer ≡ byList (mappings rs) va a
+    AsList (requestOf m p b d va a .answer) (meaning (mappings rs) va a)
 
 -- and so does the retry of a pending request
 abbrev pub RetriesAnswered : Type 0
@@ -55,4 +58,4 @@ RetriesAnswered =
     (rs : List ℕ) (base : ℕ) (m : Lent) (d : Device) → Session rs base m d →
     (p : Prices) (b : Bill) (v : ℕ) (k : Fault) (va : VirtualAddress) (a : Access) →
     d .pending ≡ Held k va a → isPrefetch k ≡ false → v % 2 ≡ 1 → moneyOk p b ≡ true →
-    writeOf m p b d acknowledgeAt v .answer ≡ byList (mappings rs) va a
+    AsList (writeOf m p b d acknowledgeAt v .answer) (meaning (mappings rs) va a)

@@ -1,10 +1,13 @@
--- Demand 1 for the builder: each refusal, with its index or count, exactly when the paper says (01, "When the unit says no").
+-- The builder, demand 1: each refusal, with its index or count, exactly when the paper says (01, "When the unit says no"); and demand 2:
+-- what an accepted build answers and leaves (01, "The builder").
 use Rattle.page.specs.Words.{megabytes}
-use Rattle.page.specs.Ground.{ℕ, zero, suc, _≡_, Bool, true, false, not, List, [], _∷_, eqb, ltb, length}
+use Rattle.page.specs.Ground.{ℕ, zero, suc, _≡_, Bool, true, false, not, List, [], _∷_, _++_, eqb, ltb, length, drop}
 use Rattle.records.specs.Mappings.{mappings}
 use Rattle.lists.specs.Refusals.{bad, overlapping, begun}
 use Rattle.tables.specs.Tables.{imageLength}
+use Rattle.image.specs.Image.{image}
 use Rattle.builder.specs.declared.Built.{Built}
+use Rattle.builder.specs.declared.Built.the-variants.{Length}
 use Rattle.builder.specs.Build.{roomOk, answerOf, buildOf, builtNumber, builtValue}
 use Rattle.unit.specs.Refusals.{Refusing, First, Clear}
 
@@ -40,3 +43,13 @@ pub record BuildRefuses : Type 0 where
   pub answers : (rs : List ℕ) (base : ℕ) (before : List ℕ) → buildOf rs base before .answer ≡ answerOf rs base (length before)
   pub unchanged :
       (rs : List ℕ) (base : ℕ) (before : List ℕ) → builtRefused (buildOf rs base before .answer) ≡ true → buildOf rs base before .memory ≡ before
+
+-- an accepted build answers the image's length, writes the image, and leaves every later byte
+pub record Leaves (rs : List ℕ) (base len : ℕ) (before after : List ℕ) : Type 0 where
+  pub length-is : len ≡ length (image megabytes (mappings rs) base)
+  pub memory : after ≡ image megabytes (mappings rs) base ++ drop len before
+
+abbrev pub BuildLeaves : Type 0
+BuildLeaves =
+    (rs : List ℕ) (base len : ℕ) (before : List ℕ) → buildOf rs base before .answer ≡ Length len
+    → Leaves rs base len before (buildOf rs base before .memory)

@@ -1,10 +1,11 @@
 -- Demand 3 in the buyer's order: build a list into a memory, lend that memory, start, call. And a session with list A.
 use Rattle.page.specs.Words.{virtual, physical}
-use Rattle.page.specs.Ground.{ℕ, _%_, _≡_, false, List, [], _∷_, replicate}
+use Rattle.page.specs.Ground.{ℕ, _≡_, false, List, [], _∷_, replicate}
 use Rattle.page.specs.declared.Access.the-variants.{Read, Write}
 use Rattle.memory.specs.Memory.{Lent, lent}
 use Rattle.bill.specs.Bill.{f1, freshBill}
 use Rattle.records.specs.Mappings.{mappings}
+use Rattle.lists.specs.Meanings.{meaning}
 use Rattle.builder.specs.declared.Built.the-variants.{Length}
 use Rattle.builder.specs.Build.{buildOf}
 use Rattle.prices.specs.declared.Price.the-variants.{Flat}
@@ -12,13 +13,15 @@ use Rattle.registers.specs.declared.Answer.the-variants as A
 use Rattle.registers.specs.Answers.{isRefusal}
 use Rattle.decision.specs.Types.{Access, VirtualAddress, Bill, Prices, Answer}
 use Rattle.unit.specs.declared.Device.{Device}
-use Rattle.unit.specs.Calls.{prefetchAt, acknowledgeAt, requestOf}
+use Rattle.unit.specs.Offsets.{prefetchAt, acknowledgeAt}
+use Rattle.unit.specs.Calls.{requestOf}
 use Rattle.unit.specs.Machine.{Call, request, write, read, drop-fault, answered, step}
 use Rattle.coherence.specs.Sessions.{after, Admitted, asked, asks}
 use Rattle.coherence.specs.Sessions as Sessions
+use Rattle.coherence.specs.Started.{TurnsOn, start}
 use Rattle.translates.specs.Statements.{Bytes}
 use Rattle.translates.specs.ListA.{recordsA, baseA}
-use Rattle.demands.specs.Demands.{byList, start}
+use Rattle.demands.specs.Demands.{AsList}
 use Rattle.demands.specs.Answering.{ValuesFit, Session}
 use mathlib.Core.Logic.{_⊎_}
 
@@ -35,12 +38,12 @@ BuiltThenCalled =
     Bytes rs →
     buildOf rs base before .answer ≡ Length len →
     LentAt (buildOf rs base before .memory) base m →
-    v % 8 ≡ 7 →
+    TurnsOn v →
     Admitted cs →
     asked (after m (start m base v p b₀) cs) c ≡ asks va a →
     step m (after m (start m base v p b₀) cs) b c .said ≡ answered r →
     isRefusal r ≡ false →
-    r ≡ byList (mappings rs) va a
+    AsList r (meaning (mappings rs) va a)
 
 -- what a build leaves in a memory, lent as the external one beside an empty on-chip one
 abbrev pub builtIn : List ℕ → ℕ → List ℕ → Lent
@@ -53,7 +56,7 @@ BuiltSession =
     Bytes rs →
     Bytes before →
     buildOf rs base before .answer ≡ Length len →
-    v % 8 ≡ 7 →
+    TurnsOn v →
     Admitted cs →
     ValuesFit cs →
     Session rs base (builtIn rs base before) (after (builtIn rs base before) (start (builtIn rs base before) base v p b) cs)

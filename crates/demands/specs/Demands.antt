@@ -1,34 +1,33 @@
 -- The three demands of the buyer, over the definitions that the code's contracts cite. Their proofs: proofs/Proved.antt.
 use Rattle.page.specs.Words.{megabytes}
-use Rattle.page.specs.Ground.{ℕ, _/_, _%_, _^_, _<_, _≡_, false, List, [], _∷_}
+use Rattle.page.specs.Ground.{ℕ, _≡_, false, List}
 use Rattle.memory.specs.Memory.{Lent}
-use Rattle.records.specs.declared.Mapping.{Mapping}
 use Rattle.lists.specs.declared.Meaning.{Meaning}
 use Rattle.lists.specs.declared.Meaning.the-variants.{Byte, Permission, Translation}
 use Rattle.records.specs.Mappings.{mappings}
-use Rattle.lists.specs.Meanings.{meaning}
+use Rattle.lists.specs.Meanings.{meaning, meaningNumber, meaningValues}
 use Rattle.builder.specs.declared.Built.the-variants.{Length}
 use Rattle.image.specs.Image.{image}
 use Rattle.builder.specs.Build.{answerOf}
 use Rattle.registers.specs.declared.Fault.the-variants as K
 use Rattle.registers.specs.declared.Answer.the-variants as A
 use Rattle.registers.specs.Answers.{isRefusal}
+use Rattle.registers.specs.Answers as N
 use Rattle.decision.specs.Types.{Access, VirtualAddress, Bill, Prices, Answer}
-use Rattle.unit.specs.declared.Device.{Device}
-use Rattle.unit.specs.Device.{freshDevice}
-use Rattle.unit.specs.Machine.{Call, write, answered, step}
+use Rattle.unit.specs.Machine.{Call, answered, step}
 use Rattle.conduct.specs.Refused.{ExactlyWhen, AcceptedWhen, NothingChanges, BenchStays, GoodKept, RangeKept}
 use Rattle.conduct.specs.Filled.{LockedKept, OneSlotFilled, NoPageNoFill, FaultNotCached}
 use Rattle.conduct.specs.Flushed.{FlushExact}
 use Rattle.conduct.specs.Metered.{Metered, Billed, PostedMeters}
-use Rattle.conduct.specs.Answered.{OneAcknowledgement, OffIsVirtual, AnswersOn}
+use Rattle.conduct.specs.Answered.{OneAcknowledgement, OffIsVirtual, AnswersOn, PrefetchAnswered, ShiftAnswered}
 use Rattle.conduct.specs.Held.{FaultHeld, FaultDropped}
 use Rattle.conduct.specs.Kept.{Frames}
-use Rattle.conduct.specs.Written.{ReadBack, ResetFresh, LoadCopied, LoadThenCopy}
-use Rattle.coherence.specs.Sessions.{after, Admitted, asked, asks, controlAt, baseHighAt, baseLowAt}
+use Rattle.conduct.specs.Written.{ReadBack, ReadShown, ResetFresh, LoadCopied, LoadThenCopy}
+use Rattle.coherence.specs.Sessions.{after, Admitted, asked, asks}
 use Rattle.coherence.specs.Sessions as Sessions
+use Rattle.coherence.specs.Started.{TurnsOn, start}
 use Rattle.translates.specs.Statements.{Bytes, Standing}
-use Rattle.demands.specs.Building.{BuildRefuses}
+use Rattle.demands.specs.Building.{BuildRefuses, BuildLeaves}
 
 -- 1. It takes anything; each refusal comes when the paper says and at no other time, and then nothing is changed: device, bill and
 -- meters, and a memory lent to the builder (the unit's calls are lent memory that they cannot write, by its type; that every
@@ -58,11 +57,15 @@ pub record Demand2 : Type 0 where
   pub on : AnswersOn
   pub off : OffIsVirtual
   pub acknowledged : OneAcknowledgement
+  pub prefetched : PrefetchAnswered
+  pub shifted : ShiftAnswered
   pub kept : Frames
   pub read-back : ReadBack
+  pub read-shown : ReadShown
   pub reset : ResetFresh
   pub load-copy : LoadCopied
   pub load-then-copy : LoadThenCopy
+  pub built : BuildLeaves
 
 -- what a list alone answers
 abbrev pub said : Meaning → Answer
@@ -70,32 +73,11 @@ said (Byte p) = A.Address p
 said Permission = A.Fault K.Permission
 said Translation = A.Fault K.Translation
 
-abbrev pub byList : List Mapping → VirtualAddress → Access → Answer
-byList ms va a = said (meaning ms va a)
-
--- fresh from reset: the base set by its two halves, then control with bits 2, 1 and 0 set
-abbrev pub startingWith : ℕ → ℕ → Prices → Bill → List Sessions.Billed
-startingWith base v p b =
-    (b, write baseHighAt (base / 65536) p) ∷ (b, write baseLowAt (base % 65536) p) ∷ (b, write controlAt v p) ∷ []
-
-abbrev pub start : Lent → ℕ → ℕ → Prices → Bill → Device
-start m base v p b = after m freshDevice (startingWith base v p b)
-
--- the three writes in each of their orders
-abbrev pub orders : {A : Type 0} → A → A → A → List (List A)
-orders x y z =
-    (x ∷ y ∷ z ∷ []) ∷ (x ∷ z ∷ y ∷ []) ∷ (y ∷ x ∷ z ∷ []) ∷ (y ∷ z ∷ x ∷ []) ∷ (z ∷ x ∷ y ∷ []) ∷ (z ∷ y ∷ x ∷ []) ∷ []
-
-abbrev pub Leaves : Lent → Device → List (List Sessions.Billed) → Type 0
-Leaves m d [] = Unit {0}
-Leaves m d (cs ∷ rest) = (after m freshDevice cs ≡ d) × Leaves m d rest
-
--- all of them leave the same device
-abbrev pub StartInAnyOrder : Type 0
-StartInAnyOrder =
-    (m : Lent) (base v : ℕ) (p : Prices) (b : Bill) → base < 2 ^ 32 → base % 128 ≡ 0 → v % 8 ≡ 7
-    → Leaves m (start m base v p b)
-    (orders (b, write baseHighAt (base / 65536) p) (b, write baseLowAt (base % 65536) p) (b, write controlAt v p))
+-- an answer is the list's: its case, and in the paper's number and values
+pub record AsList (r : Answer) (x : Meaning) : Type 0 where
+  pub answer : r ≡ said x
+  pub number : N.number r ≡ meaningNumber x
+  pub values : N.values r ≡ meaningValues x
 
 -- 3. For a list that the builder accepts, its image standing at its base in one of the two memories, among any other bytes:
 -- after any calls but writes to control or base, with any prices and bills, each request or retry that is not refused answers
@@ -108,9 +90,9 @@ Demand3 =
     Bytes rs →
     answerOf rs base room ≡ Length len →
     Standing m base (image megabytes (mappings rs) base) →
-    v % 8 ≡ 7 →
+    TurnsOn v →
     Admitted cs →
     asked (after m (start m base v p b₀) cs) c ≡ asks va a →
     step m (after m (start m base v p b₀) cs) b c .said ≡ answered r →
     isRefusal r ≡ false →
-    r ≡ byList (mappings rs) va a
+    AsList r (meaning (mappings rs) va a)

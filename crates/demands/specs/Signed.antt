@@ -1,5 +1,6 @@
 -- All that the buyer signs: the three demands, and what keeps the third from being hollow.
-use Rattle.demands.specs.Demands.{Demand1, Demand2, Demand3, StartInAnyOrder}
+use Rattle.coherence.specs.Started.{StartedInAnyOrder}
+use Rattle.demands.specs.Demands.{Demand1, Demand2, Demand3}
 use Rattle.demands.specs.Answering.{RequestsAnswered, RetriesAnswered}
 use Rattle.demands.specs.Buyer.{BuiltThenCalled, BuiltSession, Exhibited}
 
@@ -9,7 +10,7 @@ pub record Signed : Type 0 where
   pub third : Demand3
   pub requests : RequestsAnswered
   pub retries : RetriesAnswered
-  pub any-order : StartInAnyOrder
+  pub any-order : StartedInAnyOrder
   pub built : BuiltThenCalled
   pub sessions : BuiltSession
   pub exhibited : Exhibited

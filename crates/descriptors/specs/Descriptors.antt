@@ -1,8 +1,8 @@
 -- What the words of the tables say (01, "The walk"), and the distance (01, "Meters and the walk bill").
-use Rattle.page.specs.Ground.{ℕ, _+_, _/_, _%_, _^_, _<_, List, [], _∷_, eqb}
+use Rattle.page.specs.Ground.{ℕ, _+_, _/_, _%_, _^_, _<_, eqb}
 use Rattle.page.specs.Pick.{pick}
 use Rattle.page.specs.Low.{upper, joined}
-use Rattle.page.specs.Words.{physical, lowBits, typeOf}
+use Rattle.page.specs.Words.{physical, lowBits}
 use Rattle.page.specs.declared.Kind.{Kind}
 use Rattle.page.specs.declared.Kind.the-variants.{Section, Large, Small, Tiny}
 use Rattle.page.specs.declared.VirtualAddress.{VirtualAddress}
@@ -50,12 +50,6 @@ abbrev pub foundNumber : Found → ℕ
 foundNumber (D.Page p) = 0
 foundNumber D.NoPage = 21
 foundNumber D.Missing = 3
-
--- its values: type, base and access of a page
-abbrev pub foundValues : Found → List ℕ
-foundValues (D.Page p) = typeOf (p .kind) ∷ p .frame .0 ∷ p .access ∷ []
-foundValues D.NoPage = []
-foundValues D.Missing = []
 
 -- a table that a first-level word names ends below 2^32
 abbrev pub Room : First → Type 0

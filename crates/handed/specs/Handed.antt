@@ -25,9 +25,14 @@ use Rattle.asked.specs.Asked.{stateSize}
 abbrev pub isStatus : ℕ → Bool
 isStatus x = eqb x 0 or eqb x 1 or eqb x 2 or eqb x 4 or eqb x 8
 
--- the bytes are a state
+-- the bytes are a state: a pending access and status, the two bytes after them zero
 unfoldable pub isState : List ℕ → Bool
-isState s = eqb (length s) stateSize and leb (getD s 285 0) 1 and isStatus (getD s 284 0)
+isState s =
+    eqb (length s) stateSize
+    and leb (getD s 285 0) 1
+    and eqb (getD s 286 0) 0
+    and eqb (getD s 287 0) 0
+    and isStatus (getD s 284 0)
 
 abbrev pub entryAt : List ℕ → ℕ → Entry
 entryAt s at = record { camhi = lowAt s at; camlo = highAt s at; ramhi = lowAt s (at + 4); ramlo = highAt s (at + 4) }

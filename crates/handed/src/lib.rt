@@ -166,6 +166,12 @@ pub fn state_ok(state: &[u8]) -> bool
     if wire::byte_at(state, 285) > 1 {
         return false;
     }
+    if wire::byte_at(state, 286) != 0 {
+        return false;
+    }
+    if wire::byte_at(state, 287) != 0 {
+        return false;
+    }
     status_ok(wire::byte_at(state, 284))
 }
 

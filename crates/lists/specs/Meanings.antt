@@ -30,8 +30,8 @@ meaningNumber (Byte p) = 0
 meaningNumber Permission = 23
 meaningNumber Translation = 21
 
--- the address, 0 where there is none
-abbrev pub meaningValue : Meaning → ℕ
-meaningValue (Byte p) = p .0
-meaningValue Permission = 0
-meaningValue Translation = 0
+-- what stands beside the number: the address of a byte
+abbrev pub meaningValues : Meaning → List ℕ
+meaningValues (Byte p) = p .0 ∷ []
+meaningValues Permission = []
+meaningValues Translation = []

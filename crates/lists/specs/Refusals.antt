@@ -38,12 +38,7 @@ begun rs = (length rs + 11) / recordSize
 unfoldable pub checked : ℕ → List ℕ → Checked
 checked n rs = checkedFrom n rs 0 (begun rs)
 
--- the paper's number of a check, 0 where nothing is refused, and the index beside it
-abbrev pub checkedNumber : Checked → ℕ
-checkedNumber Fine = 0
-checkedNumber (BadRecord i) = 10
-checkedNumber (Overlap i) = 11
-
+-- the index beside a refusal, 0 where nothing is refused
 abbrev pub checkedIndex : Checked → ℕ
 checkedIndex Fine = 0
 checkedIndex (BadRecord i) = i

@@ -3,7 +3,6 @@ use mathlib.Core.Path.{_≡_, refl, ap, ap₂, _∙_}
 use mathlib.Core.Bool.{true, false≢true}
 use mathlib.Core.List.{List, [], _∷_}
 use Prim.Native.Nat.{ℕ, _/_}
-use native.Mathlib.Omega.{arith}
 use lib.Ieee.{ofFields, ofBits, le, lt, eq}
 use lib.ListN.{replicate}
 use borrow.Author.Tests.{eqb-true}
@@ -29,21 +28,15 @@ use Rattle.descriptors.specs.Descriptors.{firstOf, secondOf}
 use Rattle.lanes.specs.Lanes.{lookedFrom, allFrom}
 use Rattle.bank.specs.Changes.{nextSlot, nextVictim, filled}
 use Rattle.registers.specs.Fields.{entryOk, registersOk}
-use Rattle.registers.specs.Table.{noRegister, listed, lockCommand, commandOf}
+use Rattle.registers.specs.Table.{noRegister, listed, controlCommand, lockCommand, commandOf}
 use Rattle.decision.specs.Decisions.{byAccess, byFound, decided}
 use Rattle.unit.specs.Refusals.{refuses}
 use Rattle.unit.specs.Device.{inRange}
 use Rattle.unit.specs.Calls.{lacks, requestOf, isMalformed, isUntimely, writeLacks, writeOf}
-use Rattle.coherence.specs.Started.{StartedByWrites}
-use Rattle.coherence.proofs.Started.{started-by-writes}
 use Rattle.translates.specs.ListA.{recordsA, baseA}
-use Rattle.sheet.specs.Bench.{roomA, builtA, controlA}
+use Rattle.sheet.specs.Bench.{roomA, builtA}
 use Rattle.sheet.specs.Sheet.{Line, sheet, same, answeredIn, passesIn, allPassIn, answered, allPass, Each}
 use Rattle.sheet.proofs.Runs.{runOf, run-is}
-
--- the bench starts from a fresh device by three register writes
-pub bench-starts : StartedByWrites controlA baseA
-bench-starts = started-by-writes controlA baseA refl (omega arith) refl
 
 -- what is built, word after word
 abbrev words : ℕ → ℕ
@@ -58,7 +51,7 @@ built-is = ap (λ (l : List ℕ). leaves (answerOf recordsA baseA roomA) l (repl
 
 -- all lines, computed together over the whole image
 written-passes : allPassIn written sheet ≡ true
-unfolding runOf pick _and_ _or_ upper joined kindOf wordMatches madeCam madeRam memoryOk apart memoriesOk holds placeWithin placeIn wordOf firstOf secondOf firstAt coarseAt fineAt readIn walkFrom mappings mappingsFrom mappingOf M.holds holder byteOf overlap multiple proper wellFormed bad clashes overlapping checkedFrom checked hasKind tableOf tableEnd tableStart imageLength firstWord pageWord secondWord inTables imageWord roomOk answerOf figureOk every moneyOk lookedFrom allFrom bankOk nextSlot nextVictim filled entryOk registersOk noRegister listed lockCommand commandOf byAccess byFound decided refuses inRange lacks requestOf isMalformed isUntimely writeLacks writeOf answeredIn sheet passesIn ofFields ofBits le lt eq
+unfolding runOf pick _and_ _or_ upper joined kindOf wordMatches madeCam madeRam memoryOk apart memoriesOk holds placeWithin placeIn wordOf firstOf secondOf firstAt coarseAt fineAt readIn walkFrom mappings mappingsFrom mappingOf M.holds holder byteOf overlap multiple proper wellFormed bad clashes overlapping checkedFrom checked hasKind tableOf tableEnd tableStart imageLength firstWord pageWord secondWord inTables imageWord roomOk answerOf figureOk every moneyOk lookedFrom allFrom bankOk nextSlot nextVictim filled entryOk registersOk noRegister listed controlCommand lockCommand commandOf byAccess byFound decided refuses inRange lacks requestOf isMalformed isUntimely writeLacks writeOf answeredIn sheet passesIn ofFields ofBits le lt eq
 written-passes = refl
 
 pub sheet-holds : allPass sheet ≡ true

@@ -7,8 +7,9 @@ use Rattle.bill.specs.Bill.{f1, freshBill}
 use Rattle.prices.specs.declared.Price.the-variants.{Flat}
 use Rattle.unit.specs.Types.{Prices}
 use Rattle.unit.specs.declared.Device.{Device}
-use Rattle.unit.specs.Calls.{lockAt, writeOf}
-use Rattle.coherence.specs.Sessions.{started}
+use Rattle.unit.specs.Offsets.{lockAt}
+use Rattle.unit.specs.Calls.{writeOf}
+use Rattle.coherence.specs.Started.{start}
 use Rattle.translates.specs.ListA.{recordsA, baseA}
 
 -- a memory that just holds the image
@@ -31,9 +32,9 @@ prices = record { onchip = Flat f1; external = Flat f1 }
 abbrev pub controlA : ℕ
 controlA = 7
 
-abbrev pub deviceA : Device
-deviceA = started controlA baseA
+abbrev pub deviceA : Lent → Device
+deviceA m = start m baseA controlA prices freshBill
 
 -- the same after a lock base and a victim are written to the lock register
 abbrev pub lockedA : Lent → ℕ → ℕ → Device
-lockedA m lock victim = writeOf m prices freshBill deviceA lockAt (lock * 1024 + victim * 16) .device
+lockedA m lock victim = writeOf m prices freshBill (deviceA m) lockAt (lock * 1024 + victim * 16) .device

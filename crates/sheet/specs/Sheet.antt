@@ -1,5 +1,5 @@
 -- The proved lines of the bench sheet as one table (01, "Bench sheet"): a question to the bench, and the numbers that answer it.
-use Rattle.page.specs.Ground.{ℕ, zero, suc, _+_, _-_, _*_, _/_, _≡_, Bool, true, false, List, [], _∷_, eqb, getD, take, drop, replicate}
+use Rattle.page.specs.Ground.{ℕ, zero, suc, _+_, _-_, _*_, _/_, _≡_, Bool, true, false, List, [], _∷_, _++_, eqb, getD, take, drop, replicate}
 use Rattle.page.specs.Pick.{_and_}
 use Rattle.page.specs.Words.{virtual, wordValid}
 use Rattle.page.specs.declared.Access.the-variants.{Read, Write}
@@ -35,9 +35,10 @@ pub data Question : Type 0 where
   -- the address of the last word that a request reads
   lastWord : ℕ → Access → Question
   -- slot i in register form after a request
-  slot : ℕ → Access → ℕ → Question
-  -- the valid slots after a request that follows a write of lock base and victim
-  validSlots : ℕ → ℕ → ℕ → Access → Question
+  slot : ℕ → ℕ → Access → Question
+  -- the valid slots, and slot i in register form, after a request that follows a write of lock base and victim
+  lockedValid : ℕ → ℕ → ℕ → Access → Question
+  lockedSlot : ℕ → ℕ → ℕ → ℕ → Access → Question
   -- the builder's answer where the memory has n bytes
   room : ℕ → Question
 
@@ -67,27 +68,38 @@ accepted n = 0 ∷ n ∷ []
 abbrev pub refusedWith : ℕ → ℕ → List ℕ
 refusedWith k count = k ∷ count ∷ []
 
+-- a line that names an access or asks no request, and one that names none and so holds for both
+abbrev pub line : Question → List ℕ → List Line
+line q expected = (q, expected) ∷ []
+
+abbrev pub both : (Access → Question) → List ℕ → List Line
+both q expected = (q Read, expected) ∷ (q Write, expected) ∷ []
+
+-- the large page of list A in a slot
+abbrev pub largeA : List ℕ
+largeA = 0 ∷ 0x0405 ∷ 0x1002 ∷ 0x0300 ∷ []
+
 -- the sheet's proved lines, in its order
 unfoldable pub sheet : List Line
 sheet =
-    (word 0, 0x20000401 ∷ [])
-    ∷ (word 3, 0x11200802 ∷ [])
-    ∷ (word 5, 0x20001003 ∷ [])
-    ∷ (coarse 0 16 31, replicate 16 0x10020031)
-    ∷ (fine 5 1 1, 0x10000C33 ∷ [])
-    ∷ (request 0x012345 Read, address 0x10022345)
-    ∷ (lastWord 0x012345 Read, 0x20000448 ∷ [])
-    ∷ (slot 0x012345 Read 0, 0 ∷ 0x0405 ∷ 0x1002 ∷ 0x0300 ∷ [])
-    ∷ (request 0x3ABCDE Read, address 0x112ABCDE)
-    ∷ (request 0x3ABCDE Write, fault 23)
-    ∷ (request 0x5007FF Read, address 0x10000FFF)
-    ∷ (request 0x500800 Read, fault 21)
-    ∷ (request 0xFFFFFF Read, fault 21)
-    ∷ (request 0x1000000 Read, refused 1)
-    ∷ (room 8192, accepted 8192)
-    ∷ (room 8188, refusedWith 12 3)
-    ∷ (validSlots 31 0 0x012345 Read, 31 ∷ [])
-    ∷ []
+    line (word 0) (0x20000401 ∷ [])
+    ++ line (word 3) (0x11200802 ∷ [])
+    ++ line (word 5) (0x20001003 ∷ [])
+    ++ line (coarse 0 16 31) (replicate 16 0x10020031)
+    ++ line (fine 5 1 1) (0x10000C33 ∷ [])
+    ++ both (request 0x012345) (address 0x10022345)
+    ++ both (lastWord 0x012345) (0x20000448 ∷ [])
+    ++ both (slot 0 0x012345) largeA
+    ++ line (request 0x3ABCDE Read) (address 0x112ABCDE)
+    ++ line (request 0x3ABCDE Write) (fault 23)
+    ++ both (request 0x5007FF) (address 0x10000FFF)
+    ++ both (request 0x500800) (fault 21)
+    ++ both (request 0xFFFFFF) (fault 21)
+    ++ both (request 0x1000000) (refused 1)
+    ++ line (room 8192) (accepted 8192)
+    ++ line (room 8188) (refusedWith 12 3)
+    ++ both (lockedValid 31 0 0x012345) (31 ∷ [])
+    ++ both (lockedSlot 31 0 31 0x012345) largeA
 
 -- where the last of some words stands
 abbrev pub lastAt : List Source → List ℕ
@@ -147,6 +159,13 @@ module _ (bytes : List ℕ) where
   fineWords (F.Whole p) j k = []
   fineWords (F.Fine t) j k = tableWords (t .0) j k
 
+  -- the device that each line starts from, and the same locked
+  abbrev pub begun : Device
+  begun = deviceA (lentAt bytes)
+
+  abbrev pub locked : ℕ → ℕ → Device
+  locked lock victim = lockedA (lentAt bytes) lock victim
+
   -- a request of a device, and the words that its decision reads
   abbrev pub asked : Device → ℕ → Access → Outcome
   asked d va a = requestOf (lentAt bytes) prices freshBill d (virtual va) a
@@ -159,10 +178,11 @@ module _ (bytes : List ℕ) where
   answeredIn (word k) = wordIn k ∷ []
   answeredIn (coarse i j k) = coarseWords (firstOf (wordIn i)) j k
   answeredIn (fine i j k) = fineWords (firstOf (wordIn i)) j k
-  answeredIn (request va a) = said (asked deviceA va a .answer)
-  answeredIn (lastWord va a) = lastAt (readFor deviceA va a)
-  answeredIn (slot va a i) = slotAt (asked deviceA va a .device .bank) i
-  answeredIn (validSlots lock victim va a) = validFrom slots 0 (asked (lockedA (lentAt bytes) lock victim) va a .device .bank)
+  answeredIn (request va a) = said (asked begun va a .answer)
+  answeredIn (lastWord va a) = lastAt (readFor begun va a)
+  answeredIn (slot i va a) = slotAt (asked begun va a .device .bank) i
+  answeredIn (lockedValid lock victim va a) = validFrom slots 0 (asked (locked lock victim) va a .device .bank)
+  answeredIn (lockedSlot lock victim i va a) = slotAt (asked (locked lock victim) va a .device .bank) i
   answeredIn (room n) = builtSaid (answerOf recordsA baseA n)
 
   -- it answers as a line expects
@@ -177,9 +197,6 @@ module _ (bytes : List ℕ) where
 -- the same with what the builder leaves of list A
 abbrev pub answered : Question → List ℕ
 answered q = answeredIn builtA q
-
-abbrev pub passes : Line → Bool
-passes l = passesIn builtA l
 
 abbrev pub allPass : List Line → Bool
 allPass ls = allPassIn builtA ls

@@ -18,11 +18,6 @@ module _ {A : Type 0} (t : Bool) (k : ℕ) (rs : Refusals) (say : ℕ → A) (el
   passed h = pick-no _ _ _ h
 
 module _ {A : Type 0} (say : ℕ → A) (else : A) where
-  -- with no condition left the call goes on
-  pub passed-all : refuses [] say else ≡ else
-  unfolding refuses
-  passed-all = refl
-
   -- a last condition changes nothing where the call says its number of itself
   pub last-same : (t : Bool) (k : ℕ) (x : A) → x ≡ else → (t ≡ true → else ≡ say k) → x ≡ refuses ((t, k) ∷ []) say else
   unfolding refuses

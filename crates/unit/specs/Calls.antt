@@ -18,21 +18,10 @@ use Rattle.attempts.specs.Effects.{prefetchEnded}
 use Rattle.orders.specs.Orders.{bankLoaded, registersCopied}
 use Rattle.unit.specs.Types.{Access, VirtualAddress, Lent, lentOk, Bill, Prices, Matched, Fault, Pending, Decision, Shift, Command, Device, Outcome, Told}
 use Rattle.unit.specs.Refusals.{Refusals, refuses}
+use Rattle.unit.specs.Offsets.{prefetchAt, acknowledgeAt, lockAt, loadAt}
 use Rattle.unit.specs.Device.{freshDevice, inRange, setRegisters, setBank, cleared, told, toldRefused, doneWith, refusedWith, outcomeOf, look, attemptOf}
 
--- offsets of Table 3 that the refusals name
-abbrev pub prefetchAt : ℕ
-prefetchAt = 0x00
-
-abbrev pub acknowledgeAt : ℕ
-acknowledgeAt = 0x18
-
-abbrev pub lockAt : ℕ
-lockAt = 0x24
-
-abbrev pub loadAt : ℕ
-loadAt = 0x28
-
+-- an offset is one of a list
 abbrev pub oneOf : List ℕ → ℕ → Bool
 oneOf [] o = false
 oneOf (k ∷ ks) o = eqb o k or oneOf ks o

@@ -1,6 +1,7 @@
 pub mod Types
 pub mod Refusals
 pub mod Device
+pub mod Offsets
 pub mod Calls
 pub mod Steps
 pub mod Machine
