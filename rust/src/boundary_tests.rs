@@ -138,7 +138,8 @@ fn states_are_handed_through() {
     state[304..312].copy_from_slice(&0x7FF8_0000_0000_0000_u64.to_le_bytes());
     state[312..320].copy_from_slice(&(1_u64 << 63).to_le_bytes());
     assert_eq!(out[80..], state);
-    for (at, byte) in [(284, 3), (284, 16), (285, 2), (286, 1), (286, 0x80), (287, 1), (287, 0xFF)] {
+    for (at, byte) in [(284, 3), (284, 16), (285, 2), (286, 1), (286, 0x80), (287, 1), (287, 0xFF)]
+    {
         let mut bad = state;
         bad[at] = byte;
         assert_eq!(from(&NOTHING, &bad, (0.0, 0.0), &[], &mut out), 0, "{at} {byte}");

@@ -27,7 +27,7 @@ use Rattle.unit.specs.Calls.{requestRefusals, requestOf, writeRefusals, writeOf
 use Rattle.unit.specs.Machine.{Call, request, write, read, drop-fault, shift, Said, answered, reported, step}
 use Rattle.coherence.specs.Agreement.{plain, Below, Coherent}
 use Rattle.walk.specs.Uniform.{Look, Uniform}
-use Rattle.coherence.specs.Sessions.{Billed, after, admitted, Admitted, asks, nothing, retriedOf, asked, started, lookFrom, CacheNeverShows}
+use Rattle.coherence.specs.Sessions.{BilledCall, after, admitted, Admitted, asks, nothing, retriedOf, asked, started, lookFrom, CacheNeverShows}
 use Rattle.unit.proofs.Refusing.{refuses-by}
 use Rattle.coherence.proofs.Slots.{fresh-agrees}
 use Rattle.coherence.proofs.Attempts.{attempt-answers, attempt-keeps}
@@ -63,7 +63,7 @@ module _ (m : Lent) (base : ℕ) where
     step-keeps d b drop-fault e h = refuses-by (toldRefused d) _ ToldEnds (dropRefusals d) (λ k. h) (λ c. cleared-keeps m base u d h)
     step-keeps d b (shift va) e h = h
 
-    pub after-keeps : (cs : List Billed) (d : Device) → Admitted cs → Coherent walked base d → Coherent walked base (after m d cs)
+    pub after-keeps : (cs : List BilledCall) (d : Device) → Admitted cs → Coherent walked base d → Coherent walked base (after m d cs)
     after-keeps [] d e h = h
     after-keeps (c ∷ cs) d e h = after-keeps cs (step m d (c .0) (c .1) .device) (e .1) (step-keeps d (c .0) (c .1) (e .0) h)
 
@@ -138,7 +138,7 @@ coherent-started look control base on walking =
 
 module _ (m : Lent) (control base : ℕ) (on : isOn control ≡ true) (walking : isWalking control ≡ true) (u : Uniform limit (lookFrom m base)) where
   -- after any admitted calls every slot agrees
-  pub coherent-after : (cs : List Billed) → Admitted cs → Coherent (lookFrom m base) base (after m (started control base) cs)
+  pub coherent-after : (cs : List BilledCall) → Admitted cs → Coherent (lookFrom m base) base (after m (started control base) cs)
   coherent-after cs e = after-keeps m base u cs (started control base) e (coherent-started (lookFrom m base) control base on walking)
 
   -- what the slots hold never shows

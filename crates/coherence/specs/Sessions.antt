@@ -19,11 +19,11 @@ use Rattle.coherence.specs.Agreement.{plain}
 use Rattle.walk.specs.Uniform.{Look}
 
 -- a call with the bill that it is handed
-abbrev pub Billed : Type 0
-Billed = Bill × Call
+abbrev pub BilledCall : Type 0
+BilledCall = Bill × Call
 
 -- the device after calls over the same two memories
-abbrev pub after : Lent → Device → List Billed → Device
+abbrev pub after : Lent → Device → List BilledCall → Device
 after m d [] = d
 after m d (c ∷ cs) = after m (step m d (c .0) (c .1) .device) cs
 
@@ -40,7 +40,7 @@ admitted drop-fault = true
 admitted (shift va) = true
 
 -- all calls of a session are
-abbrev pub Admitted : List Billed → Type 0
+abbrev pub Admitted : List BilledCall → Type 0
 Admitted [] = Unit {0}
 Admitted (c ∷ cs) = (admitted (c .1) ≡ true) × Admitted cs
 
@@ -77,7 +77,7 @@ lookFrom m base va = walkIn m base (va .0)
 -- after any admitted calls, each request or retry that is not refused answers what the plain walk alone answers
 abbrev pub CacheNeverShows : Lent → ℕ → ℕ → Type 0
 CacheNeverShows m control base =
-    (cs : List Billed) (b : Bill) (c : Call) (va : VirtualAddress) (a : Access) (r : Answer) →
+    (cs : List BilledCall) (b : Bill) (c : Call) (va : VirtualAddress) (a : Access) (r : Answer) →
     Admitted cs →
     asked (after m (started control base) cs) c ≡ asks va a →
     step m (after m (started control base) cs) b c .said ≡ answered r →

@@ -5,16 +5,16 @@ use Rattle.unit.specs.declared.Device.{Device}
 use Rattle.unit.specs.Device.{freshDevice}
 use Rattle.unit.specs.Offsets.{controlAt, baseHighAt, baseLowAt}
 use Rattle.unit.specs.Machine.{write}
-use Rattle.coherence.specs.Sessions.{Billed, after, started}
+use Rattle.coherence.specs.Sessions.{BilledCall, after, started}
 
 -- the three writes: the halves of the base, and control
-abbrev pub setsHigh : ℕ → Prices → Bill → Billed
+abbrev pub setsHigh : ℕ → Prices → Bill → BilledCall
 setsHigh base p b = (b, write baseHighAt (base / 65536) p)
 
-abbrev pub setsLow : ℕ → Prices → Bill → Billed
+abbrev pub setsLow : ℕ → Prices → Bill → BilledCall
 setsLow base p b = (b, write baseLowAt (base % 65536) p)
 
-abbrev pub setsControl : ℕ → Prices → Bill → Billed
+abbrev pub setsControl : ℕ → Prices → Bill → BilledCall
 setsControl v p b = (b, write controlAt v p)
 
 -- fresh from reset: base high, base low, then control
@@ -27,7 +27,7 @@ orders x y z =
     (x ∷ y ∷ z ∷ []) ∷ (x ∷ z ∷ y ∷ []) ∷ (y ∷ x ∷ z ∷ []) ∷ (y ∷ z ∷ x ∷ []) ∷ (z ∷ x ∷ y ∷ []) ∷ (z ∷ y ∷ x ∷ []) ∷ []
 
 -- each of some lists of calls makes this device of a fresh one
-abbrev pub Leaves : Lent → Device → List (List Billed) → Type 0
+abbrev pub Leaves : Lent → Device → List (List BilledCall) → Type 0
 Leaves m d [] = Unit {0}
 Leaves m d (cs ∷ rest) = (after m freshDevice cs ≡ d) × Leaves m d rest
 

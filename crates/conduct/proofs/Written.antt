@@ -1,11 +1,11 @@
 -- Demand 2: what is written is read back; reset, load and copy. Assumes nothing.
 use mathlib.Core.Path.{_≡_, refl, sym, _∙_, ap, subst}
-use mathlib.Core.Bool.{true, false, not, true≢false, false≢true}
+use mathlib.Core.Bool.{true, false, not, true≢false}
 use mathlib.Core.Logic.{_≢_}
 use Prim.Native.Nat.{ℕ, _+_, _*_, _/_, _%_, _^_, _<_}
 use native.Mathlib.Omega.{arith}
 use lib.Dec.{eqb, leb}
-use borrow.Author.Tests.{eq-eqb, ne-eqb, lt-ltb, leb-false}
+use borrow.Author.Tests.{eq-eqb, ne-eqb, lt-ltb, leb-false, not-false}
 use Rattle.page.specs.Pick.{pick, _and_, _or_}
 use Rattle.page.proofs.Picks.{pick-yes, pick-no, and-yes, and-left, and-right}
 use Rattle.lanes.specs.Lanes.{slots}
@@ -24,13 +24,13 @@ use Rattle.decision.specs.Prefetches.{pageAt, prefetchDecided, prefetchKept}
 use Rattle.unit.specs.Refusals.{Clear}
 use Rattle.unit.specs.Device.{look, inRange, freshDevice, told, toldRefused, refusedWith}
 use Rattle.unit.specs.Offsets.{controlAt, acknowledgeAt, lockAt, loadAt}
-use Rattle.unit.specs.Calls.{isReadOnly, isMalformed, isUntimely, writeLacks, writeRefusals, carried, writeOf, withLoaded, withCopy, readRefusals, readOf}
+use Rattle.unit.specs.Calls.{isMalformed, isUntimely, writeLacks, writeRefusals, carried, writeOf, withLoaded, withCopy, readRefusals, readOf}
 use Rattle.unit.specs.Machine.{write, answered, stepOut, step}
 use Rattle.unit.proofs.Refusing.{clear-goes-on, refuses-by}
 use Rattle.conduct.specs.Types.{Lent, Bill, Prices, Answer, Command, Device, Outcome, Told}
 use Rattle.conduct.specs.Refused.{Accepted}
 use Rattle.conduct.specs.Filled.{LanesFit}
-use Rattle.conduct.specs.Written.{keptBits, ReadBack, shownOnly, ReadShown, Resets, ResetFresh, Loads, Copies, LoadCopied, LoadThenCopy}
+use Rattle.conduct.specs.Written.{keptBits, ReadBack, shownOf, ReadShown, Resets, ResetFresh, Loads, Copies, LoadCopied, LoadThenCopy}
 use Rattle.conduct.proofs.Tests.{either-left, either-right, pick-both}
 use Rattle.conduct.proofs.Writes.{prefetch-there}
 use Rattle.conduct.proofs.Prefetches.{prefetch-answers}
@@ -126,39 +126,28 @@ read-back m d b b′ o v p bytes fit n a =
     (range-kept m d b (write o v p) bytes fit (accepted-in-range m d b (write o v p) a)) (accepted-when m d b (write o v p) .0 a .1 .0) n
     (accepted-write m p b d (λ (x : Outcome). shown (x .device) o ≡ A.Value (keptBits o v)) o v (λ c. shows m p b d v fit o c n) a))
 
--- a register that is only read shows its part of the device
-only-shown : (d : Device) (o : ℕ) → isReadOnly o ≡ true → Clear (readRefusals d o) → shown d o ≡ A.Value (shownOnly d o)
-unfolding valueAt shownOnly listed pick _or_
-only-shown d =
-    by-offset (λ (o : ℕ). isReadOnly o ≡ true → Clear (readRefusals d o) → shown d o ≡ A.Value (shownOnly d o))
-    (λ h. absurd (false≢true h))
-    (λ _ _. refl)
-    (λ h. absurd (false≢true h))
-    (λ _ _. refl)
-    (λ _ _. refl)
-    (λ _ _. refl)
-    (λ h. absurd (false≢true h))
-    (λ h. absurd (false≢true h))
-    (λ h. absurd (false≢true h))
-    (λ h. absurd (false≢true h))
-    (λ h. absurd (false≢true h))
-    (λ h. absurd (false≢true h))
-    (λ h. absurd (false≢true h))
-    (λ h. absurd (false≢true h))
-    (λ h. absurd (false≢true h))
-    (λ h. absurd (false≢true h))
-    (λ h. absurd (false≢true h))
-    (λ _ _. refl)
-    (λ _ _. refl)
-    (λ _ _. refl)
-    (λ _ _. refl)
-    (λ o e _ c. absurd (true≢false (sym e ∙ c .1 .0)))
+-- a register shows its part of the device
+lock-whole : (lock victim : ℕ) → lock < slots → victim < slots → lock % 64 * 1024 + victim % 64 * 16 ≡ lock * 1024 + victim * 16
+lock-whole lock victim l v = omega arith
+
+is-shown : (d : Device) → inRange d ≡ true → (o : ℕ) → Clear (readRefusals d o) → shown d o ≡ A.Value (shownOf d o)
+unfolding inRange valueAt shownOf listed pick
+is-shown d h =
+    let k = in-range (d .bank) (and-right (pendingOk (d .pending)) _ (and-right (registersOk (d .registers)) _ h)) in
+    by-offset (λ (o : ℕ). Clear (readRefusals d o) → shown d o ≡ A.Value (shownOf d o))
+    (λ _. refl) (λ _. refl) (λ _. refl) (λ _. refl) (λ _. refl) (λ _. refl)
+    (λ c. absurd (true≢false (c .1 .1 .0)))
+    (λ _. refl) (λ _. refl)
+    (λ _. ap A.Value (lock-whole (d .bank .lock) (d .bank .victim) (k .lock) (k .victim)))
+    (λ _. refl) (λ _. refl) (λ _. refl) (λ _. refl) (λ _. refl) (λ _. refl)
+    (λ _. refl) (λ _. refl) (λ _. refl) (λ _. refl) (λ _. refl)
+    (λ o e c. absurd (true≢false (sym e ∙ c .1 .0)))
 
 pub read-shown : ReadShown
 unfolding readOf
-read-shown m d b o h =
-    refuses-by (toldRefused d) (told d (shown d o)) (λ (t : Told). isRefusal (t .answer) ≡ false → answered (t .answer) ≡ answered (A.Value (shownOnly d o))) (readRefusals d o)
-    (λ k r. absurd (true≢false r)) (λ c _. ap answered (only-shown d o h c))
+read-shown m d b o =
+    refuses-by (toldRefused d) (told d (shown d o)) (λ (t : Told). isRefusal (t .answer) ≡ false → answered (t .answer) ≡ answered (A.Value (shownOf d o))) (readRefusals d o)
+    (λ k r. absurd (true≢false r)) (λ c _. ap answered (is-shown d (not-false _ (c .0)) o c))
 
 -- reset
 module _ (m : Lent) (d : Device) (b : Bill) (p : Prices) (v : ℕ) (h : inRange d ≡ true) (e : v % 2 ≡ 0) where

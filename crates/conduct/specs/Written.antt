@@ -9,8 +9,7 @@ use Rattle.registers.specs.Fields.{wordsOf, entryOf}
 use Rattle.registers.specs.Table.{listed}
 use Rattle.registers.specs.declared.Answer.the-variants as A
 use Rattle.unit.specs.Device.{freshDevice, inRange}
-use Rattle.unit.specs.Offsets.{prefetchAt, walkStatusAt, controlAt, faultHighAt, faultLowAt, faultStatusAt, acknowledgeAt, baseHighAt, baseLowAt, lockAt, loadAt, camHighAt, camLowAt, ramHighAt, ramLowAt, readCamHighAt, readCamLowAt, readRamHighAt, readRamLowAt}
-use Rattle.unit.specs.Calls.{isReadOnly}
+use Rattle.unit.specs.Offsets.{prefetchAt, walkStatusAt, controlAt, faultHighAt, faultLowAt, faultStatusAt, acknowledgeAt, baseHighAt, baseLowAt, lockAt, loadAt, camHighAt, camLowAt, ramHighAt, ramLowAt, flushAt, entryFlushAt, readCamHighAt, readCamLowAt, readRamHighAt, readRamLowAt}
 use Rattle.unit.specs.Machine.{write, read, answered, Step, step}
 use Rattle.conduct.specs.Types.{Lent, Bill, Prices, Device}
 use Rattle.conduct.specs.Refused.{Accepted, BytesFit}
@@ -39,14 +38,26 @@ ReadBack =
     → BytesFit m → v < 2 ^ 16 → o ≢ acknowledgeAt → Accepted m d b (write o v p)
     → step m (step m d b (write o v p) .device) b′ (read o) .said ≡ answered (A.Value (keptBits o v))
 
--- what each register that is only read shows: walk status zero, the pending fault and its address, the entry last copied
-unfoldable pub shownOnly : Device → ℕ → ℕ
-shownOnly d o =
+-- what each register shows of a device: its own part, the pending fault and its address, or zero
+unfoldable pub shownOf : Device → ℕ → ℕ
+shownOf d o =
     listed (
-    (walkStatusAt, 0)
+    (prefetchAt, d .registers .prefetch)
+    ∷ (walkStatusAt, 0)
+    ∷ (controlAt, d .registers .control)
     ∷ (faultHighAt, faultAddress (d .pending) / 65536 % 256)
     ∷ (faultLowAt, faultAddress (d .pending) / 128 % 512 * 128)
     ∷ (faultStatusAt, faultStatus (d .pending))
+    ∷ (baseHighAt, d .registers .base .0 / 65536)
+    ∷ (baseLowAt, d .registers .base .0 % 65536)
+    ∷ (lockAt, d .bank .lock * 1024 + d .bank .victim * 16)
+    ∷ (loadAt, 0)
+    ∷ (camHighAt, d .registers .staged .camhi)
+    ∷ (camLowAt, d .registers .staged .camlo)
+    ∷ (ramHighAt, d .registers .staged .ramhi)
+    ∷ (ramLowAt, d .registers .staged .ramlo)
+    ∷ (flushAt, 0)
+    ∷ (entryFlushAt, 0)
     ∷ (readCamHighAt, d .registers .copied .camhi)
     ∷ (readCamLowAt, d .registers .copied .camlo)
     ∷ (readRamHighAt, d .registers .copied .ramhi)
@@ -56,8 +67,7 @@ shownOnly d o =
 
 abbrev pub ReadShown : Type 0
 ReadShown =
-    (m : Lent) (d : Device) (b : Bill) (o : ℕ) → isReadOnly o ≡ true → Accepted m d b (read o)
-    → step m d b (read o) .said ≡ answered (A.Value (shownOnly d o))
+    (m : Lent) (d : Device) (b : Bill) (o : ℕ) → Accepted m d b (read o) → step m d b (read o) .said ≡ answered (A.Value (shownOf d o))
 
 -- a write of control with bit 0 clear makes any device in range fresh, leaves the bill and adds nothing to the meters
 pub record Resets (b : Bill) (s : Step) : Type 0 where

@@ -12,8 +12,7 @@ use Rattle.unit.specs.Machine.{step}
 use Rattle.conduct.specs.Refused.{BytesFit}
 use Rattle.conduct.proofs.Ranged.{range-kept}
 use Rattle.coherence.specs.Agreement.{Coherent, Below}
-use Rattle.coherence.specs.Sessions.{after, started, lookFrom}
-use Rattle.coherence.specs.Sessions as Sessions
+use Rattle.coherence.specs.Sessions.{BilledCall, after, started, lookFrom}
 use Rattle.coherence.specs.Started.{startControl}
 use Rattle.coherence.proofs.Sessions.{coherent-after}
 use Rattle.coherence.proofs.Started.{start-on, start-walking, start-in-range}
@@ -24,7 +23,7 @@ use Rattle.demands.specs.Answering.{ValuesFit, Session, RequestsAnswered
 use Rattle.demands.proofs.Lists.{list-said, as-list, gives-found, start-is, base-low, base-128}
 
 -- every device of a session is in range
-ranges : (m : Lent) → BytesFit m → (cs : List Sessions.Billed) → ValuesFit cs → (d : Device) → inRange d ≡ true → inRange (after m d cs) ≡ true
+ranges : (m : Lent) → BytesFit m → (cs : List BilledCall) → ValuesFit cs → (d : Device) → inRange d ≡ true → inRange (after m d cs) ≡ true
 ranges m f [] g d h = h
 ranges m f (c ∷ cs) g d h =
     ranges m f cs (g .1) (step m d (c .0) (c .1) .device) (range-kept m d (c .0) (c .1) f (g .0) h)

@@ -15,7 +15,7 @@ use borrow.Author.Tests.{ltb-true}
 use Rattle.page.specs.Pick.{pick, _and_, _or_}
 use Rattle.page.specs.Low.{upper, joined}
 use Rattle.page.specs.declared.Access.the-variants.{Read}
-use Rattle.page.specs.Words.{virtual, physical, megabytes, kindOf}
+use Rattle.page.specs.Words.{virtual, megabytes, kindOf}
 use Rattle.page.proofs.Picks.{and-yes, and-left, and-right}
 use Rattle.memory.specs.Memory.{Lent, lentOk, memoryOk, apart, memoriesOk, wordOf}
 use Rattle.records.specs.Mappings.{mappings, mappingsFrom, mappingOf, byteOf, holds}
@@ -29,15 +29,14 @@ use Rattle.builder.proofs.Answers.{accepted}
 use Rattle.prices.specs.Prices.{figureOk, every}
 use Rattle.bill.specs.Bill.{moneyOk, freshBill}
 use Rattle.registers.specs.declared.Answer.the-variants as A
-use Rattle.coherence.specs.Sessions.{after, Admitted}
-use Rattle.coherence.specs.Sessions as Sessions
+use Rattle.coherence.specs.Sessions.{BilledCall, after, Admitted}
 use Rattle.translates.specs.Statements.{Has, Standing, Bytes}
 use Rattle.translates.specs.ListA.{recordsA, baseA}
 use Rattle.translates.proofs.Theorems.{bytes-drop, leaves-image, built-has}
 use Rattle.translates.proofs.Samples.{accepts-a}
 use Rattle.demands.specs.Demands.{said}
 use Rattle.demands.specs.Answering.{ValuesFit, Session}
-use Rattle.demands.specs.Buyer.{LentAt, BuiltThenCalled, builtIn, BuiltSession, memoryA, pricesA, deviceA, callsA, Exhibited}
+use Rattle.demands.specs.Buyer.{LentAt, BuiltThenCalled, builtIn, BuiltSession, memoryA, pricesA, deviceA, callsA, byteA, Exhibited}
 use Rattle.unit.specs.declared.Device.{Device}
 use Rattle.demands.proofs.Lists.{start-is}
 use Rattle.demands.proofs.Proved.{demand-3}
@@ -57,6 +56,10 @@ module _ (rs : List ℕ) (base len : ℕ) (before : List ℕ) where
   stands : (m : Lent) → LentAt (buildOf rs base before .memory) base m → answerOf rs base (length before) ≡ Length len → Standing m base (image megabytes (mappings rs) base)
   stands m (inl l) h = inl (stands-at (m .on) (m .onbase) (l .0) (l .1) h)
   stands m (inr l) h = inr (stands-at (m .ext) (m .extbase) (l .0) (l .1) h)
+
+-- and it is lent by `builtIn`
+is-lent : (rs : List ℕ) (base : ℕ) (before : List ℕ) → LentAt (buildOf rs base before .memory) base (builtIn rs base before)
+is-lent rs base before = inr (refl, refl)
 
 pub built-then-called : BuiltThenCalled
 built-then-called rs base len before m v p b₀ cs b c va a r bytes e l =
@@ -150,7 +153,7 @@ built-session rs base len before v p b cs bytes old e on adm fit =
       accepted = h;
       lent = built-lent rs base len before h;
       lent-bytes = (λ i. omega arith, built-bytes rs base len before h old);
-      standing = stands rs base len before (builtIn rs base before) (inr (refl, refl)) h;
+      standing = stands rs base len before (builtIn rs base before) (is-lent rs base before) h;
       on = on;
       admitted = adm;
       values = fit;
@@ -166,11 +169,11 @@ built-a : buildOf recordsA baseA (replicate 8192 0) .answer ≡ Length 8192
 unfolding buildOf
 built-a = ap (answerOf recordsA baseA) (length-replicate {A = ℕ} 8192 0) ∙ accepts-a
 
-session-a : (cs : List Sessions.Billed) → Admitted cs → ValuesFit cs → Session recordsA baseA memoryA (after memoryA deviceA cs)
+session-a : (cs : List BilledCall) → Admitted cs → ValuesFit cs → Session recordsA baseA memoryA (after memoryA deviceA cs)
 session-a cs adm fit = built-session recordsA baseA 8192 (replicate 8192 0) 7 pricesA freshBill cs bytes-a (zero-bytes 8192) built-a refl adm fit
 
 -- what the list says of one address
-byte-a : said (meaning (mappings recordsA) (virtual 0x012345) Read) ≡ A.Address (physical 0x10022345)
+byte-a : said (meaning (mappings recordsA) (virtual 0x012345) Read) ≡ A.Address byteA
 unfolding meaning holder holds byteOf mappings mappingsFrom mappingOf wordOf kindOf pick _and_ _or_ upper joined
 byte-a = refl
 

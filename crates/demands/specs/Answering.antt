@@ -15,14 +15,13 @@ use Rattle.unit.specs.declared.Device.{Device}
 use Rattle.unit.specs.Offsets.{acknowledgeAt}
 use Rattle.unit.specs.Calls.{requestOf, writeOf}
 use Rattle.conduct.specs.Refused.{BytesFit, ValueFits}
-use Rattle.coherence.specs.Sessions.{after, Admitted}
-use Rattle.coherence.specs.Sessions as Sessions
+use Rattle.coherence.specs.Sessions.{BilledCall, after, Admitted}
 use Rattle.coherence.specs.Started.{TurnsOn, start}
 use Rattle.translates.specs.Statements.{Bytes, Standing}
 use Rattle.demands.specs.Demands.{AsList}
 
 -- every value written has 16 bits, as its type says
-abbrev pub ValuesFit : List Sessions.Billed → Type 0
+abbrev pub ValuesFit : List BilledCall → Type 0
 ValuesFit [] = Unit {0}
 ValuesFit (c ∷ cs) = ValueFits (c .1) × ValuesFit cs
 
@@ -33,7 +32,7 @@ pub record Session (rs : List ℕ) (base : ℕ) (m : Lent) (d : Device) : Type 0
   pub v : ℕ
   pub p : Prices
   pub b : Bill
-  pub calls : List Sessions.Billed
+  pub calls : List BilledCall
   pub bytes : Bytes rs
   pub accepted : answerOf rs base room ≡ Length len
   pub lent : lentOk m ≡ true

@@ -2,6 +2,7 @@
 use Rattle.page.specs.Words.{virtual, physical}
 use Rattle.page.specs.Ground.{ℕ, _≡_, false, List, [], _∷_, replicate}
 use Rattle.page.specs.declared.Access.the-variants.{Read, Write}
+use Rattle.page.specs.declared.PhysicalAddress.{PhysicalAddress}
 use Rattle.memory.specs.Memory.{Lent, lent}
 use Rattle.bill.specs.Bill.{f1, freshBill}
 use Rattle.records.specs.Mappings.{mappings}
@@ -16,8 +17,7 @@ use Rattle.unit.specs.declared.Device.{Device}
 use Rattle.unit.specs.Offsets.{prefetchAt, acknowledgeAt}
 use Rattle.unit.specs.Calls.{requestOf}
 use Rattle.unit.specs.Machine.{Call, request, write, read, drop-fault, answered, step}
-use Rattle.coherence.specs.Sessions.{after, Admitted, asked, asks}
-use Rattle.coherence.specs.Sessions as Sessions
+use Rattle.coherence.specs.Sessions.{BilledCall, after, Admitted, asked, asks}
 use Rattle.coherence.specs.Started.{TurnsOn, start}
 use Rattle.translates.specs.Statements.{Bytes}
 use Rattle.translates.specs.ListA.{recordsA, baseA}
@@ -34,7 +34,7 @@ LentAt bytes base m = ((m .on ≡ bytes) × (m .onbase ≡ base)) ⊎ ((m .ext �
 abbrev pub BuiltThenCalled : Type 0
 BuiltThenCalled =
     (rs : List ℕ) (base len : ℕ) (before : List ℕ) (m : Lent) (v : ℕ) (p : Prices) (b₀ : Bill)
-    (cs : List Sessions.Billed) (b : Bill) (c : Call) (va : VirtualAddress) (a : Access) (r : Answer) →
+    (cs : List BilledCall) (b : Bill) (c : Call) (va : VirtualAddress) (a : Access) (r : Answer) →
     Bytes rs →
     buildOf rs base before .answer ≡ Length len →
     LentAt (buildOf rs base before .memory) base m →
@@ -52,7 +52,7 @@ builtIn rs base before = lent [] 0 (buildOf rs base before .memory) base
 -- and that is a session in which each is answered, whatever bytes stood in the memory before
 abbrev pub BuiltSession : Type 0
 BuiltSession =
-    (rs : List ℕ) (base len : ℕ) (before : List ℕ) (v : ℕ) (p : Prices) (b : Bill) (cs : List Sessions.Billed) →
+    (rs : List ℕ) (base len : ℕ) (before : List ℕ) (v : ℕ) (p : Prices) (b : Bill) (cs : List BilledCall) →
     Bytes rs →
     Bytes before →
     buildOf rs base before .answer ≡ Length len →
@@ -72,7 +72,7 @@ abbrev pub deviceA : Device
 deviceA = start memoryA baseA 7 pricesA freshBill
 
 -- a request that is answered, one that is not permitted, its retry, a drop, a prefetch, a request again, a read
-abbrev pub callsA : List Sessions.Billed
+abbrev pub callsA : List BilledCall
 callsA =
     (freshBill, request (virtual 0x012345) Read pricesA)
     ∷ (freshBill, request (virtual 0x3abcde) Write pricesA)
@@ -83,8 +83,12 @@ callsA =
     ∷ (freshBill, read 0x24)
     ∷ []
 
+-- the byte of the first request
+abbrev pub byteA : PhysicalAddress
+byteA = physical 0x10022345
+
 -- the start and the session after these calls meet the hypotheses of demand 3, and the start's first request is answered
 pub record Exhibited : Type 0 where
   pub first : Session recordsA baseA memoryA deviceA
   pub session : Session recordsA baseA memoryA (after memoryA deviceA callsA)
-  pub answers : requestOf memoryA pricesA freshBill deviceA (virtual 0x012345) Read .answer ≡ A.Address (physical 0x10022345)
+  pub answers : requestOf memoryA pricesA freshBill deviceA (virtual 0x012345) Read .answer ≡ A.Address byteA

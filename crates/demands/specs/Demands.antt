@@ -23,8 +23,7 @@ use Rattle.conduct.specs.Answered.{OneAcknowledgement, OffIsVirtual, AnswersOn,
 use Rattle.conduct.specs.Held.{FaultHeld, FaultDropped}
 use Rattle.conduct.specs.Kept.{Frames}
 use Rattle.conduct.specs.Written.{ReadBack, ReadShown, ResetFresh, LoadCopied, LoadThenCopy}
-use Rattle.coherence.specs.Sessions.{after, Admitted, asked, asks}
-use Rattle.coherence.specs.Sessions as Sessions
+use Rattle.coherence.specs.Sessions.{BilledCall, after, Admitted, asked, asks}
 use Rattle.coherence.specs.Started.{TurnsOn, start}
 use Rattle.translates.specs.Statements.{Bytes, Standing}
 use Rattle.demands.specs.Building.{BuildRefuses, BuildLeaves}
@@ -86,7 +85,7 @@ pub record AsList (r : Answer) (x : Meaning) : Type 0 where
 abbrev pub Demand3 : Type 0
 Demand3 =
     (rs : List ℕ) (base room len : ℕ) (m : Lent) (v : ℕ) (p : Prices) (b₀ : Bill)
-    (cs : List Sessions.Billed) (b : Bill) (c : Call) (va : VirtualAddress) (a : Access) (r : Answer) →
+    (cs : List BilledCall) (b : Bill) (c : Call) (va : VirtualAddress) (a : Access) (r : Answer) →
     Bytes rs →
     answerOf rs base room ≡ Length len →
     Standing m base (image megabytes (mappings rs) base) →
