@@ -13,6 +13,7 @@ use Rattle.descriptors.specs.declared.Found.the-variants as D
 use Rattle.lanes.specs.Lanes.{slots, lookedUp}
 use Rattle.lanes.specs.declared.Matched.the-variants as M
 use Rattle.lanes.proofs.Searches.{found, lowest, Lowest}
+use Rattle.registers.specs.Answers.{isRefusal}
 use Rattle.registers.specs.Fields.{isOn, isWalking}
 use Rattle.registers.specs.Table.{listed, commandOf}
 use Rattle.registers.specs.declared.Fault.the-variants as K
@@ -22,13 +23,15 @@ use Rattle.decision.specs.Prefetches.{pageAt, prefetchFound, prefetchMatched, p
 use Rattle.decision.specs.declared.Shift.the-variants as H
 use Rattle.decision.proofs.Joins.{decided-on, decided-miss, decided-walk}
 use Rattle.unit.specs.Refusals.{refuses}
-use Rattle.unit.specs.Device.{inRange, look, decidedBy, attemptOf}
+use Rattle.unit.specs.Device.{inRange, look, cleared, told, toldRefused, decidedBy, attemptOf}
 use Rattle.unit.specs.Offsets.{prefetchAt}
-use Rattle.unit.specs.Calls.{noMatch, lacks, shiftOf}
+use Rattle.unit.specs.Calls.{noMatch, lacks, writeOf, dropRefusals, dropOf, shiftOf}
+use Rattle.unit.proofs.Refusing.{refuses-by}
 use Rattle.unit.specs.Machine.{request, write, read, drop-fault, shift, answered}
-use Rattle.conduct.specs.Types.{Access, VirtualAddress, PhysicalAddress, Lent, lentOk, Reads, Page, Found, Bill, Prices, Matched, Decision, Device, Outcome}
+use Rattle.conduct.specs.Types.{Access, VirtualAddress, PhysicalAddress, Lent, lentOk, Reads, Page, Found, Bill, Prices, Matched, Decision, Device, Outcome, Told}
+use Rattle.conduct.specs.Refused.{Accepted}
 use Rattle.conduct.specs.Asked.{Asked, nothing, attempt, prefetch, asked}
-use Rattle.conduct.specs.Answered.{LowestMatch, NoSlot, WalkAnswers, OnAnswers, AnswersOn, PrefetchAnswers, PrefetchAnswered, ShiftTells, ShiftAnswered}
+use Rattle.conduct.specs.Answered.{LowestMatch, NoSlot, WalkAnswers, OnAnswers, AnswersOn, PrefetchAnswers, PrefetchAnswered, ShiftTells, ShiftAnswered, done, NothingSaid}
 use Rattle.conduct.proofs.Tests.{rest}
 use Rattle.conduct.proofs.Writes.{write-by}
 use Rattle.conduct.proofs.Calls.{accepted-request, accepted-write}
@@ -160,3 +163,31 @@ shift-is m d va r l o = pick-no _ _ _ (ap not r) ∙ pick-no _ _ _ (lt-leb limit
 pub shift-answered : ShiftAnswered
 shift-answered m d b va s r l o e =
     subst (ShiftTells va (look m d va .found)) (let z : shiftOf m d va ≡ s = cc in sym (shift-is m d va r l o) ∙ z) (found-tells va (look m d va .found))
+
+-- a write that asks for no address
+module _ (m : Lent) (d : Device) (b : Bill) (p : Prices) where
+  abbrev Quiet : Asked → Outcome → Type 0
+  Quiet q x = q ≡ nothing → answered (x .answer) ≡ done
+
+  abbrev isAsked : Asked → Bool
+  isAsked nothing = false
+  isAsked (attempt t x r) = true
+  isAsked (prefetch x) = true
+
+  asks-some : {P : Type 0} (q : Asked) → isAsked q ≡ true → q ≡ nothing → P
+  asks-some q n e = absurd (true≢false (sym n ∙ ap isAsked e))
+
+  write-says : (o v : ℕ) → asked d (write o v p) ≡ nothing → Accepted m d b (write o v p) → answered (writeOf m p b d o v .answer) ≡ done
+  write-says o v e h =
+      accepted-write m p b d (Quiet (asked d (write o v p))) o v
+      (write-by m p b d v Quiet (λ _. refl) (λ _. refl) (λ va a _. asks-some (attempt true va a) refl) (λ _. asks-some (prefetch (pageAt v)) refl) o (λ _ _ _. refl))
+      h e
+
+pub nothing-said : NothingSaid
+unfolding dropOf
+nothing-said m d b = record {
+  write = λ o v p. write-says m d b p o v;
+  dropped =
+      refuses-by (toldRefused d) (told (cleared d) A.Done) (λ (t : Told). isRefusal (t .answer) ≡ false → answered (t .answer) ≡ done) (dropRefusals d)
+      (λ k h. absurd (true≢false h)) (λ _ _. refl);
+}

@@ -15,10 +15,10 @@ use Rattle.registers.specs.declared.Answer.the-variants as A
 use Rattle.decision.specs.Prefetches.{pageAt, shiftNumber, shiftValues}
 use Rattle.unit.specs.Offsets.{prefetchAt, acknowledgeAt}
 use Rattle.unit.specs.Device.{inRange, look}
-use Rattle.unit.specs.Machine.{Call, write, shift, Said, answered, reported, step}
+use Rattle.unit.specs.Machine.{Call, write, drop-fault, shift, Said, answered, reported, step}
 use Rattle.conduct.specs.Types.{Access, VirtualAddress, Lent, lentOk, Page, Found, Bill, Prices, Fault, Shift, Device}
 use Rattle.conduct.specs.Refused.{Accepted}
-use Rattle.conduct.specs.Asked.{attempt, asked}
+use Rattle.conduct.specs.Asked.{nothing, attempt, asked}
 
 -- slot i matches an address, and no lower slot does
 pub record LowestMatch (d : Device) (va : VirtualAddress) (i : ℕ) : Type 0 where
@@ -77,10 +77,14 @@ AnswersOn =
     → isOn (d .registers .control) ≡ true → asked d c ≡ attempt again va a → Accepted m d b c
     → OnAnswers m d va a (step m d b c .said)
 
+-- accepted, with nothing to say
+abbrev pub done : Said
+done = answered A.Done
+
 -- a prefetch that is not refused says nothing on a match and where its walk finds a page, whatever its access, and 24 where it finds none
 pub record PrefetchAnswers (m : Lent) (d : Device) (va : VirtualAddress) (s : Said) : Type 0 where
-  pub match : (i : ℕ) → LowestMatch d va i → s ≡ answered A.Done
-  pub page : (g : Page) → NoSlot d va → look m d va .found ≡ D.Page g → s ≡ answered A.Done
+  pub match : (i : ℕ) → LowestMatch d va i → s ≡ done
+  pub page : (g : Page) → NoSlot d va → look m d va .found ≡ D.Page g → s ≡ done
   pub none : NoSlot d va → look m d va .found ≡ D.NoPage → s ≡ answered (A.Fault K.Prefetch)
 
 abbrev pub PrefetchAnswered : Type 0
@@ -104,3 +108,11 @@ abbrev pub ShiftAnswered : Type 0
 ShiftAnswered =
     (m : Lent) (d : Device) (b : Bill) (va : VirtualAddress) (s : Shift) → inRange d ≡ true → va .0 < limit → lentOk m ≡ true
     → step m d b (shift va) .said ≡ reported s → ShiftTells va (look m d va .found) s
+
+-- a write that asks for no address, and a drop, say nothing where they are not refused
+pub record SaysNothing (m : Lent) (d : Device) (b : Bill) : Type 0 where
+  pub write : (o v : ℕ) (p : Prices) → asked d (write o v p) ≡ nothing → Accepted m d b (write o v p) → step m d b (write o v p) .said ≡ done
+  pub dropped : Accepted m d b drop-fault → step m d b drop-fault .said ≡ done
+
+abbrev pub NothingSaid : Type 0
+NothingSaid = (m : Lent) (d : Device) (b : Bill) → SaysNothing m d b

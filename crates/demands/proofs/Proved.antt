@@ -20,7 +20,7 @@ use Rattle.conduct.proofs.Cached.{fault-not-cached}
 use Rattle.conduct.proofs.Flushed.{flush-exact}
 use Rattle.conduct.proofs.Metered.{metered, billed, posted-meters, bench-stays, good-kept}
 use Rattle.conduct.proofs.Answered.{one-acknowledgement, off-is-virtual}
-use Rattle.conduct.proofs.Answering.{answers-on, prefetch-answered, shift-answered}
+use Rattle.conduct.proofs.Answering.{answers-on, prefetch-answered, shift-answered, nothing-said}
 use Rattle.conduct.proofs.Held.{fault-held, fault-dropped}
 use Rattle.conduct.proofs.Kept.{frames}
 use Rattle.conduct.proofs.Written.{read-back, read-shown, reset-fresh, load-copied, load-then-copy}
@@ -57,6 +57,7 @@ demand-2 = record {
   acknowledged = one-acknowledgement;
   prefetched = prefetch-answered;
   shifted = shift-answered;
+  quiet = nothing-said;
   kept = frames;
   read-back = read-back;
   read-shown = read-shown;

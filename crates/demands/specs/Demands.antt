@@ -19,7 +19,7 @@ use Rattle.conduct.specs.Refused.{ExactlyWhen, AcceptedWhen, NothingChanges, Be
 use Rattle.conduct.specs.Filled.{LockedKept, OneSlotFilled, NoPageNoFill, FaultNotCached}
 use Rattle.conduct.specs.Flushed.{FlushExact}
 use Rattle.conduct.specs.Metered.{Metered, Billed, PostedMeters}
-use Rattle.conduct.specs.Answered.{OneAcknowledgement, OffIsVirtual, AnswersOn, PrefetchAnswered, ShiftAnswered}
+use Rattle.conduct.specs.Answered.{OneAcknowledgement, OffIsVirtual, AnswersOn, PrefetchAnswered, ShiftAnswered, NothingSaid}
 use Rattle.conduct.specs.Held.{FaultHeld, FaultDropped}
 use Rattle.conduct.specs.Kept.{Frames}
 use Rattle.conduct.specs.Written.{ReadBack, ReadShown, ResetFresh, LoadCopied, LoadThenCopy}
@@ -58,6 +58,7 @@ pub record Demand2 : Type 0 where
   pub acknowledged : OneAcknowledgement
   pub prefetched : PrefetchAnswered
   pub shifted : ShiftAnswered
+  pub quiet : NothingSaid
   pub kept : Frames
   pub read-back : ReadBack
   pub read-shown : ReadShown
