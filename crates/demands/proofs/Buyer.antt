@@ -36,7 +36,7 @@ use Rattle.translates.proofs.Theorems.{bytes-drop, leaves-image, built-has}
 use Rattle.translates.proofs.Samples.{accepts-a}
 use Rattle.demands.specs.Demands.{said}
 use Rattle.demands.specs.Answering.{ValuesFit, Session}
-use Rattle.demands.specs.Buyer.{LentAt, BuiltThenCalled, builtIn, BuiltSession, memoryA, pricesA, deviceA, callsA, byteA, Exhibited}
+use Rattle.demands.specs.Buyer.{LentAt, BuiltThenCalled, builtIn, BuiltSession, roomA, pricesA, memoryA, deviceA, callsA, byteA, Exhibited}
 use Rattle.unit.specs.declared.Device.{Device}
 use Rattle.demands.proofs.Lists.{start-is}
 use Rattle.demands.proofs.Proved.{demand-3}
@@ -165,12 +165,12 @@ bytes-a : Bytes recordsA
 unfolding _and_
 bytes-a = bytes-below recordsA refl
 
-built-a : buildOf recordsA baseA (replicate 8192 0) .answer ≡ Length 8192
+built-a : buildOf recordsA baseA (replicate roomA 0) .answer ≡ Length roomA
 unfolding buildOf
-built-a = ap (answerOf recordsA baseA) (length-replicate {A = ℕ} 8192 0) ∙ accepts-a
+built-a = ap (answerOf recordsA baseA) (length-replicate {A = ℕ} roomA 0) ∙ accepts-a
 
 session-a : (cs : List BilledCall) → Admitted cs → ValuesFit cs → Session recordsA baseA memoryA (after memoryA deviceA cs)
-session-a cs adm fit = built-session recordsA baseA 8192 (replicate 8192 0) 7 pricesA freshBill cs bytes-a (zero-bytes 8192) built-a refl adm fit
+session-a cs adm fit = built-session recordsA baseA roomA (replicate roomA 0) 7 pricesA freshBill cs bytes-a (zero-bytes roomA) built-a refl adm fit
 
 -- what the list says of one address
 byte-a : said (meaning (mappings recordsA) (virtual 0x012345) Read) ≡ A.Address byteA
@@ -188,6 +188,6 @@ exhibited = record {
   session = session-a callsA (refl, (refl, (refl, (refl, (refl, (refl, (refl, tt))))))) (tt, (tt, (omega arith, (tt, (omega arith, (tt, (tt, tt)))))));
   answers =
       requests-answered recordsA baseA memoryA deviceA (session-a [] tt tt) pricesA freshBill (virtual 0x012345) Read
-      (ap (λ (d : Device). d .pending) (start-is recordsA baseA 8192 8192 accepts-a memoryA 7 pricesA freshBill refl)) (omega arith) money-a .answer
+      (ap (λ (d : Device). d .pending) (start-is recordsA baseA roomA roomA accepts-a memoryA 7 pricesA freshBill refl)) (omega arith) money-a .answer
       ∙ byte-a;
 }

@@ -45,9 +45,13 @@ BuiltThenCalled =
     isRefusal r ≡ false →
     AsList r (meaning (mappings rs) va a)
 
--- what a build leaves in a memory, lent as the external one beside an empty on-chip one
+-- bytes lent as the external memory, beside an empty on-chip one
+abbrev pub lentAlone : List ℕ → ℕ → Lent
+lentAlone bytes base = lent [] 0 bytes base
+
+-- what a build leaves in a memory, so lent
 abbrev pub builtIn : List ℕ → ℕ → List ℕ → Lent
-builtIn rs base before = lent [] 0 (buildOf rs base before .memory) base
+builtIn rs base before = lentAlone (buildOf rs base before .memory) base
 
 -- and that is a session in which each is answered, whatever bytes stood in the memory before
 abbrev pub BuiltSession : Type 0
@@ -61,15 +65,22 @@ BuiltSession =
     ValuesFit cs →
     Session rs base (builtIn rs base before) (after (builtIn rs base before) (start (builtIn rs base before) base v p b) cs)
 
--- list A in 8,192 zero bytes, a nanosecond a word
-abbrev pub memoryA : Lent
-memoryA = builtIn recordsA baseA (replicate 8192 0)
+-- a memory that just holds the image of list A, a nanosecond a word, and the bench sheet's start from such a memory
+abbrev pub roomA : ℕ
+roomA = 8192
 
 abbrev pub pricesA : Prices
 pricesA = record { onchip = Flat f1; external = Flat f1 }
 
+abbrev pub startA : Lent → Device
+startA m = start m baseA 7 pricesA freshBill
+
+-- list A built in zero bytes, and the device started from it
+abbrev pub memoryA : Lent
+memoryA = builtIn recordsA baseA (replicate roomA 0)
+
 abbrev pub deviceA : Device
-deviceA = start memoryA baseA 7 pricesA freshBill
+deviceA = startA memoryA
 
 -- a request that is answered, one that is not permitted, its retry, a drop, a prefetch, a request again, a read
 abbrev pub callsA : List BilledCall

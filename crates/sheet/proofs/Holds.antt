@@ -34,7 +34,8 @@ use Rattle.unit.specs.Refusals.{refuses}
 use Rattle.unit.specs.Device.{inRange}
 use Rattle.unit.specs.Calls.{lacks, requestOf, isMalformed, isUntimely, writeLacks, writeOf}
 use Rattle.translates.specs.ListA.{recordsA, baseA}
-use Rattle.sheet.specs.Bench.{roomA, builtA}
+use Rattle.demands.specs.Buyer.{roomA}
+use Rattle.sheet.specs.Bench.{builtA}
 use Rattle.sheet.specs.Sheet.{Line, sheet, same, answeredIn, passesIn, allPassIn, answered, allPass, Each}
 use Rattle.sheet.proofs.Runs.{runOf, run-is}
 

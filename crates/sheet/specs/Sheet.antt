@@ -21,7 +21,8 @@ use Rattle.unit.specs.declared.Outcome.{Outcome}
 use Rattle.unit.specs.Device.{look, decidedBy}
 use Rattle.unit.specs.Calls.{requestOf}
 use Rattle.translates.specs.ListA.{recordsA, baseA}
-use Rattle.sheet.specs.Bench.{builtA, lentAt, prices, deviceA, lockedA}
+use Rattle.demands.specs.Buyer.{pricesA, startA}
+use Rattle.sheet.specs.Bench.{builtA, lentA, lockedA}
 
 -- what a line asks
 pub data Question : Type 0 where
@@ -161,17 +162,17 @@ module _ (bytes : List ℕ) where
 
   -- the device that each line starts from, and the same locked
   abbrev pub begun : Device
-  begun = deviceA (lentAt bytes)
+  begun = startA (lentA bytes)
 
   abbrev pub locked : ℕ → ℕ → Device
-  locked lock victim = lockedA (lentAt bytes) lock victim
+  locked lock victim = lockedA (lentA bytes) lock victim
 
   -- a request of a device, and the words that its decision reads
   abbrev pub asked : Device → ℕ → Access → Outcome
-  asked d va a = requestOf (lentAt bytes) prices freshBill d (virtual va) a
+  asked d va a = requestOf (lentA bytes) pricesA freshBill d (virtual va) a
 
   abbrev pub readFor : Device → ℕ → Access → List Source
-  readFor d va a = sources (decidedBy (look (lentAt bytes) d (virtual va)) d (virtual va) a .reads)
+  readFor d va a = sources (decidedBy (look (lentA bytes) d (virtual va)) d (virtual va) a .reads)
 
   -- what the bench answers
   unfoldable pub answeredIn : Question → List ℕ
