@@ -5,7 +5,7 @@ use Prim.Native.Nat.{ℕ, _/_, _%_}
 use native.Mathlib.Omega.{arith}
 use borrow.Author.Tests.{eq-eqb, ne-eqb}
 use Rattle.page.specs.Pick.{pick, _and_, _or_}
-use Rattle.page.specs.Words.{wordValid, wordPreserved, wordMatches, wordFlushed, wordFlushedAt}
+use Rattle.page.specs.Words.{wordValid, wordMatches, wordFlushed, wordFlushedAt}
 use Rattle.page.proofs.Picks.{pick-yes, pick-no, pick-by, and-yes, and-no}
 use Rattle.page.proofs.Slot.{dropped-off, dropped-rest}
 use Rattle.bank.specs.Changes.{bankFlushed, bankFlushedAt}
@@ -19,7 +19,7 @@ use Rattle.unit.specs.Device.{inRange, setBank, refusedWith}
 use Rattle.unit.specs.Calls.{isMalformed, isUntimely, writeLacks, writeRefusals, carried, writeOf}
 use Rattle.conduct.specs.Types.{VirtualAddress, Lent, Bill, Prices, Command, Tending, Device, Outcome}
 use Rattle.unit.specs.Offsets.{flushAt, entryFlushAt}
-use Rattle.conduct.specs.Flushed.{camAt, ValidWhere, Flushes, FlushExact}
+use Rattle.conduct.specs.Flushed.{flushKeeps, entryFlushKeeps, camAt, ValidWhere, Flushes, FlushExact}
 use Rattle.unit.proofs.Refusing.{clear-goes-on, refuses-by}
 
 -- a flushed word keeps all but V
@@ -43,7 +43,7 @@ flushedAt-valid va w =
 
 -- a device with the CAM lane rewritten word by word
 module _ (d : Device) where
-  all-exact : ValidWhere wordPreserved d (setBank d (bankFlushed (d .bank)))
+  all-exact : ValidWhere flushKeeps d (setBank d (bankFlushed (d .bank)))
   all-exact = record {
     valid = λ j. word-exact (d .bank .cam) j;
     above = λ j. ap (λ (x : ℕ). x / 8) (flush-word (d .bank .cam) j) ∙ flushed-rest (camAt d j) .0;
@@ -55,8 +55,11 @@ module _ (d : Device) where
     pending = refl;
   }
 
-  entry-exact : (va : VirtualAddress) → ValidWhere (λ w. not (wordMatches w va)) d (setBank d (bankFlushedAt (d .bank) va))
-  entry-exact va = record {
+  abbrev va : VirtualAddress
+  va = camAddress (d .registers .staged)
+
+  entry-exact : ValidWhere (entryFlushKeeps d) d (setBank d (bankFlushedAt (d .bank) va))
+  entry-exact = record {
     valid = λ j. ap wordValid (entry-word va (d .bank .cam) j) ∙ flushedAt-valid va (camAt d j);
     above = λ j. ap (λ (x : ℕ). x / 8) (entry-word va (d .bank .cam) j) ∙ flushedAt-rest va (camAt d j) .0;
     below = λ j. ap (λ (x : ℕ). x % 4) (entry-word va (d .bank .cam) j) ∙ flushedAt-rest va (camAt d j) .1;
@@ -99,8 +102,8 @@ module _ (m : Lent) (d : Device) (b : Bill) (p : Prices) (v : ℕ) where
 
   flushes : Flushes m d b p v
   flushes = record {
-    all = λ r h. subst (λ (x : Outcome). ValidWhere wordPreserved d (x .device)) (sym (goes flushAt Flush at-flush (flush-clear r) h)) (all-exact d);
-    entry = λ r h. subst (λ (x : Outcome). ValidWhere (λ w. not (wordMatches w (camAddress (d .registers .staged)))) d (x .device)) (sym (goes entryFlushAt FlushEntry at-entry (entry-clear r) h)) (entry-exact d (camAddress (d .registers .staged)));
+    all = λ r h. subst (λ (x : Outcome). ValidWhere flushKeeps d (x .device)) (sym (goes flushAt Flush at-flush (flush-clear r) h)) (all-exact d);
+    entry = λ r h. subst (λ (x : Outcome). ValidWhere (entryFlushKeeps d) d (x .device)) (sym (goes entryFlushAt FlushEntry at-entry (entry-clear r) h)) (entry-exact d);
     none = λ h. (stays flushAt Flush at-flush h, stays entryFlushAt FlushEntry at-entry h);
   }
 

@@ -23,13 +23,18 @@ pub record ValidWhere (test : ℕ → Bool) (before after : Device) : Type 0 whe
   pub registers : after .registers ≡ before .registers
   pub pending : after .pending ≡ before .pending
 
+-- what a global flush keeps, and what an entry flush keeps
+abbrev pub flushKeeps : ℕ → Bool
+flushKeeps w = wordPreserved w
+
+abbrev pub entryFlushKeeps : Device → ℕ → Bool
+entryFlushKeeps d w = not (wordMatches w (camAddress (d .registers .staged)))
+
 -- with bit 0 set a global flush keeps V exactly where P is set, and an entry flush exactly where the slot does not match the CAM
 -- address; with bit 0 clear neither changes anything
 pub record Flushes (m : Lent) (d : Device) (b : Bill) (p : Prices) (v : ℕ) : Type 0 where
-  pub all : inRange d ≡ true → v % 2 ≡ 1 → ValidWhere wordPreserved d (step m d b (write flushAt v p) .device)
-  pub entry :
-      inRange d ≡ true → v % 2 ≡ 1
-      → ValidWhere (λ w. not (wordMatches w (camAddress (d .registers .staged)))) d (step m d b (write entryFlushAt v p) .device)
+  pub all : inRange d ≡ true → v % 2 ≡ 1 → ValidWhere flushKeeps d (step m d b (write flushAt v p) .device)
+  pub entry : inRange d ≡ true → v % 2 ≡ 1 → ValidWhere (entryFlushKeeps d) d (step m d b (write entryFlushAt v p) .device)
   pub none : v % 2 ≡ 0 → (step m d b (write flushAt v p) .device ≡ d) × (step m d b (write entryFlushAt v p) .device ≡ d)
 
 -- so it is for every device, value and memory
