@@ -156,7 +156,9 @@ found-tells va (D.Page g) = record { number = refl; values = refl }
 found-tells va D.NoPage = record { number = refl; values = refl }
 found-tells va D.Missing = record { number = refl; values = refl }
 
-shift-is : (m : Lent) (d : Device) (va : VirtualAddress) → inRange d ≡ true → va .0 < limit → lentOk m ≡ true → shiftOf m d va ≡ pick (isMissing (look m d va .found)) (H.Refused 3) (shiftBy va (look m d va .found))
+shift-is :
+    (m : Lent) (d : Device) (va : VirtualAddress) → inRange d ≡ true → va .0 < limit → lentOk m ≡ true
+    → shiftOf m d va ≡ pick (isMissing (look m d va .found)) (H.Refused 3) (shiftBy va (look m d va .found))
 unfolding shiftOf refuses
 shift-is m d va r l o = pick-no _ _ _ (ap not r) ∙ pick-no _ _ _ (lt-leb limit (va .0) l) ∙ pick-no _ _ _ (ap not o)
 

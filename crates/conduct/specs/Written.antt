@@ -9,7 +9,8 @@ use Rattle.registers.specs.Fields.{wordsOf, entryOf}
 use Rattle.registers.specs.Table.{listed}
 use Rattle.registers.specs.declared.Answer.the-variants as A
 use Rattle.unit.specs.Device.{freshDevice, inRange}
-use Rattle.unit.specs.Offsets.{prefetchAt, walkStatusAt, controlAt, faultHighAt, faultLowAt, faultStatusAt, acknowledgeAt, baseHighAt, baseLowAt, lockAt, loadAt, camHighAt, camLowAt, ramHighAt, ramLowAt, flushAt, entryFlushAt, readCamHighAt, readCamLowAt, readRamHighAt, readRamLowAt}
+use Rattle.unit.specs.Offsets.{prefetchAt, walkStatusAt, controlAt, faultHighAt, faultLowAt, faultStatusAt, acknowledgeAt, baseHighAt, baseLowAt}
+use Rattle.unit.specs.Offsets.{lockAt, loadAt, camHighAt, camLowAt, ramHighAt, ramLowAt, flushAt, entryFlushAt, readCamHighAt, readCamLowAt, readRamHighAt, readRamLowAt}
 use Rattle.unit.specs.Machine.{write, read, answered, Step, step}
 use Rattle.conduct.specs.Types.{Lent, Bill, Prices, Device}
 use Rattle.conduct.specs.Refused.{Accepted, BytesFit}

@@ -45,11 +45,11 @@ pub record BuildRefuses : Type 0 where
       (rs : List ℕ) (base : ℕ) (before : List ℕ) → builtRefused (buildOf rs base before .answer) ≡ true → buildOf rs base before .memory ≡ before
 
 -- an accepted build answers the image's length, writes the image, and leaves every later byte
-pub record Leaves (rs : List ℕ) (base len : ℕ) (before after : List ℕ) : Type 0 where
+pub record ImageLeft (rs : List ℕ) (base len : ℕ) (before after : List ℕ) : Type 0 where
   pub length-is : len ≡ length (image megabytes (mappings rs) base)
   pub memory : after ≡ image megabytes (mappings rs) base ++ drop len before
 
 abbrev pub BuildLeaves : Type 0
 BuildLeaves =
     (rs : List ℕ) (base len : ℕ) (before : List ℕ) → buildOf rs base before .answer ≡ Length len
-    → Leaves rs base len before (buildOf rs base before .memory)
+    → ImageLeft rs base len before (buildOf rs base before .memory)
