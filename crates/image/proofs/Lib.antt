@@ -1,3 +1,5 @@
 pub mod Splices
-pub mod Filling
 pub mod Whole
+pub mod Parts
+pub mod Runs
+pub mod Nothing

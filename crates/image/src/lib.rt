@@ -1,17 +1,23 @@
 // The image of a list, written into a lent memory.
-use page::VirtualAddress;
+mod places;
+
+use page::Kind;
 use records::Mapping;
 use tables::FIRST;
 use tables::MEGABYTE;
 use tables::Table;
 ghost use mathlib.Core.Path.{_≡_};
-ghost use Prim.Native.Nat.{ℕ, _+_, _-_, _*_, _/_, _^_, _<_, _≤_};
+ghost use Prim.Native.Nat.{ℕ, _+_, _*_, _/_, _^_, _<_, _≤_};
 ghost use lib.ListN.{length};
+ghost use mathlib.Core.List.{[]};
+ghost use Rattle.lists.specs.declared.Held.the-variants.{Nobody};
+ghost use Rattle.tables.specs.declared.Table.the-variants.{Fine, Coarse};
 ghost use Rattle.records.specs.Mappings.{mappings};
 ghost use Rattle.page.specs.Words.{megabytes};
-ghost use Rattle.tables.specs.Tables.{tableOf, tableSize, imageLength};
-ghost use Rattle.words.specs.Words.{firstWord, writtenAs, pageWord, stepBits, addressOf, secondWord, wordIn, wordsIn, inTables};
+ghost use Rattle.tables.specs.Tables.{imageLength};
+ghost use Rattle.words.specs.Words.{firstBy, writtenAs, pageWord, addressOf, wordIn, wordsIn};
 ghost use Rattle.image.specs.Image.{spliced, written};
+ghost use Rattle.image.specs.Parts.{partWord, Known, Turned, Filled};
 
 // The low 32 bits of a word, into a memory.
 fn put_word(out: &mut [u8], at: usize, w: u64)
@@ -36,95 +42,136 @@ fn write_zeros(out: &mut [u8], at: usize, n: usize)
     }
 }
 
-// The word of a mapping that stands at a place in a megabyte's table.
-fn second_word(t: Table, mb: u32, m: Mapping, j: u32) -> u64
-    requires { ⌜ (mb < megabytes) × (j * 2 ^ stepBits t < 2 ^ 20) ⌝ }
-    ensures { λ r. ⌜ r ≡ pageWord (writtenAs t (m .kind)) m (addressOf t mb j) ⌝ }
+// Words that rise by a step, into a memory.
+fn write_run(out: &mut [u8], at: usize, n: usize, w: u64, d: u64)
+    requires { ⌜ (w < 2 ^ 33) × (d ≤ 4096) × (n ≤ 1024) × (at + 4 * n ≤ length (now out)) ⌝ }
+    ensures { λ r. ⌜ now (out .exit) ≡ spliced (now (out .entry)) at (λ (y : ℕ). w + d * y) n ⌝ }
 {
-    let k = m.kind;
-    let a = VirtualAddress(mb * MEGABYTE + j * words::step(t));
-    words::page_word(words::written_as(t, k), m, a) as u64
-}
-
-// The words of a mapping, into a megabyte's table that begins at an offset.
-fn write_page(out: &mut [u8], at: usize, t: Table, mb: u32, m: Mapping)
-    requires { ⌜ (mb < megabytes) × ((wordIn t m + wordsIn t mb m) * 2 ^ stepBits t ≤ 2 ^ 20) × (at + 4 * (wordIn t m + wordsIn t mb m) ≤ length (now out)) ⌝ }
-    ensures { λ r. ⌜ now (out .exit) ≡ spliced (now (out .entry)) (at + 4 * wordIn t m) (λ (y : ℕ). pageWord (writtenAs t (m .kind)) m (addressOf t mb (wordIn t m + y))) (wordsIn t mb m) ⌝ }
-{
-    let first = words::word_in(t, m);
-    let n = words::words_in(t, mb, m);
     let mut y = 0;
     while y < n {
-        let j = first + y;
-        put_word(out, at + 4 * j as usize, second_word(t, mb, m, j));
+        put_word(out, at + 4 * y, w + d * y as u64);
         y += 1;
     }
 }
 
-// A megabyte's table, at an offset: zeros, and over them the mappings from the last to the first.
-fn write_table(records: &[u8], t: Table, mb: u32, out: &mut [u8], at: usize)
-    requires { ⌜ (mb < megabytes) × (t ≡ tableOf (mappings (now records)) mb) × (at + tableSize t ≤ length (now out)) ⌝ }
-    ensures { λ r. ⌜ now (out .exit) ≡ spliced (now (out .entry)) at (secondWord (mappings (now (records .entry))) t mb) (tableSize t / 4) ⌝ }
+// The words of a mapping, into its megabyte's fine table, which begins at an offset.
+fn write_fine(out: &mut [u8], at: usize, m: Mapping)
+    requires { ⌜ at + 4 * (wordIn Fine m + wordsIn Fine (m .at .0 / 2 ^ 20) m) ≤ length (now out) ⌝ }
+    ensures { λ r. ⌜ now (out .exit) ≡ spliced (now (out .entry)) (at + 4 * wordIn Fine m) (λ (y : ℕ). pageWord (writtenAs Fine (m .kind)) m (addressOf Fine (m .at .0 / 2 ^ 20) (wordIn Fine m + y))) (wordsIn Fine (m .at .0 / 2 ^ 20) m) ⌝ }
 {
-    let size = tables::table_size(t);
-    if size == 0 {
-        return;
-    }
-    write_zeros(out, at, size as usize / 4);
-    let mut j = records::count(records);
-    while 0 < j {
-        j -= 1;
-        write_page(out, at, t, mb, records::mapping_at(records, j));
+    let k = m.kind;
+    let to = m.to;
+    let o = at + 4 * words::word_in(Table::Fine, m) as usize;
+    let w = page::page_start(k, to.0) as u64 + 16 * (m.access % 4) as u64 + 3;
+    match k {
+        Kind::Section => write_run(out, o, 1024, w, 1024),
+        Kind::Large => write_run(out, o, 64, w, 1024),
+        Kind::Small => write_run(out, o, 4, w, 1024),
+        Kind::Tiny => write_run(out, o, 1, w, 1024),
     }
 }
 
-// The first-level table.
-fn write_first(records: &[u8], base: u32, out: &mut [u8])
-    requires { ⌜ 4 * megabytes ≤ length (now out) ⌝ }
-    ensures { λ r. ⌜ now (out .exit) ≡ spliced (now (out .entry)) 0 (firstWord megabytes (mappings (now (records .entry))) base) megabytes ⌝ }
+// The words of a mapping, into its megabyte's coarse table, which begins at an offset.
+fn write_coarse(out: &mut [u8], at: usize, m: Mapping)
+    requires { ⌜ at + 4 * (wordIn Coarse m + wordsIn Coarse (m .at .0 / 2 ^ 20) m) ≤ length (now out) ⌝ }
+    ensures { λ r. ⌜ now (out .exit) ≡ spliced (now (out .entry)) (at + 4 * wordIn Coarse m) (λ (y : ℕ). pageWord (writtenAs Coarse (m .kind)) m (addressOf Coarse (m .at .0 / 2 ^ 20) (wordIn Coarse m + y))) (wordsIn Coarse (m .at .0 / 2 ^ 20) m) ⌝ }
 {
-    let mut e = 4 * FIRST;
+    let k = m.kind;
+    let to = m.to;
+    let o = at + 4 * words::word_in(Table::Coarse, m) as usize;
+    let w = page::page_start(k, to.0) as u64 + 16 * (m.access % 4) as u64;
+    match k {
+        Kind::Section => write_run(out, o, 256, w + 2, 4096),
+        Kind::Large => write_run(out, o, 16, w + 1, 0),
+        Kind::Small => write_run(out, o, 1, w + 2, 0),
+        Kind::Tiny => write_run(out, o, 0, w + 2, 0),
+    }
+}
+
+// The first-level word of a megabyte by its table alone: zero where it has none.
+fn table_word(t: Table, base: u32, start: u32) -> u64
+    ensures { λ r. ⌜ r ≡ firstBy t (base + start) Nobody ⌝ }
+{
+    match t {
+        Table::Fine => base as u64 + start as u64 + 3,
+        Table::Coarse => base as u64 + start as u64 + 1,
+        Table::Absent => 0,
+    }
+}
+
+// The first-level table with no section in it.
+fn write_first(records: &[u8], base: u32, seen: &[bool], starts: &[u32], out: &mut [u8])
+    requires { ⌜ Known (mappings (now records)) (now seen) (now starts) × (4 * megabytes ≤ length (now out)) ⌝ }
+    ensures { λ r. ⌜ now (out .exit) ≡ spliced (now (out .entry)) 0 (partWord megabytes (mappings (now (records .entry))) [] base) megabytes ⌝ }
+{
     let mut k = 0;
     while k < FIRST {
-        let t = tables::table_of(records, k);
-        let s = tables::start_after(t, e) as u32;
-        let a = VirtualAddress(k * MEGABYTE);
-        put_word(
-            out,
-            4 * k as usize,
-            words::first_word(records, base, t, s, a),
-        );
-        e = s + tables::table_size(t);
+        let t = places::table_from(records, seen, k);
+        let s = starts[k as usize];
+        put_word(out, 4 * k as usize, table_word(t, base, s));
         k += 1;
     }
 }
 
-// The second-level tables and the zeros between them.
-fn write_tables(records: &[u8], out: &mut [u8])
-    requires { ⌜ imageLength megabytes (mappings (now records)) ≤ length (now out) ⌝ }
-    ensures { λ r. ⌜ now (out .exit) ≡ spliced (now (out .entry)) (4 * megabytes) (λ (k : ℕ). inTables megabytes (mappings (now (records .entry))) megabytes (4 * megabytes + 4 * k)) ((imageLength megabytes (mappings (now (records .entry))) - 4 * megabytes) / 4) ⌝ }
+// The words of record j's mapping.
+fn write_mapping(records: &[u8], base: u32, seen: &[bool], starts: &[u32], out: &mut [u8], j: usize)
+    requires { ⌜ Known (mappings (now records)) (now seen) (now starts) × (j < length (mappings (now records))) × (imageLength megabytes (mappings (now records)) ≤ length (now out)) ⌝ }
+    ensures { λ r. ⌜ Turned (mappings (now (records .entry))) base j (now (out .entry)) (now (out .exit)) ⌝ }
 {
-    let mut e = 4 * FIRST;
-    let mut mb = 0;
-    while mb < FIRST {
-        let t = tables::table_of(records, mb);
-        let s = tables::start_after(t, e) as u32;
-        write_zeros(out, e as usize, (s - e) as usize / 4);
-        write_table(records, t, mb, out, s as usize);
-        e = s + tables::table_size(t);
-        mb += 1;
+    let m = records::mapping_at(records, j);
+    let at = m.at;
+    let mb = at.0 / MEGABYTE;
+    if FIRST <= mb {
+        return;
     }
+    let t = places::table_from(records, seen, mb);
+    let s = starts[mb as usize] as usize;
+    match t {
+        Table::Fine => write_fine(out, s, m),
+        Table::Coarse => write_coarse(out, s, m),
+        Table::Absent => put_word(out, 4 * mb as usize, words::section_of(m) as u64),
+    }
+}
+
+// The words of all mappings, from the last to the first, over an image that has none.
+fn write_mappings(records: &[u8], base: u32, seen: &[bool], starts: &[u32], out: &mut [u8])
+    requires { ⌜ Known (mappings (now records)) (now seen) (now starts) × (imageLength megabytes (mappings (now records)) ≤ length (now out)) ⌝ }
+    ensures { λ r. ⌜ Filled (mappings (now (records .entry))) base (now (out .entry)) (now (out .exit)) ⌝ }
+{
+    let mut j = records::count(records);
+    while 0 < j {
+        j -= 1;
+        write_mapping(records, base, seen, starts, out, j);
+    }
+}
+
+// The image of no records.
+fn write_none(base: u32, out: &mut [u8]) -> usize
+    ensures { λ r. ⌜ (r ≡ imageLength megabytes []) × (now (out .exit) ≡ written [] base (now (out .entry))) ⌝ }
+{
+    if out.len() < 64 {
+        return 64;
+    }
+    write_zeros(out, 0, 16);
+    64
 }
 
 // The image of a list, for a memory lent at a base: its length, and the image written where the memory has the room.
 pub fn write(records: &[u8], base: u32, out: &mut [u8]) -> usize
     ensures { λ r. ⌜ (r ≡ imageLength megabytes (mappings (now (records .entry)))) × (now (out .exit) ≡ written (mappings (now (records .entry))) base (now (out .entry))) ⌝ }
 {
-    let len = tables::image_length(records) as usize;
+    if records.len() == 0 {
+        return write_none(base, out);
+    }
+    let mut seen: [bool; 64] = [false; 64];
+    let mut starts: [u32; 16] = [0; 16];
+    places::kinds(records, &mut seen);
+    let len = places::place(records, &seen, &mut starts) as usize;
     if out.len() < len {
         return len;
     }
-    write_first(records, base, out);
-    write_tables(records, out);
+    write_zeros(out, 0, len / 4);
+    write_first(records, base, &seen, &starts, out);
+    write_mappings(records, base, &seen, &starts, out);
     len
 }

@@ -7,12 +7,12 @@ use native.Mathlib.Omega.{arith}
 use native.Mathlib.Decide.{decLe}
 use borrow.Author.Tests.{not-false}
 use lib.ListN.{length}
-use Rattle.page.specs.Pick.{pick, _and_, _or_}
+use Rattle.page.specs.Pick.{pick, _or_}
 use Rattle.page.proofs.Picks.{pick-yes, pick-no, and-left, and-right, or-yes, or-no}
 use Rattle.records.specs.declared.Mapping.{Mapping}
 use Rattle.lists.specs.declared.Checked.{Checked}
 use Rattle.lists.specs.declared.Checked.the-variants.{Fine, BadRecord, Overlap}
-use Rattle.records.specs.Mappings.{recordAt, mappingOf, mappingsFrom, mappings, holds, overlap}
+use Rattle.records.specs.Mappings.{recordAt, mappingOf, mappingsFrom, mappings, overlap}
 use Rattle.records.specs.Checks.{proper, wellFormed}
 use Rattle.lists.specs.Refusals.{bad, clashes, overlapping, checkedFrom, begun, checked}
 use Rattle.records.proofs.Alls.{All}
@@ -60,7 +60,7 @@ module _ (n : ℕ) (rs : List ℕ) where
   clean-fine f = fine-from (begun rs) 0 (λ j h l. f j (omega arith))
 
 -- so each of its mappings is proper
-proper-at : (n : ℕ) (rs : List ℕ) (i : ℕ) → bad n rs i ≡ false → proper n (mappingOf (recordAt rs i)) ≡ true
+pub proper-at : (n : ℕ) (rs : List ℕ) (i : ℕ) → bad n rs i ≡ false → proper n (mappingOf (recordAt rs i)) ≡ true
 unfolding bad wellFormed
 proper-at n rs i e = and-left _ _ (and-right _ _ (and-right _ _ (not-false _ (neither _ _ e .1))))
 
@@ -81,7 +81,7 @@ abbrev pub Disjoint : List Mapping → Type 0
 Disjoint [] = Unit
 Disjoint (m ∷ ms) = All (λ x. overlap m x ≡ false) ms × Disjoint ms
 
-clash-at : (rs : List ℕ) (m : Mapping) (n i j : ℕ) → clashes (mappingsFrom rs i n) m ≡ false → i ≤ j → j < i + n → overlap (mappingOf (recordAt rs j)) m ≡ false
+pub clash-at : (rs : List ℕ) (m : Mapping) (n i j : ℕ) → clashes (mappingsFrom rs i n) m ≡ false → i ≤ j → j < i + n → overlap (mappingOf (recordAt rs j)) m ≡ false
 unfolding clashes mappingsFrom
 clash-at rs m zero i j e h l = absurd (omega arith)
 clash-at rs m (suc n) i j e h l =

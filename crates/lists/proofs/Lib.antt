@@ -1,3 +1,6 @@
 pub mod Refusals
 pub mod Accepted
 pub mod Holders
+pub mod Runs
+pub mod Regions
+pub mod Taken

@@ -1,4 +1,6 @@
 // Lists of records: which of them are refused, which record holds an address, and what a list means there.
+mod bitmap;
+
 use page::Access;
 use page::PhysicalAddress;
 use page::VirtualAddress;
@@ -6,9 +8,9 @@ use records::Mapping;
 ghost use mathlib.Core.Path.{_≡_};
 ghost use Prim.Native.Nat.{_+_, _*_, _≤_};
 ghost use lib.ListN.{length};
-ghost use Rattle.records.specs.Mappings.{recordSize, mappingsFrom, mappings};
+ghost use Rattle.records.specs.Mappings.{recordSize, mappings};
 ghost use Rattle.page.specs.Words.{megabytes};
-ghost use Rattle.lists.specs.Refusals.{bad, clashes, overlapping, checked};
+ghost use Rattle.lists.specs.Refusals.{bad, checked};
 ghost use Rattle.lists.specs.Meanings.{holder, heldMeaning, meaning};
 
 // The most records of a list.
@@ -49,43 +51,26 @@ fn is_bad(records: &[u8], i: usize) -> bool
     !records::well_formed(&records[at..at + records::SIZE])
 }
 
-// Whether one of the first n records overlaps a mapping.
-fn clashes_with(records: &[u8], n: usize, m: Mapping) -> bool
-    requires { ⌜ recordSize * n ≤ length (now records) ⌝ }
-    ensures { λ r. ⌜ r ≡ clashes (mappingsFrom (now (records .entry)) 0 n) m ⌝ }
-{
-    let mut j = 0;
-    while j < n {
-        if records::overlaps(records::mapping_at(records, j), m) {
-            return true;
-        }
-        j += 1;
-    }
-    false
-}
-
-// Whether record i overlaps an earlier one.
-fn is_overlapping(records: &[u8], i: usize) -> bool
-    requires { ⌜ recordSize * i + recordSize ≤ length (now records) ⌝ }
-    ensures { λ r. ⌜ r ≡ overlapping (now (records .entry)) i ⌝ }
-{
-    clashes_with(records, i, records::mapping_at(records, i))
-}
-
 // The first refusal of a list.
 pub fn check(records: &[u8]) -> Checked
     ensures { λ r. ⌜ r ≡ checked megabytes (now (records .entry)) ⌝ }
 {
     let len = records.len();
+    if len == 0 {
+        return Checked::Fine;
+    }
+    let mut taken: [u64; 256] = [0; 256];
     let mut i = 0;
     while records::SIZE * i < len {
         let next = i + 1;
         if is_bad(records, i) {
             return Checked::BadRecord(i);
         }
-        if is_overlapping(records, i) {
+        let m = records::mapping_at(records, i);
+        if !bitmap::is_free(&taken, m) {
             return Checked::Overlap(i);
         }
+        bitmap::cover(&mut taken, m);
         i = next;
     }
     Checked::Fine

@@ -7,7 +7,7 @@ ghost use Rattle.page.specs.Words.{megabytes};
 ghost use Prim.Native.Nat.{_+_, _*_, _<_, _≤_};
 ghost use lib.ListN.{length, getD, take, drop};
 ghost use Rattle.memory.specs.Memory.{wordOf};
-ghost use Rattle.records.specs.Mappings.{recordSize, recordAt, mappingOf, mappings, noMapping, holds, byteOf, overlap};
+ghost use Rattle.records.specs.Mappings.{recordSize, recordAt, mappingOf, mappings, noMapping, holds, byteOf};
 ghost use Rattle.records.specs.Checks.{multiple, proper, wellFormed};
 
 // The bytes of a record.
@@ -102,16 +102,6 @@ pub fn byte_of(m: Mapping, va: VirtualAddress) -> PhysicalAddress
     PhysicalAddress(page::join(k, to.0, va.0))
 }
 
-// Whether two regions share an address.
-pub fn overlaps(m: Mapping, n: Mapping) -> bool
-    ensures { λ r. ⌜ r ≡ overlap m n ⌝ }
-{
-    if holds(m, n.at) {
-        return true;
-    }
-    holds(n, m.at)
-}
-
 // Whether an address is a multiple of a page's size.
 pub fn multiple(k: Kind, x: u32) -> bool
     ensures { λ r. ⌜ r ≡ multiple k x ⌝ }
@@ -148,14 +138,12 @@ pub fn well_formed(r: &[u8]) -> bool
     if r.len() < SIZE {
         return false;
     }
-    if r[8] >= 4 {
+    let rest = word_at(r, 8);
+    if rest / 512 != 1 {
         return false;
     }
-    if !proper(mapping_of(r)) {
+    if rest % 256 >= 4 {
         return false;
     }
-    if r[10] != 0 {
-        return false;
-    }
-    r[11] == 0
+    proper(mapping_of(r))
 }

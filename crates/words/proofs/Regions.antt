@@ -6,8 +6,8 @@ use Prim.Native.Nat.{ℕ, _+_, _*_, _-_, _/_, _%_, _^_, _≤_, _<_}
 use native.Mathlib.Omega.{arith}
 use native.Mathlib.Decide.{decLe}
 use native.Mathlib.Nat.{mul-add-div-right, mul-assoc, mul-le-mul-right, mul-lt-mul-of-pos-right, le-of-mul-le-mul-right, add-mul, mod-lt, div-mul-le-self}
-use lib.Pow.{pow-add, pow-pos, shl-shr, shl-exact, split, high}
-use lib.Dec.{eqb, lit≤, lit<}
+use lib.Pow.{pow-add, pow-pos, shl-shr, split, high}
+use lib.Dec.{eqb, lit≤}
 use borrow.Author.Tests.{eq-eqb, ne-eqb, eqb-true, eqb-false}
 use Rattle.page.specs.Low.{upper}
 use Rattle.page.specs.Words.{lowBits}
@@ -175,7 +175,3 @@ module _ (t : Table) (i x : ℕ) (m : Mapping) (fits : Fit (stepBits t) i m) (sh
       by-place false e =
           subst (λ (k : ℕ). k * 2 ^ stepBits t ≤ 2 ^ 20) (let z : wordIn t m ≡ wordIn t m + wordsIn t i m = omega (arith, none e) in z)
           (omega (arith, div-mul-le-self (upper n r) (2 ^ stepBits t), upper-le n r, low))
-
--- the code's power of two
-pub one-shifted : (k n : ℕ) → k ≡ n → n ≤ 20 → (1 * 2 ^ k) % 2 ^ 32 ≡ 2 ^ n
-one-shifted k n e h = ap (λ (j : ℕ). (1 * 2 ^ j) % 2 ^ 32) e ∙ shl-exact {a = 1} 1 n 32 (lit< tt) (omega arith) ∙ (let z : 1 * 2 ^ n ≡ 2 ^ n = omega arith in z)

@@ -1,0 +1,122 @@
+-- The words of a mapping, as runs that rise by a step. Assumes nothing.
+use mathlib.Core.Path.{_≡_, refl, sym, ap, _∙_, subst}
+use mathlib.Core.List.{List}
+use Prim.Native.Nat.{ℕ, _+_, _*_, _/_, _%_, _^_, _≤_, _<_}
+use native.Mathlib.Omega.{arith}
+use borrow.Author.Tests.{eq-eqb}
+use lib.Pow.{low}
+use lib.ListN.{length}
+use Rattle.page.specs.Low.{upper, joined}
+use Rattle.page.specs.Words.{lowBits, typeOf}
+use Rattle.page.specs.declared.Kind.{Kind}
+use Rattle.page.specs.declared.Kind.the-variants.{Section, Large, Small, Tiny}
+use Rattle.page.proofs.Picks.{pick-yes}
+use Rattle.records.specs.declared.Mapping.{Mapping}
+use Rattle.records.specs.Mappings.{byteOf}
+use Rattle.tables.specs.declared.Table.{Table}
+use Rattle.tables.specs.declared.Table.the-variants.{Fine, Coarse}
+use Rattle.words.specs.Words.{writtenAs, pageWord, stepBits, addressOf, wordIn, wordsIn}
+use Rattle.image.specs.Image.{spliced}
+use Rattle.image.proofs.Splices.{spliced-same}
+
+cut : (n hi lo x : ℕ) → x ≡ hi * 2 ^ n + lo → lo < 2 ^ n → x % 2 ^ n ≡ lo
+cut n hi lo x e h = ap (λ (y : ℕ). y % 2 ^ n) e ∙ low hi n h
+
+-- the part of a page that a word stands for, in a fine table and in a coarse one
+fine-part : (k : Kind) (to a y : ℕ) → y < 2 ^ lowBits k / 2 ^ 10 → upper (lowBits k) to + 1024 * y ≡ upper 10 (joined (lowBits k) to (a / 2 ^ 20 * 2 ^ 20 + (upper (lowBits k) (a % 2 ^ 20) / 2 ^ 10 + y) * 2 ^ 10))
+unfolding upper joined
+fine-part Section to a y h =
+    let z : a % 2 ^ 20 / 2 ^ 20 * 2 ^ 20 / 2 ^ 10 ≡ a % 2 ^ 20 / 2 ^ 20 * 1024 = omega arith in
+    let e : (a / 2 ^ 20 * 2 ^ 20 + (a % 2 ^ 20 / 2 ^ 20 * 2 ^ 20 / 2 ^ 10 + y) * 2 ^ 10) % 2 ^ 20 ≡ 1024 * y = cut 20 (a / 2 ^ 20 + a % 2 ^ 20 / 2 ^ 20) (1024 * y) (a / 2 ^ 20 * 2 ^ 20 + (a % 2 ^ 20 / 2 ^ 20 * 2 ^ 20 / 2 ^ 10 + y) * 2 ^ 10) (omega arith) (omega arith) in
+    omega (arith, e)
+fine-part Large to a y h =
+    let z : a % 2 ^ 20 / 2 ^ 16 * 2 ^ 16 / 2 ^ 10 ≡ a % 2 ^ 20 / 2 ^ 16 * 64 = omega arith in
+    let e : (a / 2 ^ 20 * 2 ^ 20 + (a % 2 ^ 20 / 2 ^ 16 * 2 ^ 16 / 2 ^ 10 + y) * 2 ^ 10) % 2 ^ 16 ≡ 1024 * y = cut 16 (a / 2 ^ 20 * 16 + a % 2 ^ 20 / 2 ^ 16) (1024 * y) (a / 2 ^ 20 * 2 ^ 20 + (a % 2 ^ 20 / 2 ^ 16 * 2 ^ 16 / 2 ^ 10 + y) * 2 ^ 10) (omega arith) (omega arith) in
+    omega (arith, e)
+fine-part Small to a y h =
+    let z : a % 2 ^ 20 / 2 ^ 12 * 2 ^ 12 / 2 ^ 10 ≡ a % 2 ^ 20 / 2 ^ 12 * 4 = omega arith in
+    let e : (a / 2 ^ 20 * 2 ^ 20 + (a % 2 ^ 20 / 2 ^ 12 * 2 ^ 12 / 2 ^ 10 + y) * 2 ^ 10) % 2 ^ 12 ≡ 1024 * y = cut 12 (a / 2 ^ 20 * 256 + a % 2 ^ 20 / 2 ^ 12) (1024 * y) (a / 2 ^ 20 * 2 ^ 20 + (a % 2 ^ 20 / 2 ^ 12 * 2 ^ 12 / 2 ^ 10 + y) * 2 ^ 10) (omega arith) (omega arith) in
+    omega (arith, e)
+fine-part Tiny to a y h =
+    let z : a % 2 ^ 20 / 2 ^ 10 * 2 ^ 10 / 2 ^ 10 ≡ a % 2 ^ 20 / 2 ^ 10 * 1 = omega arith in
+    let e : (a / 2 ^ 20 * 2 ^ 20 + (a % 2 ^ 20 / 2 ^ 10 * 2 ^ 10 / 2 ^ 10 + y) * 2 ^ 10) % 2 ^ 10 ≡ 1024 * y = cut 10 (a / 2 ^ 20 * 1024 + a % 2 ^ 20 / 2 ^ 10) (1024 * y) (a / 2 ^ 20 * 2 ^ 20 + (a % 2 ^ 20 / 2 ^ 10 * 2 ^ 10 / 2 ^ 10 + y) * 2 ^ 10) (omega arith) (omega arith) in
+    omega (arith, e)
+
+-- by how much a page's words rise in a coarse table
+abbrev pub coarseRise : Kind → ℕ
+coarseRise Section = 4096
+coarseRise Large = 0
+coarseRise Small = 0
+coarseRise Tiny = 0
+
+coarse-part : (k : Kind) (to a y : ℕ) → y < 2 ^ lowBits k / 2 ^ 12
+    → upper (lowBits k) to + coarseRise k * y ≡ upper (lowBits (writtenAs Coarse k)) (joined (lowBits k) to (a / 2 ^ 20 * 2 ^ 20 + (upper (lowBits k) (a % 2 ^ 20) / 2 ^ 12 + y) * 2 ^ 12))
+unfolding upper joined
+coarse-part Section to a y h =
+    let z : a % 2 ^ 20 / 2 ^ 20 * 2 ^ 20 / 2 ^ 12 ≡ a % 2 ^ 20 / 2 ^ 20 * 256 = omega arith in
+    let e : (a / 2 ^ 20 * 2 ^ 20 + (a % 2 ^ 20 / 2 ^ 20 * 2 ^ 20 / 2 ^ 12 + y) * 2 ^ 12) % 2 ^ 20 ≡ 4096 * y = cut 20 (a / 2 ^ 20 + a % 2 ^ 20 / 2 ^ 20) (4096 * y) (a / 2 ^ 20 * 2 ^ 20 + (a % 2 ^ 20 / 2 ^ 20 * 2 ^ 20 / 2 ^ 12 + y) * 2 ^ 12) (omega arith) (omega arith) in
+    omega (arith, e)
+coarse-part Large to a y h =
+    let z : a % 2 ^ 20 / 2 ^ 16 * 2 ^ 16 / 2 ^ 12 ≡ a % 2 ^ 20 / 2 ^ 16 * 16 = omega arith in
+    let e : (a / 2 ^ 20 * 2 ^ 20 + (a % 2 ^ 20 / 2 ^ 16 * 2 ^ 16 / 2 ^ 12 + y) * 2 ^ 12) % 2 ^ 16 ≡ 4096 * y = cut 16 (a / 2 ^ 20 * 16 + a % 2 ^ 20 / 2 ^ 16) (4096 * y) (a / 2 ^ 20 * 2 ^ 20 + (a % 2 ^ 20 / 2 ^ 16 * 2 ^ 16 / 2 ^ 12 + y) * 2 ^ 12) (omega arith) (omega arith) in
+    omega (arith, e)
+coarse-part Small to a y h =
+    let z : a % 2 ^ 20 / 2 ^ 12 * 2 ^ 12 / 2 ^ 12 ≡ a % 2 ^ 20 / 2 ^ 12 * 1 = omega arith in
+    let e : (a / 2 ^ 20 * 2 ^ 20 + (a % 2 ^ 20 / 2 ^ 12 * 2 ^ 12 / 2 ^ 12 + y) * 2 ^ 12) % 2 ^ 12 ≡ 4096 * y = cut 12 (a / 2 ^ 20 * 256 + a % 2 ^ 20 / 2 ^ 12) (4096 * y) (a / 2 ^ 20 * 2 ^ 20 + (a % 2 ^ 20 / 2 ^ 12 * 2 ^ 12 / 2 ^ 12 + y) * 2 ^ 12) (omega arith) (omega arith) in
+    omega (arith, e)
+coarse-part Tiny to a y h = absurd (omega arith)
+
+-- how many words a mapping has in its own megabyte
+own-words : (t : Table) (m : Mapping) → wordsIn t (m .at .0 / 2 ^ 20) m ≡ 2 ^ lowBits (m .kind) / 2 ^ stepBits t
+unfolding wordsIn
+own-words t m = pick-yes _ _ _ (eq-eqb (m .at .0 / 2 ^ 20) (m .at .0 / 2 ^ 20) refl)
+
+module _ (m : Mapping) (k : Kind) (kind : m .kind ≡ k) (l : List ℕ) (at w n : ℕ) where
+  abbrev mb : ℕ
+  mb = m .at .0 / 2 ^ 20
+
+  pub fine-words : w ≡ upper (lowBits (m .kind)) (m .to .0) + 16 * (m .access % 4) + 3 → n ≡ 2 ^ lowBits k / 2 ^ 10 → at + 4 * n ≤ length l
+      → spliced l at (λ (y : ℕ). w + 1024 * y) n ≡ spliced l at (λ (y : ℕ). pageWord (writtenAs Fine (m .kind)) m (addressOf Fine mb (wordIn Fine m + y))) (wordsIn Fine mb m)
+  unfolding pageWord byteOf
+  fine-words e c fits =
+      let d : n ≡ 2 ^ lowBits (m .kind) / 2 ^ 10 = c ∙ ap (λ (x : Kind). 2 ^ lowBits x / 2 ^ 10) (sym kind) in
+      spliced-same l at n _ (λ (y : ℕ). pageWord (writtenAs Fine (m .kind)) m (addressOf Fine mb (wordIn Fine m + y))) fits
+      (λ y h. let p = fine-part (m .kind) (m .to .0) (m .at .0) y (subst (λ (x : ℕ). y < x) d h) in omega (arith, e))
+      ∙ ap (spliced l at (λ (y : ℕ). pageWord (writtenAs Fine (m .kind)) m (addressOf Fine mb (wordIn Fine m + y)))) (d ∙ sym (own-words Fine m))
+
+  pub coarse-words : w ≡ upper (lowBits (m .kind)) (m .to .0) + 16 * (m .access % 4) + typeOf (writtenAs Coarse k) → n ≡ 2 ^ lowBits k / 2 ^ 12 → at + 4 * n ≤ length l
+      → spliced l at (λ (y : ℕ). w + coarseRise k * y) n ≡ spliced l at (λ (y : ℕ). pageWord (writtenAs Coarse (m .kind)) m (addressOf Coarse mb (wordIn Coarse m + y))) (wordsIn Coarse mb m)
+  unfolding pageWord byteOf
+  coarse-words e c fits =
+      let d : n ≡ 2 ^ lowBits (m .kind) / 2 ^ 12 = c ∙ ap (λ (x : Kind). 2 ^ lowBits x / 2 ^ 12) (sym kind) in
+      let f : w ≡ upper (lowBits (m .kind)) (m .to .0) + 16 * (m .access % 4) + typeOf (writtenAs Coarse (m .kind)) = e ∙ ap (λ (x : Kind). upper (lowBits (m .kind)) (m .to .0) + 16 * (m .access % 4) + typeOf (writtenAs Coarse x)) (sym kind) in
+      spliced-same l at n _ (λ (y : ℕ). pageWord (writtenAs Coarse (m .kind)) m (addressOf Coarse mb (wordIn Coarse m + y))) fits
+      (λ y h.
+      let r : coarseRise k * y ≡ coarseRise (m .kind) * y = ap (λ (x : Kind). coarseRise x * y) (sym kind) in
+      let p = coarse-part (m .kind) (m .to .0) (m .at .0) y (subst (λ (x : ℕ). y < x) d h) in
+      omega (arith, f))
+      ∙ ap (spliced l at (λ (y : ℕ). pageWord (writtenAs Coarse (m .kind)) m (addressOf Coarse mb (wordIn Coarse m + y)))) (d ∙ sym (own-words Coarse m))
+
+  -- its words in its own megabyte, by its kind
+  pub own-count : (t : Table) → wordsIn t mb m ≡ 2 ^ lowBits k / 2 ^ stepBits t
+  own-count t = own-words t m ∙ ap (λ (x : Kind). 2 ^ lowBits x / 2 ^ stepBits t) kind
+
+-- as the code has it
+module _ (m : Mapping) (k : Kind) (kind : m .kind ≡ k) (l after : List ℕ) (at f p n : ℕ) where
+  pub fine-turn : f ≡ wordIn Fine m → p ≡ upper (lowBits (m .kind)) (m .to .0) → n ≡ 2 ^ lowBits k / 2 ^ 10
+      → at + 4 * (wordIn Fine m + wordsIn Fine (m .at .0 / 2 ^ 20) m) ≤ length l → after ≡ spliced l (at + 4 * f) (λ (y : ℕ). p + 16 * (m .access % 4) + 3 + 1024 * y) n
+      → after ≡ spliced l (at + 4 * wordIn Fine m) (λ (y : ℕ). pageWord (writtenAs Fine (m .kind)) m (addressOf Fine (m .at .0 / 2 ^ 20) (wordIn Fine m + y))) (wordsIn Fine (m .at .0 / 2 ^ 20) m)
+  fine-turn hf hp c room e =
+      e
+      ∙ ap (λ (x : ℕ). spliced l (at + 4 * x) (λ (y : ℕ). p + 16 * (m .access % 4) + 3 + 1024 * y) n) hf
+      ∙ fine-words m k kind l (at + 4 * wordIn Fine m) (p + 16 * (m .access % 4) + 3) n (ap (λ (x : ℕ). x + 16 * (m .access % 4) + 3) hp) c
+      (omega (arith, own-count m k kind l at f n Fine))
+
+  pub coarse-turn : f ≡ wordIn Coarse m → p ≡ upper (lowBits (m .kind)) (m .to .0) → n ≡ 2 ^ lowBits k / 2 ^ 12
+      → at + 4 * (wordIn Coarse m + wordsIn Coarse (m .at .0 / 2 ^ 20) m) ≤ length l → after ≡ spliced l (at + 4 * f) (λ (y : ℕ). p + 16 * (m .access % 4) + typeOf (writtenAs Coarse k) + coarseRise k * y) n
+      → after ≡ spliced l (at + 4 * wordIn Coarse m) (λ (y : ℕ). pageWord (writtenAs Coarse (m .kind)) m (addressOf Coarse (m .at .0 / 2 ^ 20) (wordIn Coarse m + y))) (wordsIn Coarse (m .at .0 / 2 ^ 20) m)
+  coarse-turn hf hp c room e =
+      e
+      ∙ ap (λ (x : ℕ). spliced l (at + 4 * x) (λ (y : ℕ). p + 16 * (m .access % 4) + typeOf (writtenAs Coarse k) + coarseRise k * y) n) hf
+      ∙ coarse-words m k kind l (at + 4 * wordIn Coarse m) (p + 16 * (m .access % 4) + typeOf (writtenAs Coarse k)) n (ap (λ (x : ℕ). x + 16 * (m .access % 4) + typeOf (writtenAs Coarse k)) hp) c
+      (omega (arith, own-count m k kind l at f n Coarse))

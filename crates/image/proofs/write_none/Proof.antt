@@ -1,0 +1,21 @@
+use mathlib.Core.Path.{sym}
+use denote.Ref.{now}
+use Rattle.image.proofs.Nothing.{none-length, none-short, none-written}
+use borrow.Author.Needs.{needs}
+use Rattle.image.proofs.write_none.Statement.{statement}
+use Rattle.image.proofs.write_none.Tie as tie
+
+returns : tie.Need-returns
+returns c = (sym none-length, none-short (c .before .before .args .base) (c .before .before .args .out .now) (c .if1 .taken))
+
+write-zeros-requires : tie.Need-write-zeros-requires
+write-zeros-requires c κs = search needs
+
+same-length : tie.Need-same-length
+same-length c = search needs
+
+returns-2 : tie.Need-returns-2
+returns-2 c = (sym none-length, none-written (c .before .before .before .before .before .before .args .base) (c .before .before .before .before .before .before .args .out .now) _ (c .before .before .before .before .if1 .left) (c .before .before .write-zeros .ensures))
+
+pub write-none-spec : {M : Type 1} → statement M
+write-none-spec = tie.close (tie.spec returns write-zeros-requires same-length returns-2)

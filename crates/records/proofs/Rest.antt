@@ -1,0 +1,78 @@
+-- A record's last four bytes as one word: type, access, and two zeros. Assumes nothing.
+use mathlib.Core.Path.{_≡_, refl, sym, _∙_}
+use mathlib.Core.Bool.{Bool, true, false, true≢false}
+use mathlib.Core.List.{List}
+use Prim.Native.Nat.{ℕ, _+_, _*_, _/_, _%_, _≤_, _<_}
+use native.Mathlib.Omega.{arith}
+use borrow.Author.Tests.{le-leb, lt-ltb, eq-eqb, ltb-true, eqb-true}
+use lib.Dec.{eqb, ltb, leb}
+use lib.ListN.{length, getD, take, drop, length-take, length-drop}
+use lib.Seq.{getD-take, getD-drop}
+use Rattle.page.specs.Pick.{_and_, _or_}
+use Rattle.page.specs.Words.{megabytes}
+use Rattle.page.proofs.Picks.{pick-yes, and-yes, and-no, and-left, and-right, or-no}
+use Rattle.memory.specs.Memory.{littleEndian, wordOf}
+use Rattle.records.specs.Mappings.{mappingOf}
+use Rattle.records.specs.Checks.{proper, wellFormed}
+
+pub by-false : (b : Bool) → (b ≡ true → ⊥) → b ≡ false
+by-false true f = absurd (f refl)
+by-false false f = refl
+
+either : (a b : Bool) → (a or b) ≡ true → (a ≡ false → b ≡ true)
+either true b e f = absurd (true≢false f)
+either false b e f = sym (or-no false b refl) ∙ e
+
+and-true : (a b : Bool) → b ≡ true → (a and b) ≡ a
+and-true true b e = and-yes true b refl ∙ e
+and-true false b e = and-no false b refl
+
+module _ (r : List ℕ) (room : 12 ≤ length r) (bytes : (i : ℕ) → getD r i 0 < 256) where
+  byte : (i : ℕ) → i < 4 → getD (take 4 (drop 8 r)) i 0 ≡ getD r (8 + i) 0
+  byte i h = getD-take 4 (drop 8 r) i 0 h ∙ getD-drop 8 r i 0
+
+  pub rest-is : wordOf (take 4 (drop 8 r)) ≡ getD r 8 0 + 256 * getD r 9 0 + 65536 * getD r 10 0 + 16777216 * getD r 11 0
+  unfolding wordOf
+  rest-is =
+      pick-yes _ _ _ (le-leb 4 (length (take 4 (drop 8 r))) (omega (arith, length-take 4 (drop 8 r), length-drop 8 r)))
+      ∙ (let a = byte 0 (omega arith) in let b = byte 1 (omega arith) in let c = byte 2 (omega arith) in let d = byte 3 (omega arith) in
+      let z : littleEndian (getD (take 4 (drop 8 r)) 0 0) (getD (take 4 (drop 8 r)) 1 0) (getD (take 4 (drop 8 r)) 2 0) (getD (take 4 (drop 8 r)) 3 0) ≡ getD r 8 0 + 256 * getD r 9 0 + 65536 * getD r 10 0 + 16777216 * getD r 11 0 = omega arith in z)
+
+  -- what a well-formed record's bytes are
+  parts : wellFormed megabytes r ≡ true → (getD r 8 0 < 4) × ((getD r 9 0 ≡ 2 → ⊥) → getD r 9 0 ≡ 3) × (getD r 10 0 ≡ 0) × (getD r 11 0 ≡ 0)
+  unfolding wellFormed proper mappingOf
+  parts e =
+      let a = and-right (leb 12 (length r)) _ e in
+      let b = and-right (ltb (getD r 8 0) 4) _ a in
+      let c = and-right (proper megabytes (mappingOf r)) _ b in
+      let p = and-left (proper megabytes (mappingOf r)) _ b in
+      let q = and-right _ _ (and-right _ _ (and-right _ _ p)) in (
+        ltb-true _ _ (and-left (ltb (getD r 8 0) 4) _ a),
+        (λ n. eqb-true _ _ (either (eqb (getD r 9 0) 2) (eqb (getD r 9 0) 3) q (by-false _ (λ t. n (eqb-true _ _ t))))),
+        eqb-true _ _ (and-left (eqb (getD r 10 0) 0) _ c),
+        eqb-true _ _ (and-right (eqb (getD r 10 0) 0) _ c),
+      )
+
+  module _ (w : ℕ) (e : w ≡ wordOf (take 4 (drop 8 r))) where
+    pub rest-wrong : (w / 512 ≡ 1 → ⊥) → false ≡ wellFormed megabytes r
+    rest-wrong f =
+        sym (by-false _ (λ t.
+        let p = parts t in
+        let s = e ∙ rest-is in
+        let three : getD r 9 0 ≡ 3 = p .1 (λ two. f (omega (arith, p .0, p .2, p .3))) in
+        f (omega (arith, p .0, p .2, p .3))))
+
+    pub type-wrong : 4 ≤ w % 256 → false ≡ wellFormed megabytes r
+    type-wrong f = sym (by-false _ (λ t. let p = parts t in let s = e ∙ rest-is in omega (arith, p .0, bytes 8)))
+
+    pub rest-right : w / 512 ≡ 1 → w % 256 < 4 → proper megabytes (mappingOf r) ≡ wellFormed megabytes r
+    unfolding wellFormed
+    rest-right f g =
+        let s = e ∙ rest-is in
+        let z10 : getD r 10 0 ≡ 0 = omega (arith, bytes 8, bytes 9, bytes 10, bytes 11) in
+        let z11 : getD r 11 0 ≡ 0 = omega (arith, bytes 8, bytes 9, bytes 10, bytes 11) in
+        let z8 : getD r 8 0 < 4 = omega (arith, bytes 8) in
+        sym
+        (and-yes _ _ (le-leb 12 (length r) room)
+        ∙ and-yes _ _ (lt-ltb _ _ z8)
+        ∙ and-true (proper megabytes (mappingOf r)) _ (and-yes _ _ (eq-eqb _ _ z10) ∙ eq-eqb _ _ z11))
