@@ -1,5 +1,5 @@
 //! Speed of the proved implementation against the second program, through the
-//! byte boundary, in one process: nx_run on two sessions and nx_build on three
+//! byte boundary, in one process: nx_run on two sessions and nx_build on eight
 //! lists. Rounds of the two are interleaved; the table has medians with their
 //! quartiles, and the median of the rounds' own ratios. Before that the two are
 //! seen to write the same bytes.
@@ -97,6 +97,36 @@ struct Bench {
     work: Work,
 }
 
+/// The lists that are built, with how many builds make a round.
+fn lists() -> Vec<(String, usize, Vec<u8>)> {
+    // Small pages, 32 to a megabyte, with tiny ones in every other megabyte.
+    let mixed = |n: u32| {
+        let megabyte = n / 32;
+        let kind = if n % 8 == 7 && megabyte % 2 == 1 { 3 } else { 2 };
+        record(megabyte << 20 | n << 12, n << 12, kind)
+    };
+    // Pages of one kind and size, so many to a megabyte.
+    let alike = |kind: u8, bits: u32, each: u32| {
+        move |n: u32| record((n / each) << 20 | (n % each) << bits, n << bits, kind)
+    };
+    // A tiny page, then fifteen large ones, in each megabyte.
+    let fine = |n: u32| {
+        let kind = if n % 16 == 0 { 3 } else { 1 };
+        record((n / 16) << 20 | (n % 16) << 16, n << 16, kind)
+    };
+    let of = |count: u32, one: &dyn Fn(u32) -> [u8; 12]| (0..count).flat_map(one).collect();
+    vec![
+        ("0 records".into(), 2_000, Vec::new()),
+        ("16 records".into(), 400, of(16, &mixed)),
+        ("256 records".into(), 100, of(256, &mixed)),
+        ("16 sections".into(), 400, of(16, &alike(0, 20, 1))),
+        ("256 large".into(), 100, of(256, &alike(1, 16, 16))),
+        ("256 small".into(), 100, of(256, &alike(2, 12, 32))),
+        ("256 tiny".into(), 100, of(256, &alike(3, 10, 32))),
+        ("225 large in fine tables".into(), 40, of(240, &fine)),
+    ]
+}
+
 fn benches() -> Vec<Bench> {
     let mut benches = Vec::new();
 
@@ -126,17 +156,9 @@ fn benches() -> Vec<Bench> {
         benches.push(Bench { name: name.into(), unit: "call", units, work });
     }
 
-    // Small pages, 32 to a megabyte, with tiny ones in every other megabyte.
-    for (count, builds) in [(0, 2_000), (16, 400), (256, 100)] {
-        let list: Vec<u8> = (0..count)
-            .flat_map(|n| {
-                let megabyte = n / 32;
-                let kind = if n % 8 == 7 && megabyte % 2 == 1 { 3 } else { 2 };
-                record(megabyte << 20 | n << 12, n << 12, kind)
-            })
-            .collect();
+    for (name, builds, list) in lists() {
         benches.push(Bench {
-            name: format!("build: {count} records"),
+            name: format!("build: {name}"),
             unit: "build",
             units: builds,
             work: Work::Build { list, builds, memory: vec![0xA5; 65_536] },
