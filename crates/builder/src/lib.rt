@@ -30,12 +30,13 @@ pub fn build(records: &[u8], base: u32, memory: &mut [u8]) -> Built
     if !room_ok(base, room) {
         return Built::BadMemory;
     }
-    let found = lists::check(records);
+    let mut seen: [bool; 64] = [false; 64];
+    let found = lists::check(records, &mut seen);
     match found {
         Checked::BadRecord(i) => Built::BadRecord(i),
         Checked::Overlap(i) => Built::Overlap(i),
         Checked::Fine => {
-            let len = image::write(records, base, memory);
+            let len = image::write(records, &seen, base, memory);
             if room < len {
                 return Built::TooLong(records::count(records));
             }

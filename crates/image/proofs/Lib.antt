@@ -3,3 +3,4 @@ pub mod Whole
 pub mod Parts
 pub mod Runs
 pub mod Nothing
+pub mod Levels

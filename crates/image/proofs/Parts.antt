@@ -8,7 +8,7 @@ use native.Mathlib.Decide.{decLe, ℕ-discrete}
 use borrow.Author.Tests.{eq-eqb, ne-eqb, lt-ltb, le-ltb, le-leb, lt-leb, ltb-true, leb-true}
 use lib.Dec.{eqb}
 use native.Mathlib.Numerals.{add-one}
-use lib.ListN.{length, getD, drop, replicate, drop-of-length-le}
+use lib.ListN.{length, getD, drop, drop-of-length-le}
 use lib.Seq.{drop-cons}
 use Rattle.page.specs.Pick.{pick}
 use Rattle.page.specs.Words.{virtual, lowBits, megabytes}
@@ -19,12 +19,12 @@ use Rattle.records.specs.Mappings.{holds, noMapping}
 use Rattle.records.proofs.Bits.{agree-up}
 use Rattle.records.proofs.Alls.{all-at}
 use Rattle.lists.specs.declared.Held.{Held}
-use Rattle.lists.specs.declared.Held.the-variants.{By, Nobody}
+use Rattle.lists.specs.declared.Held.the-variants.{By}
 use Rattle.lists.specs.Meanings.{holder}
 use Rattle.tables.specs.declared.Table.{Table}
 use Rattle.tables.specs.declared.Table.the-variants.{Fine, Coarse, Absent}
 use Rattle.tables.specs.Tables.{tableOf, tableSize, tableEnd, tableStart, imageLength}
-use Rattle.tables.proofs.Places.{end-start, end-next, end-le, end-first, end-last, end-4, start-4, image-4, image-first}
+use Rattle.tables.proofs.Places.{end-start, end-next, end-le, end-first, end-4, start-4, image-4, image-first}
 use Rattle.words.specs.Words.{sectionWord, firstBy, firstWord, writtenAs, pageWord, stepBits, addressOf, secondWord, wordIn, wordsIn, inTables, imageWord}
 use Rattle.words.proofs.Fits.{Fit, fit}
 use Rattle.words.proofs.Regions.{second-in, second-out, held-end}
@@ -32,6 +32,8 @@ use Rattle.image.specs.Image.{image, spliced}
 use Rattle.image.specs.Parts.{partTables, partWord, Turned}
 use Rattle.image.proofs.Splices.{spliced-twice, spliced-same}
 use Rattle.image.proofs.Whole.{front}
+use Rattle.image.proofs.Levels.{based-by}
+use Rattle.image.specs.Places.{Firsts, based}
 
 -- a choice, of two values that are equal where they are chosen
 pick-same : (b : Bool) (x y u v : ℕ) → (b ≡ true → x ≡ u) → y ≡ v → pick b x y ≡ pick b u v
@@ -246,21 +248,19 @@ module _ (n : ℕ) (all ms : List Mapping) (m : Mapping) (base : ℕ) (fits : (i
         (λ j c d. (d, part-beside n all ms m base fits mb mb-lt here some j (λ x y. omega arith)))
 
 -- as the code has it: mapping j of the list, what it found of it, and the memory before
-module _ (ms : List Mapping) (base j : ℕ) (m : Mapping) (q : m ≡ getD ms j noMapping) (j-lt : j < length ms) (o : List ℕ) (room : imageLength megabytes ms ≤ length o) where
+module _ (ms : List Mapping) (j : ℕ) (m : Mapping) (q : m ≡ getD ms j noMapping) (j-lt : j < length ms) (o : List ℕ) (room : imageLength megabytes ms ≤ length o) where
   fits-all : (i : ℕ) → Fit (stepBits (tableOf ms i)) i m
   fits-all i = subst (Fit (stepBits (tableOf ms i)) i) (sym q) (all-at (Fit (stepBits (tableOf ms i)) i) ms j (fit ms i) j-lt)
 
   next : m ∷ drop (j + 1) ms ≡ drop j ms
   next = sym (drop-cons ms j noMapping j-lt ∙ ap₂ (λ (x : Mapping) (i : ℕ). x ∷ drop i ms) (sym q) (sym (add-one j)))
 
-  abbrev Done : List ℕ → List ℕ → Type 0
-  Done l after = after ≡ spliced l 0 (partWord megabytes ms (drop j ms) base) (imageLength megabytes ms / 4)
+  done : (base : ℕ) (l after : List ℕ) → after ≡ spliced l 0 (partWord megabytes ms (m ∷ drop (j + 1) ms) base) (imageLength megabytes ms / 4)
+      → after ≡ spliced l 0 (partWord megabytes ms (drop j ms) base) (imageLength megabytes ms / 4)
+  done base l after e = e ∙ ap (λ (d : List Mapping). spliced l 0 (partWord megabytes ms d base) (imageLength megabytes ms / 4)) next
 
-  done : (l after : List ℕ) → after ≡ spliced l 0 (partWord megabytes ms (m ∷ drop (j + 1) ms) base) (imageLength megabytes ms / 4) → Done l after
-  done l after e = e ∙ ap (λ (d : List Mapping). spliced l 0 (partWord megabytes ms d base) (imageLength megabytes ms / 4)) next
-
-  pub mapping-past : megabytes ≤ m .at .0 / 2 ^ 20 → Turned ms base j o o
-  mapping-past h l len e = done l o (e ∙ turned-past megabytes ms (drop (j + 1) ms) m base fits-all l (omega arith) h)
+  pub mapping-past : megabytes ≤ m .at .0 / 2 ^ 20 → Turned ms j o o
+  mapping-past h base l len e = done base l o (e ∙ turned-past megabytes ms (drop (j + 1) ms) m base fits-all l (omega arith) h)
 
   module _ (mb : ℕ) (mb-lt : mb < megabytes) (here : m .at .0 / 2 ^ 20 ≡ mb) (t : Table) (table : t ≡ tableOf ms mb) where
     no-table : (u : Table) → tableSize u ≡ 0 → u ≡ Absent
@@ -268,38 +268,27 @@ module _ (ms : List Mapping) (base j : ℕ) (m : Mapping) (q : m ≡ getD ms j n
     no-table Coarse e = absurd (omega arith)
     no-table Absent e = refl
 
-    pub mapping-section : (w : ℕ) (after : List ℕ) → w ≡ sectionWord (By m) → tableSize t ≡ 0 → after ≡ spliced o (4 * mb) (λ (_ : ℕ). w) 1 → Turned ms base j o after
-    mapping-section w after e z f l len g =
-        done l after
+    pub mapping-section : (w : ℕ) (after : List ℕ) → w ≡ sectionWord (By m) → tableSize t ≡ 0 → after ≡ spliced o (4 * mb) (λ (_ : ℕ). w) 1 → Turned ms j o after
+    mapping-section w after e z f base l len g =
+        done base l after
         (f
         ∙ ap (λ (d : List ℕ). spliced d (4 * mb) (λ (_ : ℕ). w) 1) g
         ∙ turned-section megabytes ms (drop (j + 1) ms) m base fits-all l (omega arith) mb mb-lt here w e (sym table ∙ no-table t z))
 
     pub mapping-page : (s : ℕ) (after : List ℕ) → s ≡ tableStart megabytes ms mb → (tableSize t ≡ 0 → ⊥)
-        → after ≡ spliced o (s + 4 * wordIn t m) (λ (y : ℕ). pageWord (writtenAs t (m .kind)) m (addressOf t mb (wordIn t m + y))) (wordsIn t mb m) → Turned ms base j o after
-    mapping-page s after b some f l len g =
-        done l after
+        → after ≡ spliced o (s + 4 * wordIn t m) (λ (y : ℕ). pageWord (writtenAs t (m .kind)) m (addressOf t mb (wordIn t m + y))) (wordsIn t mb m) → Turned ms j o after
+    mapping-page s after b some f base l len g =
+        done base l after
         (f
         ∙ ap₂ (λ (d : List ℕ) (a : ℕ). spliced d (a + 4 * wordIn t m) (λ (y : ℕ). pageWord (writtenAs t (m .kind)) m (addressOf t mb (wordIn t m + y))) (wordsIn t mb m)) g b
         ∙ ap (λ (u : Table). spliced (spliced l 0 (partWord megabytes ms (drop (j + 1) ms) base) (imageLength megabytes ms / 4)) (tableStart megabytes ms mb + 4 * wordIn u m) (λ (y : ℕ). pageWord (writtenAs u (m .kind)) m (addressOf u mb (wordIn u m + y))) (wordsIn u mb m)) table
         ∙ turned-page megabytes ms (drop (j + 1) ms) m base fits-all l (omega arith) mb mb-lt here (λ z. some (ap tableSize table ∙ z)))
 
-    -- what writing a page asks
-    pub mapping-fits : (s : ℕ) → s ≡ tableStart megabytes ms mb → (tableSize t ≡ 0 → ⊥)
-        → ((wordIn t m + wordsIn t mb m) * 2 ^ stepBits t ≤ 2 ^ 20) × (s + 4 * (wordIn t m + wordsIn t mb m) ≤ length o)
-    mapping-fits s b some =
-        let f : Fit (stepBits t) mb m = subst (λ (u : Table). Fit (stepBits u) mb m) (sym table) (fits-all mb) in
-        let h : (wordIn t m + wordsIn t mb m) * 2 ^ stepBits t ≤ 2 ^ 20 = held-end t mb 0 m f (omega arith) in
-        let i = ends-in t (wordIn t m + wordsIn t mb m) some h in
-        let r : tableEnd megabytes ms (suc mb) ≤ imageLength megabytes ms = end-last megabytes ms (suc mb) (omega arith) in
-        let v : tableSize t ≡ tableSize (tableOf ms mb) = ap tableSize table in
-        (h, omega (arith, end-next megabytes ms mb))
-
 -- the words before any mapping is written
-pub first-none : (n : ℕ) (ms : List Mapping) (base k s w : ℕ) (t : Table) → k < n → t ≡ tableOf ms k → s ≡ tableStart n ms k → w ≡ firstBy t (base + s) Nobody → w ≡ partWord n ms [] base k
+pub first-none : (ms : List Mapping) (firsts : List ℕ) (base k : ℕ) → k < megabytes → Firsts ms firsts → based base (getD firsts k 0) ≡ partWord megabytes ms [] base k
 unfolding partWord holder
-first-none n ms base k s w t lt p q r =
-    r ∙ ap₂ (λ (u : Table) (x : ℕ). firstBy u (base + x) Nobody) p q ∙ sym (pick-yes _ _ _ (lt-ltb k n lt))
+first-none ms firsts base k lt f =
+    ap (based base) (f k lt) ∙ based-by base (tableStart megabytes ms k) (tableOf ms k) ∙ sym (pick-yes _ _ _ (lt-ltb k megabytes lt))
 
 pub image-begun : (n : ℕ) (ms : List Mapping) (base : ℕ) (l o p : List ℕ) → imageLength n ms ≤ length l → o ≡ spliced l 0 (λ (_ : ℕ). 0) (imageLength n ms / 4)
     → p ≡ spliced o 0 (partWord n ms [] base) n → p ≡ spliced l 0 (partWord n ms [] base) (imageLength n ms / 4)
@@ -326,9 +315,3 @@ filled-start ms base j l o h e = e ∙ ap (λ (d : List Mapping). spliced l 0 (p
 pub filled-end : (ms : List Mapping) (base j : ℕ) (l o : List ℕ) → j ≡ 0 → o ≡ spliced l 0 (partWord megabytes ms (drop j ms) base) (imageLength megabytes ms / 4)
     → o ≡ spliced l 0 (partWord megabytes ms ms base) (imageLength megabytes ms / 4)
 filled-end ms base j l o z e = e ∙ ap (λ (i : ℕ). spliced l 0 (partWord megabytes ms (drop i ms) base) (imageLength megabytes ms / 4)) z
-
--- nothing is noted before the first mapping
-pub blank : (n x : ℕ) → getD {A = Bool} (replicate n false) x false ≡ false
-blank zero x = refl
-blank (suc n) zero = refl
-blank (suc n) (suc x) = blank n x

@@ -1,11 +1,10 @@
 -- The image of a list of which only some mappings are written yet: the places are those of the whole list (01, "The builder").
-use Rattle.page.specs.Ground.{ℕ, zero, suc, _+_, _-_, _*_, _/_, _^_, _≡_, Bool, List, [], ltb, leb, length, drop}
+use Rattle.page.specs.Ground.{ℕ, zero, suc, _+_, _-_, _*_, _/_, _^_, _≡_, List, [], ltb, leb, length, drop}
 use Rattle.page.specs.Pick.{pick, _and_}
 use Rattle.page.specs.Words.{virtual, megabytes}
 use Rattle.records.specs.declared.Mapping.{Mapping}
 use Rattle.lists.specs.Meanings.{holder}
 use Rattle.tables.specs.Tables.{tableOf, tableEnd, tableStart, imageLength}
-use Rattle.tables.specs.Kinds.{Kinds, Starts}
 use Rattle.words.specs.Words.{firstBy, secondWord}
 use Rattle.image.specs.Image.{spliced}
 
@@ -24,21 +23,14 @@ partWord n all ms base k =
     (firstBy (tableOf all k) (base + tableStart n all k) (holder ms (virtual (k * 2 ^ 20))))
     (partTables n all ms n (4 * k))
 
--- the notes and places of a list
-pub record Known (ms : List Mapping) (seen : List Bool) (starts : List ℕ) : Type 0 where
-  pub seens : length seen ≡ 64
-  pub places : length starts ≡ 16
-  pub kinds : Kinds ms seen
-  pub begins : Starts ms starts
-
 -- a memory with the mappings behind mapping j written, and with mapping j too
-abbrev pub Turned : List Mapping → ℕ → ℕ → List ℕ → List ℕ → Type 0
-Turned ms base j before after =
-    (l : List ℕ) → length l ≡ length before → before ≡ spliced l 0 (partWord megabytes ms (drop (j + 1) ms) base) (imageLength megabytes ms / 4)
+abbrev pub Turned : List Mapping → ℕ → List ℕ → List ℕ → Type 0
+Turned ms j before after =
+    (base : ℕ) (l : List ℕ) → length l ≡ length before → before ≡ spliced l 0 (partWord megabytes ms (drop (j + 1) ms) base) (imageLength megabytes ms / 4)
     → after ≡ spliced l 0 (partWord megabytes ms (drop j ms) base) (imageLength megabytes ms / 4)
 
 -- a memory that has the image with no mapping written, and one with all
-abbrev pub Filled : List Mapping → ℕ → List ℕ → List ℕ → Type 0
-Filled ms base before after =
-    (l : List ℕ) → length l ≡ length before → before ≡ spliced l 0 (partWord megabytes ms [] base) (imageLength megabytes ms / 4)
+abbrev pub Filled : List Mapping → List ℕ → List ℕ → Type 0
+Filled ms before after =
+    (base : ℕ) (l : List ℕ) → length l ≡ length before → before ≡ spliced l 0 (partWord megabytes ms [] base) (imageLength megabytes ms / 4)
     → after ≡ spliced l 0 (partWord megabytes ms ms base) (imageLength megabytes ms / 4)

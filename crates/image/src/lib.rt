@@ -8,16 +8,17 @@ use tables::MEGABYTE;
 use tables::Table;
 ghost use mathlib.Core.Path.{_≡_};
 ghost use Prim.Native.Nat.{ℕ, _+_, _*_, _/_, _^_, _<_, _≤_};
-ghost use lib.ListN.{length};
+ghost use lib.ListN.{length, getD};
 ghost use mathlib.Core.List.{[]};
-ghost use Rattle.lists.specs.declared.Held.the-variants.{Nobody};
 ghost use Rattle.tables.specs.declared.Table.the-variants.{Fine, Coarse};
 ghost use Rattle.records.specs.Mappings.{mappings};
 ghost use Rattle.page.specs.Words.{megabytes};
 ghost use Rattle.tables.specs.Tables.{imageLength};
-ghost use Rattle.words.specs.Words.{firstBy, writtenAs, pageWord, addressOf, wordIn, wordsIn};
+ghost use Rattle.tables.specs.Kinds.{Kinds};
+ghost use Rattle.words.specs.Words.{writtenAs, pageWord, addressOf, wordIn, wordsIn};
 ghost use Rattle.image.specs.Image.{spliced, written};
-ghost use Rattle.image.specs.Parts.{partWord, Known, Turned, Filled};
+ghost use Rattle.image.specs.Parts.{Turned, Filled};
+ghost use Rattle.image.specs.Places.{Firsts, based, Level};
 
 // The low 32 bits of a word, into a memory.
 fn put_word(out: &mut [u8], at: usize, w: u64)
@@ -88,35 +89,32 @@ fn write_coarse(out: &mut [u8], at: usize, m: Mapping)
     }
 }
 
-// The first-level word of a megabyte by its table alone: zero where it has none.
-fn table_word(t: Table, base: u32, start: u32) -> u64
-    ensures { λ r. ⌜ r ≡ firstBy t (base + start) Nobody ⌝ }
+// A first-level word for a base, from that for a base of 0: zero stays.
+fn based(base: u32, w: u32) -> u64
+    ensures { λ r. ⌜ r ≡ based base w ⌝ }
 {
-    match t {
-        Table::Fine => base as u64 + start as u64 + 3,
-        Table::Coarse => base as u64 + start as u64 + 1,
-        Table::Absent => 0,
+    if w == 0 {
+        return 0;
     }
+    base as u64 + w as u64
 }
 
 // The first-level table with no section in it.
-fn write_first(records: &[u8], base: u32, seen: &[bool], starts: &[u32], out: &mut [u8])
-    requires { ⌜ Known (mappings (now records)) (now seen) (now starts) × (4 * megabytes ≤ length (now out)) ⌝ }
-    ensures { λ r. ⌜ now (out .exit) ≡ spliced (now (out .entry)) 0 (partWord megabytes (mappings (now (records .entry))) [] base) megabytes ⌝ }
+fn write_first(base: u32, firsts: &[u32], out: &mut [u8])
+    requires { ⌜ Level (length (now out)) (now firsts) ⌝ }
+    ensures { λ r. ⌜ now (out .exit) ≡ spliced (now (out .entry)) 0 (λ (k : ℕ). based base (getD (now (firsts .entry)) k 0)) megabytes ⌝ }
 {
     let mut k = 0;
-    while k < FIRST {
-        let t = places::table_from(records, seen, k);
-        let s = starts[k as usize];
-        put_word(out, 4 * k as usize, table_word(t, base, s));
+    while k < 16 {
+        put_word(out, 4 * k, based(base, firsts[k]));
         k += 1;
     }
 }
 
 // The words of record j's mapping.
-fn write_mapping(records: &[u8], base: u32, seen: &[bool], starts: &[u32], out: &mut [u8], j: usize)
-    requires { ⌜ Known (mappings (now records)) (now seen) (now starts) × (j < length (mappings (now records))) × (imageLength megabytes (mappings (now records)) ≤ length (now out)) ⌝ }
-    ensures { λ r. ⌜ Turned (mappings (now (records .entry))) base j (now (out .entry)) (now (out .exit)) ⌝ }
+fn write_mapping(records: &[u8], firsts: &[u32], out: &mut [u8], j: usize)
+    requires { ⌜ Level (length (now out)) (now firsts) × (j < length (mappings (now records))) ⌝ }
+    ensures { λ r. ⌜ (Firsts (mappings (now (records .entry))) (now (firsts .entry)) → imageLength megabytes (mappings (now (records .entry))) ≤ length (now (out .entry)) → Turned (mappings (now (records .entry))) j (now (out .entry)) (now (out .exit))) ⌝ }
 {
     let m = records::mapping_at(records, j);
     let at = m.at;
@@ -124,24 +122,27 @@ fn write_mapping(records: &[u8], base: u32, seen: &[bool], starts: &[u32], out: 
     if FIRST <= mb {
         return;
     }
-    let t = places::table_from(records, seen, mb);
-    let s = starts[mb as usize] as usize;
-    match t {
-        Table::Fine => write_fine(out, s, m),
-        Table::Coarse => write_coarse(out, s, m),
-        Table::Absent => put_word(out, 4 * mb as usize, words::section_of(m) as u64),
+    let f = firsts[mb as usize] as usize;
+    if f % 4 == 3 {
+        write_fine(out, f - 3, m);
+        return;
     }
+    if f % 4 == 1 {
+        write_coarse(out, f - 1, m);
+        return;
+    }
+    put_word(out, 4 * mb as usize, words::section_of(m) as u64);
 }
 
 // The words of all mappings, from the last to the first, over an image that has none.
-fn write_mappings(records: &[u8], base: u32, seen: &[bool], starts: &[u32], out: &mut [u8])
-    requires { ⌜ Known (mappings (now records)) (now seen) (now starts) × (imageLength megabytes (mappings (now records)) ≤ length (now out)) ⌝ }
-    ensures { λ r. ⌜ Filled (mappings (now (records .entry))) base (now (out .entry)) (now (out .exit)) ⌝ }
+fn write_mappings(records: &[u8], firsts: &[u32], out: &mut [u8])
+    requires { ⌜ Level (length (now out)) (now firsts) ⌝ }
+    ensures { λ r. ⌜ (Firsts (mappings (now (records .entry))) (now (firsts .entry)) → imageLength megabytes (mappings (now (records .entry))) ≤ length (now (out .entry)) → Filled (mappings (now (records .entry))) (now (out .entry)) (now (out .exit))) ⌝ }
 {
     let mut j = records::count(records);
     while 0 < j {
         j -= 1;
-        write_mapping(records, base, seen, starts, out, j);
+        write_mapping(records, firsts, out, j);
     }
 }
 
@@ -156,22 +157,20 @@ fn write_none(base: u32, out: &mut [u8]) -> usize
     64
 }
 
-// The image of a list, for a memory lent at a base: its length, and the image written where the memory has the room.
-pub fn write(records: &[u8], base: u32, out: &mut [u8]) -> usize
-    ensures { λ r. ⌜ (r ≡ imageLength megabytes (mappings (now (records .entry)))) × (now (out .exit) ≡ written (mappings (now (records .entry))) base (now (out .entry))) ⌝ }
+// The image of a list whose kinds are noted, for a memory lent at a base: its length, and the image written where the memory has the room.
+pub fn write(records: &[u8], seen: &[bool; 64], base: u32, out: &mut [u8]) -> usize
+    ensures { λ r. ⌜ (Kinds (mappings (now (records .entry))) (now (seen .entry)) → (r ≡ imageLength megabytes (mappings (now (records .entry)))) × (now (out .exit) ≡ written (mappings (now (records .entry))) base (now (out .entry)))) ⌝ }
 {
     if records.len() == 0 {
         return write_none(base, out);
     }
-    let mut seen: [bool; 64] = [false; 64];
-    let mut starts: [u32; 16] = [0; 16];
-    places::kinds(records, &mut seen);
-    let len = places::place(records, &seen, &mut starts) as usize;
+    let mut firsts: [u32; 16] = [0; 16];
+    let len = places::place(seen, &mut firsts) as usize;
     if out.len() < len {
         return len;
     }
     write_zeros(out, 0, len / 4);
-    write_first(records, base, &seen, &starts, out);
-    write_mappings(records, base, &seen, &starts, out);
+    write_first(base, &firsts, out);
+    write_mappings(records, &firsts, out);
     len
 }

@@ -1,47 +1,28 @@
-// Which kinds of page stand in which megabyte, and where the tables begin.
-use records::Mapping;
+// Where the tables of the noted kinds lie.
 use tables::FIRST;
-use tables::MEGABYTE;
 use tables::Table;
 ghost use mathlib.Core.Path.{_≡_};
-ghost use Prim.Native.Nat.{_<_};
+ghost use Prim.Native.Nat.{_<_, _≤_};
 ghost use lib.ListN.{length};
-ghost use Rattle.records.specs.Mappings.{mappings};
 ghost use Rattle.page.specs.Words.{megabytes};
-ghost use Rattle.tables.specs.Kinds.{Blank, Kinds, Noted, Placed};
-ghost use Rattle.tables.specs.Tables.{tableOf};
+ghost use Rattle.lists.specs.declared.Held.the-variants.{Nobody};
+ghost use Rattle.tables.specs.Kinds.{hasTable, tableBy};
+ghost use Rattle.words.specs.Words.{firstBy};
+ghost use Rattle.image.specs.Places.{Placed};
 
-// Notes a mapping's kind and megabyte.
-fn note(seen: &mut [bool], m: Mapping)
-    requires { ⌜ length (now seen) ≡ 64 ⌝ }
-    ensures { λ r. ⌜ Noted m (now (seen .entry)) (now (seen .exit)) ⌝ }
+// Whether a megabyte has a table, by the notes.
+fn has_table(seen: &[bool; 64], mb: u32) -> bool
+    requires { ⌜ mb < megabytes ⌝ }
+    ensures { λ r. ⌜ r ≡ hasTable (now (seen .entry)) mb ⌝ }
 {
-    let at = m.at;
-    let k = m.kind;
-    let mb = at.0 / MEGABYTE;
-    if FIRST <= mb {
-        return;
-    }
-    let x = (16 * page::type_of(k) + mb) as usize;
-    seen[x] = true;
-}
-
-// Notes which kinds of page stand in which megabyte.
-pub(crate) fn kinds(records: &[u8], seen: &mut [bool])
-    requires { ⌜ (length (now seen) ≡ 64) × Blank (now seen) ⌝ }
-    ensures { λ r. ⌜ Kinds (mappings (now (records .entry))) (now (seen .exit)) ⌝ }
-{
-    let mut j = records::count(records);
-    while 0 < j {
-        j -= 1;
-        note(seen, records::mapping_at(records, j));
-    }
+    let i = mb as usize;
+    seen[16 + i] | seen[32 + i] | seen[48 + i]
 }
 
 // The table of a megabyte, by the notes.
-pub(crate) fn table_from(records: &[u8], seen: &[bool], mb: u32) -> Table
-    requires { ⌜ (length (now seen) ≡ 64) × (mb < megabytes) × Kinds (mappings (now records)) (now seen) ⌝ }
-    ensures { λ r. ⌜ r ≡ tableOf (mappings (now (records .entry))) mb ⌝ }
+fn table_by(seen: &[bool; 64], mb: u32) -> Table
+    requires { ⌜ mb < megabytes ⌝ }
+    ensures { λ r. ⌜ r ≡ tableBy (now (seen .entry)) mb ⌝ }
 {
     let i = mb as usize;
     if seen[48 + i] {
@@ -56,17 +37,34 @@ pub(crate) fn table_from(records: &[u8], seen: &[bool], mb: u32) -> Table
     Table::Absent
 }
 
-// Where the tables begin, and the image's length, by the notes.
-pub(crate) fn place(records: &[u8], seen: &[bool], starts: &mut [u32]) -> u32
-    requires { ⌜ (length (now seen) ≡ 64) × (length (now starts) ≡ 16) × Kinds (mappings (now records)) (now seen) ⌝ }
-    ensures { λ r. ⌜ Placed (mappings (now (records .entry))) r (now (starts .exit)) ⌝ }
+// The first-level word of a table that begins at an offset, for a base of 0: zero where there is none.
+fn table_word(t: Table, start: u32) -> u32
+    requires { ⌜ start ≤ 1048576 ⌝ }
+    ensures { λ r. ⌜ r ≡ firstBy t start Nobody ⌝ }
+{
+    match t {
+        Table::Fine => start + 3,
+        Table::Coarse => start + 1,
+        Table::Absent => 0,
+    }
+}
+
+// The first-level words of the tables, for a base of 0, and where the last one ends.
+pub(crate) fn place(seen: &[bool; 64], firsts: &mut [u32]) -> u32
+    requires { ⌜ length (now firsts) ≡ 16 ⌝ }
+    ensures { λ r. ⌜ Placed (now (seen .entry)) r (now (firsts .exit)) ⌝ }
 {
     let mut e = 4 * FIRST;
     let mut i = 0;
     while i < FIRST {
-        let t = table_from(records, seen, i);
+        if !has_table(seen, i) {
+            firsts[i as usize] = 0;
+            i += 1;
+            continue;
+        }
+        let t = table_by(seen, i);
         let s = tables::start_after(t, e) as u32;
-        starts[i as usize] = s;
+        firsts[i as usize] = table_word(t, s);
         e = s + tables::table_size(t);
         i += 1;
     }

@@ -4,3 +4,4 @@ pub mod Holders
 pub mod Runs
 pub mod Regions
 pub mod Taken
+pub mod Noted

@@ -8,7 +8,7 @@ use native.Mathlib.Nat.{zero-div}
 use native.Mathlib.Decide.{decLe}
 use mathlib.Core.Logic.{_⊎_, inl, inr, ⊎-elim}
 use borrow.Author.Tests.{eq-eqb, eqb-true, ltb-true}
-use lib.ListN.{getD, replicate}
+use lib.ListN.{getD}
 use Rattle.page.specs.Words.{virtual, megabytes, lowBits}
 use Rattle.page.specs.declared.VirtualAddress.{VirtualAddress}
 use Rattle.page.specs.declared.Kind.{Kind}
@@ -116,11 +116,6 @@ clash-says rs c i m false k lt f =
 good-below : (rs : List ℕ) (i : ℕ) → bad megabytes rs i ≡ false → mappingOf (recordAt rs i) .at .0 < 16777216
 unfolding proper
 good-below rs i e = ltb-true _ _ (and-left _ _ (proper-at megabytes rs i e))
-
-pub zeros-at : (n k : ℕ) → getD {A = ℕ} (replicate n 0) k 0 ≡ 0
-zeros-at zero k = refl
-zeros-at (suc n) zero = refl
-zeros-at (suc n) (suc k) = zeros-at n k
 
 -- a turn of the check: the mapping that it reads at a record that is not bad
 module _ (rs : List ℕ) (i : ℕ) (m : Mapping) (good : bad megabytes rs i ≡ false) (read : m ≡ getD (mappings rs) i noMapping) where

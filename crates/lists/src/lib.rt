@@ -5,11 +5,15 @@ use page::Access;
 use page::PhysicalAddress;
 use page::VirtualAddress;
 use records::Mapping;
+use tables::MEGABYTE;
 ghost use mathlib.Core.Path.{_≡_};
-ghost use Prim.Native.Nat.{_+_, _*_, _≤_};
-ghost use lib.ListN.{length};
+ghost use Prim.Native.Nat.{_*_, _<_, _≤_};
+ghost use mathlib.Core.Bool.{true};
+ghost use lib.ListN.{length, set};
 ghost use Rattle.records.specs.Mappings.{recordSize, mappings};
 ghost use Rattle.page.specs.Words.{megabytes};
+ghost use Rattle.tables.specs.Kinds.{Blank, noteAt, Kinds};
+ghost use Rattle.lists.specs.declared.Checked.the-variants.{Fine};
 ghost use Rattle.lists.specs.Refusals.{bad, checked};
 ghost use Rattle.lists.specs.Meanings.{holder, heldMeaning, meaning};
 
@@ -51,9 +55,20 @@ fn is_bad(records: &[u8], i: usize) -> bool
     !records::well_formed(&records[at..at + records::SIZE])
 }
 
-// The first refusal of a list.
-pub fn check(records: &[u8]) -> Checked
-    ensures { λ r. ⌜ r ≡ checked megabytes (now (records .entry)) ⌝ }
+// Notes a mapping's kind and megabyte.
+fn note(seen: &mut [bool; 64], m: Mapping)
+    requires { ⌜ m .at .0 < 16777216 ⌝ }
+    ensures { λ r. ⌜ now (seen .exit) ≡ set (now (seen .entry)) (noteAt m) true ⌝ }
+{
+    let at = m.at;
+    let k = m.kind;
+    let x = (16 * page::type_of(k) + at.0 / MEGABYTE) as usize;
+    seen[x] = true;
+}
+
+// The first refusal of a list; where there is none, and nothing was noted before, the kinds of its pages are noted.
+pub fn check(records: &[u8], seen: &mut [bool; 64]) -> Checked
+    ensures { λ r. ⌜ (r ≡ checked megabytes (now (records .entry))) × (r ≡ Fine → Blank (now (seen .entry)) → Kinds (mappings (now (records .entry))) (now (seen .exit))) ⌝ }
 {
     let len = records.len();
     if len == 0 {
@@ -71,6 +86,7 @@ pub fn check(records: &[u8]) -> Checked
             return Checked::Overlap(i);
         }
         bitmap::cover(&mut taken, m);
+        note(seen, m);
         i = next;
     }
     Checked::Fine

@@ -1,19 +1,22 @@
 -- A record's last four bytes as one word: type, access, and two zeros. Assumes nothing.
-use mathlib.Core.Path.{_≡_, refl, sym, _∙_}
+use mathlib.Core.Path.{_≡_, refl, sym, ap, _∙_}
 use mathlib.Core.Bool.{Bool, true, false, true≢false}
 use mathlib.Core.List.{List}
-use Prim.Native.Nat.{ℕ, _+_, _*_, _/_, _%_, _≤_, _<_}
+use Prim.Native.Nat.{ℕ, _+_, _*_, _/_, _%_, _^_, _≤_, _<_}
 use native.Mathlib.Omega.{arith}
-use borrow.Author.Tests.{le-leb, lt-ltb, eq-eqb, ltb-true, eqb-true}
-use lib.Dec.{eqb, ltb, leb}
+use native.Mathlib.Decide.{ℕ-discrete}
+use borrow.Author.Tests.{le-leb, lt-ltb, le-ltb, eq-eqb, ne-eqb, ltb-true, eqb-true}
+use lib.Bits.{bitOr, or-mod, or-zero-l, or-add-and, and-le-r}
+use lib.Pow.{shl-exact}
+use lib.Dec.{eqb, ltb, leb, lit<}
 use lib.ListN.{length, getD, take, drop, length-take, length-drop}
 use lib.Seq.{getD-take, getD-drop}
 use Rattle.page.specs.Pick.{_and_, _or_}
-use Rattle.page.specs.Words.{megabytes}
-use Rattle.page.proofs.Picks.{pick-yes, and-yes, and-no, and-left, and-right, or-no}
+use Rattle.page.specs.Words.{megabytes, lowBits, kindOf}
+use Rattle.page.proofs.Picks.{pick-yes, and-yes, and-no, and-left, and-right, or-yes, or-no}
 use Rattle.memory.specs.Memory.{littleEndian, wordOf}
 use Rattle.records.specs.Mappings.{mappingOf}
-use Rattle.records.specs.Checks.{proper, wellFormed}
+use Rattle.records.specs.Checks.{multiple, proper, wellFormed}
 
 pub by-false : (b : Bool) → (b ≡ true → ⊥) → b ≡ false
 by-false true f = absurd (f refl)
@@ -26,6 +29,20 @@ either false b e f = sym (or-no false b refl) ∙ e
 and-true : (a b : Bool) → b ≡ true → (a and b) ≡ a
 and-true true b e = and-yes true b refl ∙ e
 and-true false b e = and-no false b refl
+
+-- two numbers are multiples of a power of two exactly where their or is
+none-or : (x y : ℕ) → eqb (bitOr x y) 0 ≡ (eqb x 0 and eqb y 0)
+none-or x y = elim (ℕ-discrete x 0) [
+  | yes e ↦ ap (λ (z : ℕ). eqb z 0) (ap (λ (u : ℕ). bitOr u y) e ∙ or-zero-l y) ∙ sym (and-yes _ _ (eq-eqb x 0 e))
+  | no g ↦ ne-eqb (bitOr x y) 0 (λ e. g (omega (arith, or-add-and x y, and-le-r x y))) ∙ sym (and-no _ _ (ne-eqb x 0 g))
+]
+
+aligned : (n a b : ℕ) → eqb (bitOr a b % 2 ^ n) 0 ≡ (eqb (a % 2 ^ n) 0 and eqb (b % 2 ^ n) 0)
+aligned n a b = ap (λ (x : ℕ). eqb x 0) (or-mod a b n) ∙ none-or (a % 2 ^ n) (b % 2 ^ n)
+
+-- the code's power of two
+pub one-shifted : (k n : ℕ) → k ≡ n → n ≤ 20 → (1 * 2 ^ k) % 2 ^ 32 ≡ 2 ^ n
+one-shifted k n e h = ap (λ (j : ℕ). (1 * 2 ^ j) % 2 ^ 32) e ∙ shl-exact {a = 1} 1 n 32 (lit< tt) (omega arith) ∙ (let z : 1 * 2 ^ n ≡ 2 ^ n = omega arith in z)
 
 module _ (r : List ℕ) (room : 12 ≤ length r) (bytes : (i : ℕ) → getD r i 0 < 256) where
   byte : (i : ℕ) → i < 4 → getD (take 4 (drop 8 r)) i 0 ≡ getD r (8 + i) 0
@@ -65,7 +82,7 @@ module _ (r : List ℕ) (room : 12 ≤ length r) (bytes : (i : ℕ) → getD r i
     pub type-wrong : 4 ≤ w % 256 → false ≡ wellFormed megabytes r
     type-wrong f = sym (by-false _ (λ t. let p = parts t in let s = e ∙ rest-is in omega (arith, p .0, bytes 8)))
 
-    pub rest-right : w / 512 ≡ 1 → w % 256 < 4 → proper megabytes (mappingOf r) ≡ wellFormed megabytes r
+    rest-right : w / 512 ≡ 1 → w % 256 < 4 → proper megabytes (mappingOf r) ≡ wellFormed megabytes r
     unfolding wellFormed
     rest-right f g =
         let s = e ∙ rest-is in
@@ -76,3 +93,28 @@ module _ (r : List ℕ) (room : 12 ≤ length r) (bytes : (i : ℕ) → getD r i
         (and-yes _ _ (le-leb 12 (length r) room)
         ∙ and-yes _ _ (lt-ltb _ _ z8)
         ∙ and-true (proper megabytes (mappingOf r)) _ (and-yes _ _ (eq-eqb _ _ z10) ∙ eq-eqb _ _ z11))
+
+    -- an address past the end
+    pub rest-past : w / 512 ≡ 1 → w % 256 < 4 → 16777216 ≤ wordOf (take 4 (drop 0 r)) → false ≡ wellFormed megabytes r
+    unfolding proper mappingOf
+    rest-past f g h = sym (sym (rest-right f g) ∙ and-no _ _ (le-ltb _ _ h))
+
+    -- addresses whose or is a multiple of the page's size, in a record whose rest is right
+    pub rest-proper : w / 512 ≡ 1 → w % 256 < 4 → wordOf (take 4 (drop 0 r)) < 16777216
+        → eqb (bitOr (wordOf (take 4 (drop 0 r))) (wordOf (take 4 (drop 4 r))) % 2 ^ lowBits (kindOf (w % 256))) 0 ≡ wellFormed megabytes r
+    unfolding proper multiple mappingOf
+    rest-proper f g lt =
+        let s = e ∙ rest-is in
+        let k : w % 256 ≡ getD r 8 0 = omega (arith, bytes 8) in
+        let z10 : getD r 10 0 ≡ 0 = omega (arith, bytes 8, bytes 9, bytes 10, bytes 11) in
+        let z11 : getD r 11 0 ≡ 0 = omega (arith, bytes 8, bytes 9, bytes 10, bytes 11) in
+        let low : 2 ≤ getD r 9 0 = omega arith in
+        let high : getD r 9 0 < 4 = omega arith in
+        let access : (eqb (getD r 9 0) 2 or eqb (getD r 9 0) 3) ≡ true = elim (ℕ-discrete (getD r 9 0) 2) [
+          | yes q ↦ or-yes _ _ (eq-eqb _ _ q)
+          | no q ↦ or-no _ _ (ne-eqb _ _ q) ∙ eq-eqb _ _ (let z : getD r 9 0 ≡ 3 = omega arith in z)
+        ] in
+        ap (λ (x : ℕ). eqb (bitOr (wordOf (take 4 (drop 0 r))) (wordOf (take 4 (drop 4 r))) % 2 ^ lowBits (kindOf x)) 0) k
+        ∙ aligned (lowBits (kindOf (getD r 8 0))) (wordOf (take 4 (drop 0 r))) (wordOf (take 4 (drop 4 r)))
+        ∙ sym (and-yes _ _ (lt-ltb _ _ lt) ∙ ap (λ (b : Bool). eqb (wordOf (take 4 (drop 0 r)) % 2 ^ lowBits (kindOf (getD r 8 0))) 0 and b) (and-true _ _ access))
+        ∙ rest-right f g

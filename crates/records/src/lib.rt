@@ -8,7 +8,7 @@ ghost use Prim.Native.Nat.{_+_, _*_, _<_, _≤_};
 ghost use lib.ListN.{length, getD, take, drop};
 ghost use Rattle.memory.specs.Memory.{wordOf};
 ghost use Rattle.records.specs.Mappings.{recordSize, recordAt, mappingOf, mappings, noMapping, holds, byteOf};
-ghost use Rattle.records.specs.Checks.{multiple, proper, wellFormed};
+ghost use Rattle.records.specs.Checks.{wellFormed};
 
 // The bytes of a record.
 pub const SIZE: usize = 12;
@@ -102,35 +102,6 @@ pub fn byte_of(m: Mapping, va: VirtualAddress) -> PhysicalAddress
     PhysicalAddress(page::join(k, to.0, va.0))
 }
 
-// Whether an address is a multiple of a page's size.
-pub fn multiple(k: Kind, x: u32) -> bool
-    ensures { λ r. ⌜ r ≡ multiple k x ⌝ }
-{
-    x - page::page_start(k, x) == 0
-}
-
-// Whether a mapping's addresses and access are as they must be.
-pub fn proper(m: Mapping) -> bool
-    ensures { λ r. ⌜ r ≡ proper megabytes m ⌝ }
-{
-    let at = m.at;
-    let to = m.to;
-    let k = m.kind;
-    if END <= at.0 {
-        return false;
-    }
-    if !multiple(k, at.0) {
-        return false;
-    }
-    if !multiple(k, to.0) {
-        return false;
-    }
-    if m.access == 2 {
-        return true;
-    }
-    m.access == 3
-}
-
 // Whether a record's bytes are as they must be.
 pub fn well_formed(r: &[u8]) -> bool
     ensures { λ r′. ⌜ r′ ≡ wellFormed megabytes (now (r .entry)) ⌝ }
@@ -145,5 +116,11 @@ pub fn well_formed(r: &[u8]) -> bool
     if rest % 256 >= 4 {
         return false;
     }
-    proper(mapping_of(r))
+    let at = word_at(r, 0);
+    let to = word_at(r, 4);
+    if END <= at {
+        return false;
+    }
+    let n = page::low_bits(page::kind_of(rest % 256));
+    (at | to) % (1 << n) == 0
 }

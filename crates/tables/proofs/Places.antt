@@ -17,7 +17,7 @@ start-ge Fine e = omega arith
 start-ge Coarse e = omega arith
 start-ge Absent e = le-refl e
 
-start-le : (t : Table) (e : ℕ) → startAfter t e ≤ e + 4095
+pub start-le : (t : Table) (e : ℕ) → startAfter t e ≤ e + 4095
 start-le Fine e = omega arith
 start-le Coarse e = omega arith
 start-le Absent e = omega arith

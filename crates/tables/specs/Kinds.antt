@@ -1,26 +1,31 @@
--- Which kinds of page stand in which megabyte, gathered in one pass, and the tables that follow (01, "The builder").
-use Rattle.page.specs.Ground.{ℕ, _+_, _*_, _<_, _≡_, Bool, false, List, _∷_, getD}
+-- Which kinds of page stand in which megabyte, noted in one pass over a list, and the tables that the notes give (01, "The builder").
+use Rattle.page.specs.Ground.{ℕ, _+_, _*_, _/_, _^_, _<_, _≡_, Bool, false, List, getD}
+use lib.ListN.{replicate}
+use Rattle.page.specs.Pick.{pick, _or_}
 use Rattle.page.specs.Words.{typeOf, megabytes}
 use Rattle.page.specs.declared.Kind.{Kind}
 use Rattle.records.specs.declared.Mapping.{Mapping}
-use Rattle.tables.specs.Tables.{hasKind, tableStart, imageLength}
+use Rattle.tables.specs.declared.Table.{Table}
+use Rattle.tables.specs.declared.Table.the-variants.{Fine, Coarse, Absent}
+use Rattle.tables.specs.Tables.{hasKind}
 
--- nothing is noted
+-- nothing is noted: 16 megabytes for each of four kinds
 abbrev pub Blank : List Bool → Type 0
-Blank seen = (x : ℕ) → getD seen x false ≡ false
+Blank seen = seen ≡ replicate 64 false
 
--- megabyte i holds a page of kind k exactly where that is noted, at 16 times the kind's type bits and i
+-- where a mapping is noted: by its kind's type bits, then by its megabyte
+abbrev pub noteAt : Mapping → ℕ
+noteAt m = 16 * typeOf (m .kind) + m .at .0 / 2 ^ 20
+
+-- the notes are those of a list: megabyte i holds a page of kind k exactly where that is noted
 abbrev pub Kinds : List Mapping → List Bool → Type 0
 Kinds ms seen = (k : Kind) (i : ℕ) → i < megabytes → getD seen (16 * typeOf k + i) false ≡ hasKind ms i k
 
--- one mapping more is noted
-abbrev pub Noted : Mapping → List Bool → List Bool → Type 0
-Noted m seen after = (ms : List Mapping) → Kinds ms seen → Kinds (m ∷ ms) after
+-- the table that the notes give megabyte i
+unfoldable pub tableBy : List Bool → ℕ → Table
+tableBy seen i =
+    pick (getD seen (48 + i) false) Fine (pick (getD seen (16 + i) false or getD seen (32 + i) false) Coarse Absent)
 
--- where the image of a list ends, and where its tables begin
-abbrev pub Starts : List Mapping → List ℕ → Type 0
-Starts ms starts = (i : ℕ) → i < megabytes → getD starts i 0 ≡ tableStart megabytes ms i
-
-pub record Placed (ms : List Mapping) (r : ℕ) (starts : List ℕ) : Type 0 where
-  pub ends : r ≡ imageLength megabytes ms
-  pub begins : Starts ms starts
+-- whether the notes give megabyte i a table at all
+unfoldable pub hasTable : List Bool → ℕ → Bool
+hasTable seen i = (getD seen (16 + i) false or getD seen (32 + i) false) or getD seen (48 + i) false

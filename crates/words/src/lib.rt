@@ -17,7 +17,7 @@ pub fn section_of(m: Mapping) -> u32
 }
 
 // How many addresses one word stands for.
-pub fn step(t: Table) -> u32
+fn step(t: Table) -> u32
     ensures { λ r. ⌜ r ≡ 2 ^ stepBits t ⌝ }
 {
     match t {

@@ -1,6 +1,5 @@
 use mathlib.Core.Path.{refl, sym, _∙_, ap}
 use borrow.Author.Tests.{not-true, not-false}
-use denote.Ref.{now}
 use native.Mathlib.Omega.{arith}
 use Prim.Native.Nat.{ℕ}
 use Rattle.image.proofs.Whole.{written-short, written-image}
@@ -39,19 +38,39 @@ same-length : tie.Need-same-length
 same-length c = search needs
 
 returns-2 : tie.Need-returns-2
-returns-2 c = ap (λ (n : ℕ). outcome (TooLong n) (c .before .before .before .before .write .last .1 .1 .0)) (c .count .ensures) ∙ outcome-is (now (c .before .before .before .before .before .before .before .before .before .before .before .before .before .args .records)) (c .before .before .before .before .before .before .before .before .before .before .before .before .before .args .base) (now (c .before .before .before .before .before .before .before .before .before .before .before .before .before .args .memory)) _ _ (answer-long (now (c .before .before .before .before .before .before .before .before .before .before .before .before .before .args .records)) (c .before .before .before .before .before .before .before .before .before .before .before .before .before .args .base) _ (sym (c .before .before .before .before .before .before .before .before .before .before .room-ok .ensures) ∙ not-false _ (c .before .before .before .before .before .before .before .before .before .if1 .left)) (sym (c .before .before .before .before .before .before .before .before .check .ensures) ∙ c .before .before .before .before .before .before .enum-told .given .1) (omega (arith, c .before .before .before .before .write .ensures .0))) (c .before .before .before .before .write .ensures .1 ∙ written-short _ _ _ (omega (arith, c .before .before .before .before .write .ensures .0)))
+returns-2 c =
+    let a = c .before .before .before .before .before .before .before .before .before .before .before .before .before .before .before .args in
+    let k = c .before .before .before .before .before .before .before .before .before .check .ensures in
+    let fine = c .before .before .before .before .before .before .before .enum-told .given .1 in
+    let w = c .before .before .before .before .write .ensures (k .1 fine refl) in
+    ap (λ (n : ℕ). outcome (TooLong n) (c .before .before .before .before .write .last .1 .1 .1 .0)) (c .count .ensures)
+    ∙ outcome-is (a .records .now) (a .base) (a .memory .now) _ _
+    (answer-long (a .records .now) (a .base) _ (sym (c .before .before .before .before .before .before .before .before .before .before .before .before .room-ok .ensures) ∙ not-false _ (c .before .before .before .before .before .before .before .before .before .before .before .if1 .left)) (sym (k .0) ∙ fine) (omega (arith, w .0)))
+    (w .1 ∙ written-short _ _ _ (omega (arith, w .0)))
 
 returns-3 : tie.Need-returns-3
-returns-3 c = outcome-is _ _ _ _ _ (answer-record _ _ _ (sym (c .before .before .before .before .before .room-ok .ensures) ∙ not-false _ (c .before .before .before .before .if1 .left)) _ (sym (c .before .before .before .check .ensures) ∙ c .before .found .given .1)) refl
+returns-3 c =
+    outcome-is _ _ _ _ _
+    (answer-record _ _ _ (sym (c .before .before .before .before .before .before .room-ok .ensures) ∙ not-false _ (c .before .before .before .before .before .if1 .left)) _ (sym (c .before .before .before .check .ensures .0) ∙ c .before .found .given .1)) refl
 
 returns-4 : tie.Need-returns-4
-returns-4 c = outcome-is _ _ _ _ _ (answer-overlap _ _ _ (sym (c .before .before .before .before .before .room-ok .ensures) ∙ not-false _ (c .before .before .before .before .if1 .left)) _ (sym (c .before .before .before .check .ensures) ∙ c .before .found2 .given .1)) refl
+returns-4 c =
+    outcome-is _ _ _ _ _
+    (answer-overlap _ _ _ (sym (c .before .before .before .before .before .before .room-ok .ensures) ∙ not-false _ (c .before .before .before .before .before .if1 .left)) _ (sym (c .before .before .before .check .ensures .0) ∙ c .before .found2 .given .1)) refl
 
 same-length-2 : tie.Need-same-length-2
 same-length-2 c = search needs
 
 returns-5 : tie.Need-returns-5
-returns-5 c = ap (λ (n : ℕ). outcome (Length n) (c .before .before .before .write .last .1 .1 .0)) (c .before .before .before .write .ensures .0) ∙ outcome-is (now (c .before .before .before .before .before .before .before .before .before .before .before .before .args .records)) (c .before .before .before .before .before .before .before .before .before .before .before .before .args .base) (now (c .before .before .before .before .before .before .before .before .before .before .before .before .args .memory)) _ _ (answer-length (now (c .before .before .before .before .before .before .before .before .before .before .before .before .args .records)) (c .before .before .before .before .before .before .before .before .before .before .before .before .args .base) _ (sym (c .before .before .before .before .before .before .before .before .before .room-ok .ensures) ∙ not-false _ (c .before .before .before .before .before .before .before .before .if1 .left)) (sym (c .before .before .before .before .before .before .before .check .ensures) ∙ c .before .before .before .before .before .enum-told .given .1) (omega (arith, c .before .before .before .write .ensures .0))) (c .before .before .before .write .ensures .1 ∙ written-image _ _ _ (omega (arith, c .before .before .before .write .ensures .0)))
+returns-5 c =
+    let a = c .before .before .before .before .before .before .before .before .before .before .before .before .before .before .args in
+    let k = c .before .before .before .before .before .before .before .before .check .ensures in
+    let fine = c .before .before .before .before .before .before .enum-told .given .1 in
+    let w = c .before .before .before .write .ensures (k .1 fine refl) in
+    ap (λ (n : ℕ). outcome (Length n) (c .before .before .before .write .last .1 .1 .1 .0)) (w .0)
+    ∙ outcome-is (a .records .now) (a .base) (a .memory .now) _ _
+    (answer-length (a .records .now) (a .base) _ (sym (c .before .before .before .before .before .before .before .before .before .before .before .room-ok .ensures) ∙ not-false _ (c .before .before .before .before .before .before .before .before .before .before .if1 .left)) (sym (k .0) ∙ fine) (omega (arith, w .0)))
+    (w .1 ∙ written-image _ _ _ (omega (arith, w .0)))
 
 pub build-spec : {M : Type 1} → statement M
 build-spec =

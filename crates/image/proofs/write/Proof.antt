@@ -1,17 +1,17 @@
-use mathlib.Core.Path.{refl, sym, ap, _∙_}
-use denote.Ref.{now}
+use mathlib.Core.Path.{sym, ap, _∙_}
 use native.Mathlib.Omega.{arith}
 use Prim.Native.Nat.{ℕ, _/_, _≤_}
 use lib.ListN.{length}
+use borrow.Author.Needs.{needs}
 use Rattle.page.specs.Words.{megabytes}
 use Rattle.records.specs.Mappings.{mappings}
 use Rattle.tables.specs.Tables.{imageLength}
-use Rattle.tables.proofs.Places.{image-first}
 use Rattle.image.specs.Image.{spliced, written}
+use Rattle.image.proofs.Splices.{spliced-same}
 use Rattle.image.proofs.Whole.{written-short, written-image}
-use Rattle.image.proofs.Parts.{image-begun, image-done, blank}
+use Rattle.image.proofs.Levels.{level-more}
+use Rattle.image.proofs.Parts.{first-none, image-begun, image-done}
 use Rattle.image.proofs.Nothing.{no-mappings}
-use borrow.Author.Needs.{needs}
 use Rattle.image.proofs.write.Statement.{statement}
 use Rattle.image.proofs.write.Tie as tie
 
@@ -22,19 +22,14 @@ same-length : tie.Need-same-length
 same-length c = search needs
 
 returns : tie.Need-returns
-returns c = let e = no-mappings (c .before .before .before .before .before .before .before .args .records .now) (c .before .before .before .before .if1 .taken) in (c .before .before .write-none .ensures .0 ∙ ap (imageLength megabytes) (sym e), c .before .before .write-none .ensures .1 ∙ ap (λ ms. written ms (c .before .before .before .before .before .before .before .args .base) (c .before .before .before .before .before .before .before .args .out .now)) (sym e))
-
-slice-aggregate-kinds : tie.Need-slice-aggregate-kinds
-slice-aggregate-kinds c = search needs
-
-kinds-requires : tie.Need-kinds-requires
-kinds-requires c κs = (refl, blank 64)
+returns c known =
+    let a = c .before .before .before .before .before .before .before .args in
+    let e = no-mappings (a .records .now) (c .before .before .before .before .if1 .taken) in
+    let n = c .before .before .write-none .ensures in
+    (n .0 ∙ ap (imageLength megabytes) (sym e), n .1 ∙ ap (λ ms. written ms (a .base) (a .out .now)) (sym e))
 
 slice-aggregate-place : tie.Need-slice-aggregate-place
 slice-aggregate-place c = search needs
-
-slice-aggregate-place-2 : tie.Need-slice-aggregate-place-2
-slice-aggregate-place-2 c = search needs
 
 place-requires : tie.Need-place-requires
 place-requires c κs = search needs
@@ -43,7 +38,11 @@ cast-len : tie.Need-cast-len
 cast-len c = search needs
 
 returns-2 : tie.Need-returns-2
-returns-2 c = (c .before .before .place .ensures .ends, sym (written-short (mappings (c .before .before .before .before .before .before .before .before .before .before .before .args .records .now)) (c .before .before .before .before .before .before .before .before .before .before .before .args .base) (c .before .before .before .before .before .before .before .before .before .before .before .args .out .now) (omega (arith, c .before .before .place .ensures .ends, c .if2 .taken))))
+returns-2 c known =
+    let a = c .before .before .before .before .before .before .before .args in
+    let ms = mappings (a .records .now) in
+    let e = c .before .before .place .ensures .ends ms known in
+    (e, sym (written-short ms (a .base) (a .out .now) (omega (arith, c .if2 .taken))))
 
 write-zeros-requires : tie.Need-write-zeros-requires
 write-zeros-requires c κs = search needs
@@ -51,26 +50,37 @@ write-zeros-requires c κs = search needs
 slice-aggregate-write-first : tie.Need-slice-aggregate-write-first
 slice-aggregate-write-first c = search needs
 
-slice-aggregate-write-first-2 : tie.Need-slice-aggregate-write-first-2
-slice-aggregate-write-first-2 c = search needs
-
 write-first-requires : tie.Need-write-first-requires
-write-first-requires c κs = (record { seens = c .before .before .before .before .before .before .before .before .before .before .before .before .before .kinds .kept .1 .0; places = c .before .before .before .before .before .before .before .before .before .place .kept .1 .1 .0; kinds = c .before .before .before .before .before .before .before .before .before .before .before .before .before .kinds .ensures; begins = c .before .before .before .before .before .before .before .before .before .place .ensures .begins }, omega (arith, c .before .before .before .before .before .before .before .before .before .place .ensures .ends, c .before .before .before .before .before .before .before .if2 .left, c .before .before .before .before .before .write-zeros .kept .0, image-first megabytes (mappings (c .before .before .before .before .before .before .before .before .before .before .before .before .before .before .before .before .before .before .args .records .now))))
+write-first-requires c κs = level-more _ _ _ (omega (arith, c .before .before .before .before .before .before .if2 .left, c .before .before .before .before .write-zeros .kept .0)) (c .before .before .before .before .before .before .before .before .place .ensures .level)
 
 slice-aggregate-write-mappings : tie.Need-slice-aggregate-write-mappings
 slice-aggregate-write-mappings c = search needs
 
-slice-aggregate-write-mappings-2 : tie.Need-slice-aggregate-write-mappings-2
-slice-aggregate-write-mappings-2 c = search needs
-
 write-mappings-requires : tie.Need-write-mappings-requires
-write-mappings-requires c κs = search needs
+write-mappings-requires c κs =
+    level-more _ _ _ (omega (arith, c .before .before .before .before .before .before .before .before .before .before .before .if2 .left, c .before .before .before .before .before .before .before .before .before .write-zeros .kept .0, c .before .before .before .before .write-first .kept .1 .1 .0)) (c .before .before .before .before .before .before .before .before .before .before .before .before .before .place .ensures .level)
 
 same-length-2 : tie.Need-same-length-2
 same-length-2 c = search needs
 
 returns-3 : tie.Need-returns-3
-returns-3 c = let room : imageLength megabytes (mappings (c .before .before .before .before .before .before .before .before .before .before .before .before .before .before .before .before .before .before .before .before .before .before .before .before .before .before .before .args .records .now)) ≤ length (c .before .before .before .before .before .before .before .before .before .before .before .before .before .before .before .before .before .before .before .before .before .before .before .before .before .before .before .args .out .now) = omega (arith, c .before .before .before .before .before .before .before .before .before .before .before .before .before .before .before .before .before .before .place .ensures .ends, c .before .before .before .before .before .before .before .before .before .before .before .before .before .before .before .before .if2 .left) in (c .before .before .before .before .before .before .before .before .before .before .before .before .before .before .before .before .before .before .place .ensures .ends, image-done megabytes (mappings (c .before .before .before .before .before .before .before .before .before .before .before .before .before .before .before .before .before .before .before .before .before .before .before .before .before .before .before .args .records .now)) (c .before .before .before .before .before .before .before .before .before .before .before .before .before .before .before .before .before .before .before .before .before .before .before .before .before .before .before .args .base) (c .before .before .before .before .before .before .before .before .before .before .before .before .before .before .before .before .before .before .before .before .before .before .before .before .before .before .before .args .out .now) _ room (c .before .before .write-mappings .ensures (c .before .before .before .before .before .before .before .before .before .before .before .before .before .before .before .before .before .before .before .before .before .before .before .before .before .before .before .args .out .now) (sym (c .before .before .before .before .before .before .before .before .write-first .kept .1 .1 .1 .1 .0 ∙ c .before .before .before .before .before .before .before .before .before .before .before .before .before .before .write-zeros .kept .0)) (image-begun megabytes (mappings (c .before .before .before .before .before .before .before .before .before .before .before .before .before .before .before .before .before .before .before .before .before .before .before .before .before .before .before .args .records .now)) (c .before .before .before .before .before .before .before .before .before .before .before .before .before .before .before .before .before .before .before .before .before .before .before .before .before .before .before .args .base) (c .before .before .before .before .before .before .before .before .before .before .before .before .before .before .before .before .before .before .before .before .before .before .before .before .before .before .before .args .out .now) _ _ room (c .before .before .before .before .before .before .before .before .before .before .before .before .before .before .write-zeros .ensures ∙ ap (λ (n : ℕ). spliced (c .before .before .before .before .before .before .before .before .before .before .before .before .before .before .before .before .before .before .before .before .before .before .before .before .before .before .before .args .out .now) 0 (λ (_ : ℕ). 0) (n / 4)) (c .before .before .before .before .before .before .before .before .before .before .before .before .before .before .before .before .before .before .place .ensures .ends)) (c .before .before .before .before .before .before .before .before .write-first .ensures))) ∙ sym (written-image (mappings (c .before .before .before .before .before .before .before .before .before .before .before .before .before .before .before .before .before .before .before .before .before .before .before .before .before .before .before .args .records .now)) (c .before .before .before .before .before .before .before .before .before .before .before .before .before .before .before .before .before .before .before .before .before .before .before .before .before .before .before .args .base) (c .before .before .before .before .before .before .before .before .before .before .before .before .before .before .before .before .before .before .before .before .before .before .before .before .before .before .before .args .out .now) room))
+returns-3 c known =
+    let a = c .before .before .before .before .before .before .before .before .before .before .before .before .before .before .before .before .before .before .before .before .before .args in
+    let ms = mappings (a .records .now) in
+    let q = c .before .before .before .before .before .before .before .before .before .before .before .before .before .before .before .before .place in
+    let p = q .ensures in
+    let z = c .before .before .before .before .before .before .before .before .before .before .before .before .write-zeros in
+    let f = c .before .before .before .before .before .before .before .write-first in
+    let e = p .ends ms known in
+    let room : imageLength megabytes ms ≤ length (a .out .now) = omega (arith, c .before .before .before .before .before .before .before .before .before .before .before .before .before .before .if2 .left) in
+    let same = f .kept .1 .1 .0 ∙ z .kept .0 in
+    let first = spliced-same (z .last .0) 0 megabytes _ _ (omega (arith, z .kept .0, p .level .room, c .before .before .before .before .before .before .before .before .before .before .before .before .before .before .if2 .left)) (λ k h. first-none ms (q .last .1 .0) (a .base) k h (p .begins ms known)) in (
+      e,
+      image-done megabytes ms (a .base) (a .out .now) _ room
+          (c .before .before .write-mappings .ensures (p .begins ms known) (omega (arith, same)) (a .base) (a .out .now) (sym same)
+          (image-begun megabytes ms (a .base) (a .out .now) _ _ room (z .ensures ∙ ap (λ (n : ℕ). spliced (a .out .now) 0 (λ (_ : ℕ). 0) (n / 4)) e) (f .ensures ∙ first)))
+          ∙ sym (written-image ms (a .base) (a .out .now) room),
+    )
 
 pub write-spec : {M : Type 1} → statement M
 write-spec =
@@ -79,19 +89,14 @@ write-spec =
     write-none-requires
     same-length
     returns
-    slice-aggregate-kinds
-    kinds-requires
     slice-aggregate-place
-    slice-aggregate-place-2
     place-requires
     cast-len
     returns-2
     write-zeros-requires
     slice-aggregate-write-first
-    slice-aggregate-write-first-2
     write-first-requires
     slice-aggregate-write-mappings
-    slice-aggregate-write-mappings-2
     write-mappings-requires
     same-length-2
     returns-3)

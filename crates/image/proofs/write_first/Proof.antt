@@ -1,51 +1,39 @@
 use mathlib.Core.Path.{_≡_, refl, sym, ap, _∙_}
-use mathlib.Core.List.{List, []}
-use denote.Ref.{now}
+use mathlib.Core.List.{List}
 use native.Mathlib.Omega.{arith}
-use borrow.Author.Needs.{needs}
 use Prim.Native.Nat.{ℕ, _*_, _≤_, _-_}
-use lib.ListN.{length}
+use lib.ListN.{length, getD}
 use Rattle.page.specs.Words.{megabytes}
-use Rattle.records.specs.Mappings.{mappings}
 use Rattle.image.specs.Image.{spliced}
-use Rattle.image.specs.Parts.{partWord}
+use Rattle.image.specs.Places.{based}
 use Rattle.image.proofs.Splices.{spliced-none, spliced-next}
-use Rattle.image.proofs.Parts.{first-none}
 use Rattle.image.proofs.write_first.Statement.{statement}
 use Rattle.image.proofs.write_first.Tie as tie
 
 abbrev Inv-loop : tie.InvT-loop
-Inv-loop records base seen starts out₀ k₀ out k = (k ≤ megabytes) × (length out ≡ length out₀) × (out ≡ spliced out₀ 0 (partWord megabytes (mappings records) [] base) k)
+Inv-loop base firsts out₀ k₀ out k =
+    (k ≤ megabytes) × (length out ≡ length out₀) × (out ≡ spliced out₀ 0 (λ (x : ℕ). based base (getD firsts x 0)) k)
 
 abbrev μ-loop : tie.MeasureT-loop
-μ-loop records base seen starts out₀ k₀ out k = megabytes - k
+μ-loop base firsts out₀ k₀ out k = megabytes - k
 
 loop-holds : tie.Need-loop-holds Inv-loop μ-loop
 loop-holds c = (omega arith, refl, sym (spliced-none _ _ _))
 
-table-from-requires : tie.Need-table-from-requires Inv-loop μ-loop
-table-from-requires c κs = (c .before .before .before .before .before .before .pre .0 .seens, omega arith, c .before .before .before .before .before .before .pre .0 .kinds)
-
-cast-s : tie.Need-cast-s Inv-loop μ-loop
-cast-s c = omega arith
-
-mul-s : tie.Need-mul-s Inv-loop μ-loop
-mul-s c = omega arith
-
-shared-slice-read-s : tie.Need-shared-slice-read-s Inv-loop μ-loop
-shared-slice-read-s c = search needs
-
-cast-put-word : tie.Need-cast-put-word Inv-loop μ-loop
-cast-put-word c = omega arith
-
 mul-put-word : tie.Need-mul-put-word Inv-loop μ-loop
 mul-put-word c = omega arith
 
-table-word-requires : tie.Need-table-word-requires Inv-loop μ-loop
-table-word-requires c κs = tt
+mul-based : tie.Need-mul-based Inv-loop μ-loop
+mul-based c = omega arith
+
+shared-slice-read-based : tie.Need-shared-slice-read-based Inv-loop μ-loop
+shared-slice-read-based c = omega (arith, c .before .before .before .before .before .before .pre .words)
+
+based-requires : tie.Need-based-requires Inv-loop μ-loop
+based-requires c κs = tt
 
 put-word-requires : tie.Need-put-word-requires Inv-loop μ-loop
-put-word-requires c κs = omega (arith, c .before .before .before .before .before .before .before .before .before .before .pre .1, c .before .before .before .before .before .loop .inv .1)
+put-word-requires c κs = omega (arith, c .before .before .before .before .before .before .before .pre .room, c .before .before .before .before .loop .inv .1)
 
 add-k : tie.Need-add-k Inv-loop μ-loop
 add-k c = omega arith
@@ -54,13 +42,25 @@ loop-less : tie.Need-loop-less Inv-loop μ-loop
 loop-less c = omega arith
 
 loop-again : tie.Need-loop-again Inv-loop μ-loop
-loop-again c = (omega arith, c .before .before .put-word .kept .0 ∙ c .before .before .before .before .before .before .before .before .loop .inv .1, c .before .before .put-word .ensures ∙ ap (λ (d : List ℕ). spliced d (4 * c .before .before .before .before .before .before .before .before .loop .k) (λ (_ : ℕ). c .before .before .before .table-word .result) 1) (c .before .before .before .before .before .before .before .before .loop .inv .2) ∙ spliced-next (c .before .before .before .before .before .before .before .before .before .before .before .before .before .args .out .now) (c .before .before .before .before .before .before .before .before .loop .k) (c .before .before .before .table-word .result) (partWord megabytes (mappings (c .before .before .before .before .before .before .before .before .before .before .before .before .before .args .records .now)) [] (c .before .before .before .before .before .before .before .before .before .before .before .before .before .args .base)) (omega (arith, c .before .before .before .before .before .before .before .before .before .before .before .before .before .pre .1)) (first-none megabytes (mappings (c .before .before .before .before .before .before .before .before .before .before .before .before .before .args .records .now)) (c .before .before .before .before .before .before .before .before .before .before .before .before .before .args .base) (c .before .before .before .before .before .before .before .before .loop .k) _ _ _ (c .before .before .before .before .before .before .before .loop-test .taken) (c .before .before .before .before .before .before .table-from .ensures) (c .before .before .before .before .before .before .before .before .before .before .before .before .before .pre .0 .begins (c .before .before .before .before .before .before .before .before .loop .k) (c .before .before .before .before .before .before .before .loop-test .taken)) (c .before .before .before .table-word .ensures)))
+loop-again c =
+    let p = c .before .before .put-word in
+    let b = c .before .before .before .based in
+    let l = c .before .before .before .before .before .before .before .loop in
+    let a = c .before .before .before .before .before .before .before .before .before .before .args in (
+      omega arith,
+      p .kept .0 ∙ l .inv .1,
+      p .ensures
+          ∙ ap (λ (d : List ℕ). spliced d (4 * l .k) (λ (_ : ℕ). b .result) 1) (l .inv .2)
+          ∙ spliced-next (a .out .now) (l .k) (b .result) (λ (x : ℕ). based (a .base) (getD (a .firsts .now) x 0)) (omega (arith, c .before .before .before .before .before .before .before .before .before .before .pre .room)) (b .ensures),
+    )
 
 same-length : tie.Need-same-length Inv-loop μ-loop
-same-length c = search needs
+same-length c = c .before .loop .inv .1
 
 returns : tie.Need-returns Inv-loop μ-loop
-returns c = c .before .loop .inv .2 ∙ ap (spliced (c .before .before .before .before .before .before .args .out .now) 0 (partWord megabytes (mappings (c .before .before .before .before .before .before .args .records .now)) [] (c .before .before .before .before .before .before .args .base))) (let e : c .before .loop .k ≡ megabytes = omega arith in e)
+returns c =
+    let l = c .before .loop in
+    l .inv .2 ∙ ap (spliced (c .before .before .before .before .args .out .now) 0 (λ (x : ℕ). based (c .before .before .before .before .args .base) (getD (c .before .before .before .before .args .firsts .now) x 0))) (let e : l .k ≡ megabytes = omega arith in e)
 
 pub write-first-spec : {M : Type 1} → statement M
 write-first-spec =
@@ -69,13 +69,10 @@ write-first-spec =
     Inv-loop
     μ-loop
     loop-holds
-    table-from-requires
-    cast-s
-    mul-s
-    shared-slice-read-s
-    cast-put-word
     mul-put-word
-    table-word-requires
+    mul-based
+    shared-slice-read-based
+    based-requires
     put-word-requires
     add-k
     loop-less

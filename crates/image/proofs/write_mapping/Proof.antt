@@ -1,13 +1,13 @@
-use mathlib.Core.Path.{refl, sym, _∙_}
-use denote.Ref.{now}
+use mathlib.Core.Path.{refl}
 use native.Mathlib.Omega.{arith}
-use Prim.Native.Nat.{_/_}
+use Prim.Native.Nat.{_/_, _^_}
+use borrow.Author.Needs.{needs}
 use Rattle.page.specs.Words.{megabytes}
 use Rattle.records.specs.Mappings.{mappings}
 use Rattle.tables.specs.declared.Table.the-variants.{Fine, Coarse, Absent}
-use Rattle.tables.proofs.Places.{image-first}
-use Rattle.image.proofs.Parts.{mapping-past, mapping-section, mapping-page, mapping-fits}
-use borrow.Author.Needs.{needs}
+use Rattle.tables.specs.Tables.{tableOf, tableStart}
+use Rattle.image.proofs.Levels.{start-even, names-fine, names-coarse, names-none, fine-room, coarse-room}
+use Rattle.image.proofs.Parts.{mapping-past, mapping-section, mapping-page}
 use Rattle.image.proofs.write_mapping.Statement.{statement}
 use Rattle.image.proofs.write_mapping.Tie as tie
 
@@ -15,37 +15,64 @@ mapping-at-requires : tie.Need-mapping-at-requires
 mapping-at-requires c κs = search needs
 
 returns : tie.Need-returns
-returns c = mapping-past (mappings (c .before .before .before .before .before .before .before .before .args .records .now)) (c .before .before .before .before .before .before .before .before .args .base) (c .before .before .before .before .before .before .before .before .args .j) (c .before .before .before .mapping-at .result) (c .before .before .before .mapping-at .ensures) (c .before .before .before .before .before .before .before .before .pre .1) (c .before .before .before .before .before .before .before .before .args .out .now) (c .before .before .before .before .before .before .before .before .pre .2) (c .if1 .taken)
+returns c known room =
+    let m = c .before .before .before .mapping-at in
+    let a = c .before .before .before .before .before .before .before in
+    mapping-past (mappings (a .args .records .now)) (a .args .j) (m .result) (m .ensures) (a .pre .1) (a .args .out .now) room (c .if1 .taken)
 
-table-from-requires : tie.Need-table-from-requires
-table-from-requires c κs = search needs
+cast-f : tie.Need-cast-f
+cast-f c = search needs
 
-cast-s : tie.Need-cast-s
-cast-s c = search needs
+mul-f : tie.Need-mul-f
+mul-f c = search needs
 
-mul-s : tie.Need-mul-s
-mul-s c = search needs
+shared-slice-read-f : tie.Need-shared-slice-read-f
+shared-slice-read-f c = omega (arith, c .before .before .before .before .before .before .before .before .pre .0 .words)
 
-shared-slice-read-s : tie.Need-shared-slice-read-s
-shared-slice-read-s c = search needs
+cast-f-2 : tie.Need-cast-f-2
+cast-f-2 c = omega (arith, c .shared-slice-known3 .given (c .before .before .before .before .mapping-at .result .at .0 / 1048576))
 
-cast-s-2 : tie.Need-cast-s-2
-cast-s-2 c = omega (arith, c .shared-slice-known4 .given (c .before .before .before .before .before .mapping-at .result .at .0 / 1048576))
-
-enum-told : tie.Need-enum-told
-enum-told c = search needs
+sub-write-fine : tie.Need-sub-write-fine
+sub-write-fine c = search needs
 
 write-fine-requires : tie.Need-write-fine-requires
-write-fine-requires c κs = mapping-fits (mappings (c .before .before .before .before .before .before .before .before .before .before .before .before .before .args .records .now)) (c .before .before .before .before .before .before .before .before .before .before .before .before .before .args .base) (c .before .before .before .before .before .before .before .before .before .before .before .before .before .args .j) (c .before .before .before .before .before .before .before .before .mapping-at .result) (c .before .before .before .before .before .before .before .before .mapping-at .ensures) (c .before .before .before .before .before .before .before .before .before .before .before .before .before .pre .1) (c .before .before .before .before .before .before .before .before .before .before .before .before .before .args .out .now) (c .before .before .before .before .before .before .before .before .before .before .before .before .before .pre .2) (c .before .before .before .before .before .before .before .before .mapping-at .result .at .0 / 1048576) (c .before .before .before .before .before .if1 .left) refl Fine (sym (c .before .enum-told .given .1) ∙ c .before .before .before .before .table-from .ensures) _ (c .before .before .before .before .before .before .before .before .before .before .before .before .before .pre .0 .begins (c .before .before .before .before .before .before .before .before .mapping-at .result .at .0 / 1048576) (c .before .before .before .before .before .if1 .left)) (λ z. omega arith) .1
+write-fine-requires c κs =
+    fine-room _ (c .before .before .before .before .before .before .before .before .before .before .args .firsts .now) (c .before .before .before .before .before .before .before .before .before .before .pre .0) (c .before .before .before .before .before .before .mapping-at .result) (c .before .before .before .if1 .left) _ refl (c .before .if2 .taken)
 
-enum-told-2 : tie.Need-enum-told-2
-enum-told-2 c = search needs
+same-length : tie.Need-same-length
+same-length c = search needs
+
+returns-2 : tie.Need-returns-2
+returns-2 c known room =
+    let a = c .before .before .before .before .before .before .before .before .before .before .before .before .before in
+    let ms = mappings (a .args .records .now) in
+    let m = c .before .before .before .before .before .before .before .before .before .mapping-at in
+    let lt = c .before .before .before .before .before .before .if1 .left in
+    let mb = m .result .at .0 / 2 ^ 20 in
+    let n = names-fine (tableOf ms mb) (tableStart megabytes ms mb) _ (start-even ms mb) (known mb lt) (c .before .before .before .before .if2 .taken) in
+    mapping-page ms (a .args .j) (m .result) (m .ensures) (a .pre .1) (a .args .out .now) room mb lt refl Fine (n .0) _ (c .before .before .write-fine .last .0) (n .1) (λ z. omega arith)
+    (c .before .before .write-fine .ensures)
+
+sub-write-coarse : tie.Need-sub-write-coarse
+sub-write-coarse c = search needs
 
 write-coarse-requires : tie.Need-write-coarse-requires
-write-coarse-requires c κs = mapping-fits (mappings (c .before .before .before .before .before .before .before .before .before .before .before .before .before .args .records .now)) (c .before .before .before .before .before .before .before .before .before .before .before .before .before .args .base) (c .before .before .before .before .before .before .before .before .before .before .before .before .before .args .j) (c .before .before .before .before .before .before .before .before .mapping-at .result) (c .before .before .before .before .before .before .before .before .mapping-at .ensures) (c .before .before .before .before .before .before .before .before .before .before .before .before .before .pre .1) (c .before .before .before .before .before .before .before .before .before .before .before .before .before .args .out .now) (c .before .before .before .before .before .before .before .before .before .before .before .before .before .pre .2) (c .before .before .before .before .before .before .before .before .mapping-at .result .at .0 / 1048576) (c .before .before .before .before .before .if1 .left) refl Coarse (sym (c .before .enum-told2 .given .1) ∙ c .before .before .before .before .table-from .ensures) _ (c .before .before .before .before .before .before .before .before .before .before .before .before .before .pre .0 .begins (c .before .before .before .before .before .before .before .before .mapping-at .result .at .0 / 1048576) (c .before .before .before .before .before .if1 .left)) (λ z. omega arith) .1
+write-coarse-requires c κs =
+    coarse-room _ (c .before .before .before .before .before .before .before .before .before .before .before .args .firsts .now) (c .before .before .before .before .before .before .before .before .before .before .before .pre .0) (c .before .before .before .before .before .before .before .mapping-at .result) (c .before .before .before .before .if1 .left) _ refl (c .before .if3 .taken)
 
-enum-told-3 : tie.Need-enum-told-3
-enum-told-3 c = search needs
+same-length-2 : tie.Need-same-length-2
+same-length-2 c = search needs
+
+returns-3 : tie.Need-returns-3
+returns-3 c known room =
+    let a = c .before .before .before .before .before .before .before .before .before .before .before .before .before .before in
+    let ms = mappings (a .args .records .now) in
+    let m = c .before .before .before .before .before .before .before .before .before .before .mapping-at in
+    let lt = c .before .before .before .before .before .before .before .if1 .left in
+    let mb = m .result .at .0 / 2 ^ 20 in
+    let n = names-coarse (tableOf ms mb) (tableStart megabytes ms mb) _ (start-even ms mb) (known mb lt) (c .before .before .before .before .if3 .taken) in
+    mapping-page ms (a .args .j) (m .result) (m .ensures) (a .pre .1) (a .args .out .now) room mb lt refl Coarse (n .0) _ (c .before .before .write-coarse .last .0) (n .1) (λ z. omega arith)
+    (c .before .before .write-coarse .ensures)
 
 cast-put-word : tie.Need-cast-put-word
 cast-put-word c = search needs
@@ -60,25 +87,21 @@ cast-put-word-2 : tie.Need-cast-put-word-2
 cast-put-word-2 c = search needs
 
 put-word-requires : tie.Need-put-word-requires
-put-word-requires c κs = omega (arith, c .before .before .before .before .before .before .before .before .before .before .before .before .before .before .pre .2, c .before .before .before .before .before .before .if1 .left, image-first megabytes (mappings (c .before .before .before .before .before .before .before .before .before .before .before .before .before .before .args .records .now)))
-
-same-length : tie.Need-same-length
-same-length c = search needs
-
-returns-2 : tie.Need-returns-2
-returns-2 c = mapping-page (mappings (c .before .before .before .before .before .before .before .before .before .before .before .before .before .before .before .before .args .records .now)) (c .before .before .before .before .before .before .before .before .before .before .before .before .before .before .before .before .args .base) (c .before .before .before .before .before .before .before .before .before .before .before .before .before .before .before .before .args .j) (c .before .before .before .before .before .before .before .before .before .before .before .mapping-at .result) (c .before .before .before .before .before .before .before .before .before .before .before .mapping-at .ensures) (c .before .before .before .before .before .before .before .before .before .before .before .before .before .before .before .before .pre .1) (c .before .before .before .before .before .before .before .before .before .before .before .before .before .before .before .before .args .out .now) (c .before .before .before .before .before .before .before .before .before .before .before .before .before .before .before .before .pre .2) (c .before .before .before .before .before .before .before .before .before .before .before .mapping-at .result .at .0 / 1048576) (c .before .before .before .before .before .before .before .before .if1 .left) refl Fine (sym (c .before .before .before .before .enum-told .given .1) ∙ c .before .before .before .before .before .before .before .table-from .ensures) _ (c .before .before .write-fine .last .0) (c .before .before .before .before .before .before .before .before .before .before .before .before .before .before .before .before .pre .0 .begins (c .before .before .before .before .before .before .before .before .before .before .before .mapping-at .result .at .0 / 1048576) (c .before .before .before .before .before .before .before .before .if1 .left)) (λ z. omega arith) (c .before .before .write-fine .ensures)
-
-same-length-2 : tie.Need-same-length-2
-same-length-2 c = search needs
-
-returns-3 : tie.Need-returns-3
-returns-3 c = mapping-page (mappings (c .before .before .before .before .before .before .before .before .before .before .before .before .before .before .before .before .args .records .now)) (c .before .before .before .before .before .before .before .before .before .before .before .before .before .before .before .before .args .base) (c .before .before .before .before .before .before .before .before .before .before .before .before .before .before .before .before .args .j) (c .before .before .before .before .before .before .before .before .before .before .before .mapping-at .result) (c .before .before .before .before .before .before .before .before .before .before .before .mapping-at .ensures) (c .before .before .before .before .before .before .before .before .before .before .before .before .before .before .before .before .pre .1) (c .before .before .before .before .before .before .before .before .before .before .before .before .before .before .before .before .args .out .now) (c .before .before .before .before .before .before .before .before .before .before .before .before .before .before .before .before .pre .2) (c .before .before .before .before .before .before .before .before .before .before .before .mapping-at .result .at .0 / 1048576) (c .before .before .before .before .before .before .before .before .if1 .left) refl Coarse (sym (c .before .before .before .before .enum-told2 .given .1) ∙ c .before .before .before .before .before .before .before .table-from .ensures) _ (c .before .before .write-coarse .last .0) (c .before .before .before .before .before .before .before .before .before .before .before .before .before .before .before .before .pre .0 .begins (c .before .before .before .before .before .before .before .before .before .before .before .mapping-at .result .at .0 / 1048576) (c .before .before .before .before .before .before .before .before .if1 .left)) (λ z. omega arith) (c .before .before .write-coarse .ensures)
+put-word-requires c κs = search needs
 
 same-length-3 : tie.Need-same-length-3
 same-length-3 c = search needs
 
 returns-4 : tie.Need-returns-4
-returns-4 c = mapping-section (mappings (c .before .before .before .before .before .before .before .before .before .before .before .before .before .before .before .before .before .args .records .now)) (c .before .before .before .before .before .before .before .before .before .before .before .before .before .before .before .before .before .args .base) (c .before .before .before .before .before .before .before .before .before .before .before .before .before .before .before .before .before .args .j) (c .before .before .before .before .before .before .before .before .before .before .before .before .mapping-at .result) (c .before .before .before .before .before .before .before .before .before .before .before .before .mapping-at .ensures) (c .before .before .before .before .before .before .before .before .before .before .before .before .before .before .before .before .before .pre .1) (c .before .before .before .before .before .before .before .before .before .before .before .before .before .before .before .before .before .args .out .now) (c .before .before .before .before .before .before .before .before .before .before .before .before .before .before .before .before .before .pre .2) (c .before .before .before .before .before .before .before .before .before .before .before .before .mapping-at .result .at .0 / 1048576) (c .before .before .before .before .before .before .before .before .before .if1 .left) refl Absent (sym (c .before .before .before .before .before .enum-told3 .given .1) ∙ c .before .before .before .before .before .before .before .before .table-from .ensures) (c .before .before .before .section-of .result) (c .before .before .put-word .last .0) (c .before .before .before .section-of .ensures) refl (c .before .before .put-word .ensures)
+returns-4 c known room =
+    let a = c .before .before .before .before .before .before .before .before .before .before .before .before .before .before .before in
+    let ms = mappings (a .args .records .now) in
+    let m = c .before .before .before .before .before .before .before .before .before .before .before .mapping-at in
+    let lt = c .before .before .before .before .before .before .before .before .if1 .left in
+    let mb = m .result .at .0 / 2 ^ 20 in
+    mapping-section ms (a .args .j) (m .result) (m .ensures) (a .pre .1) (a .args .out .now) room mb lt refl Absent
+    (names-none (tableOf ms mb) (tableStart megabytes ms mb) _ (start-even ms mb) (known mb lt) (c .before .before .before .before .before .before .if2 .left) (c .before .before .before .before .before .if3 .left))
+    (c .before .before .before .section-of .result) (c .before .before .put-word .last .0) (c .before .before .before .section-of .ensures) refl (c .before .before .put-word .ensures)
 
 pub write-mapping-spec : {M : Type 1} → statement M
 write-mapping-spec =
@@ -86,24 +109,22 @@ write-mapping-spec =
     (tie.spec
     mapping-at-requires
     returns
-    table-from-requires
-    cast-s
-    mul-s
-    shared-slice-read-s
-    cast-s-2
-    enum-told
+    cast-f
+    mul-f
+    shared-slice-read-f
+    cast-f-2
+    sub-write-fine
     write-fine-requires
-    enum-told-2
+    same-length
+    returns-2
+    sub-write-coarse
     write-coarse-requires
-    enum-told-3
+    same-length-2
+    returns-3
     cast-put-word
     mul-put-word
     section-of-requires
     cast-put-word-2
     put-word-requires
-    same-length
-    returns-2
-    same-length-2
-    returns-3
     same-length-3
     returns-4)

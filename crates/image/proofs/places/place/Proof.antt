@@ -1,53 +1,38 @@
-use mathlib.Core.Path.{_≡_, refl, sym, ap, _∙_}
-use denote.Ref.{now}
+use mathlib.Core.Path.{_≡_, refl, sym, _∙_}
 use native.Mathlib.Omega.{arith}
-use borrow.Author.Needs.{needs}
-use Prim.Native.Nat.{ℕ, _+_, _≤_, _<_, _-_}
-use lib.ListN.{length, length-set, getD}
+use Prim.Native.Nat.{_≤_, _-_}
+use lib.ListN.{length, length-set}
+use borrow.Author.Tests.{not-true}
 use Rattle.page.specs.Words.{megabytes}
-use Rattle.records.specs.Mappings.{mappings}
-use Rattle.tables.specs.Tables.{tableSize, tableEnd, tableStart, imageLength}
-use Rattle.tables.proofs.Places.{end-bound, turn-start, turn-end}
-use Rattle.tables.proofs.Notes.{starts-more}
+use Rattle.tables.proofs.Notes.{no-table}
+use Rattle.tables.proofs.Places.{size-le}
+use Rattle.image.proofs.Levels.{Begun, begun-none, begun-skip, begun-more, start-bound, placed}
 use Rattle.image.proofs.places.place.Statement.{statement}
 use Rattle.image.proofs.places.place.Tie as tie
 
 abbrev Inv-loop : tie.InvT-loop
-Inv-loop records seen starts₀ e₀ i₀ starts e i = (i ≤ megabytes) × (e ≡ tableEnd megabytes (mappings records) i) × (length starts ≡ 16) × ((x : ℕ) → x < i → getD starts x 0 ≡ tableStart megabytes (mappings records) x)
+Inv-loop seen firsts₀ e₀ i₀ firsts e i = (i ≤ megabytes) × (length firsts ≡ megabytes) × Begun seen i e firsts
 
 abbrev μ-loop : tie.MeasureT-loop
-μ-loop records seen starts₀ e₀ i₀ starts e i = megabytes - i
+μ-loop seen firsts₀ e₀ i₀ firsts e i = megabytes - i
 
 mul-e : tie.Need-mul-e Inv-loop μ-loop
-mul-e c = search needs
+mul-e c = omega arith
 
 loop-holds : tie.Need-loop-holds Inv-loop μ-loop
-unfolding tableEnd
-loop-holds c = (omega arith, refl, c .before .before .before .pre .1, λ x h. absurd (omega arith))
+loop-holds c = (omega arith, c .before .pre, begun-none _ _)
 
-table-from-requires : tie.Need-table-from-requires Inv-loop μ-loop
-table-from-requires c κs = (c .before .before .before .before .before .pre .0, omega arith, c .before .before .before .before .before .pre .2)
+has-table-requires : tie.Need-has-table-requires Inv-loop μ-loop
+has-table-requires c κs = omega arith
 
-start-after-requires : tie.Need-start-after-requires Inv-loop μ-loop
-start-after-requires c κs = tt
+cast-firsts : tie.Need-cast-firsts Inv-loop μ-loop
+cast-firsts c = omega arith
 
-cast-s : tie.Need-cast-s Inv-loop μ-loop
-cast-s c = omega (arith, end-bound megabytes (mappings (c .before .before .before .before .before .before .before .args .records .now)) (c .before .before .before .loop .i + 1), turn-end megabytes (mappings (c .before .before .before .before .before .before .before .args .records .now)) (c .before .before .before .loop .i) (c .start-after .result) (tableSize (c .before .table-from .result)) _ (c .before .table-from .ensures) (turn-start megabytes (mappings (c .before .before .before .before .before .before .before .args .records .now)) (c .before .before .before .loop .i) _ _ _ (c .before .table-from .ensures) (c .before .before .before .loop .inv .1) (c .start-after .ensures)) refl)
+mul-firsts : tie.Need-mul-firsts Inv-loop μ-loop
+mul-firsts c = omega arith
 
-cast-starts : tie.Need-cast-starts Inv-loop μ-loop
-cast-starts c = omega arith
-
-mul-starts : tie.Need-mul-starts Inv-loop μ-loop
-mul-starts c = omega arith
-
-slice-write-starts : tie.Need-slice-write-starts Inv-loop μ-loop
-slice-write-starts c = omega arith
-
-table-size-requires : tie.Need-table-size-requires Inv-loop μ-loop
-table-size-requires c κs = tt
-
-add-e : tie.Need-add-e Inv-loop μ-loop
-add-e c = omega (arith, end-bound megabytes (mappings (c .before .before .before .before .before .before .before .before .args .records .now)) (c .before .before .before .before .loop .i + 1), turn-end megabytes (mappings (c .before .before .before .before .before .before .before .before .args .records .now)) (c .before .before .before .before .loop .i) _ _ _ (c .before .before .table-from .ensures) (turn-start megabytes (mappings (c .before .before .before .before .before .before .before .before .args .records .now)) (c .before .before .before .before .loop .i) _ _ _ (c .before .before .table-from .ensures) (c .before .before .before .before .loop .inv .1) (c .before .start-after .ensures)) (c .table-size .ensures))
+slice-write-firsts : tie.Need-slice-write-firsts Inv-loop μ-loop
+slice-write-firsts c = omega (arith, c .before .before .before .loop .inv .1)
 
 add-i : tie.Need-add-i Inv-loop μ-loop
 add-i c = omega arith
@@ -56,14 +41,74 @@ loop-less : tie.Need-loop-less Inv-loop μ-loop
 loop-less c = omega arith
 
 loop-again : tie.Need-loop-again Inv-loop μ-loop
-loop-again c = (omega arith, turn-end megabytes (mappings (c .before .before .before .before .before .before .before .before .args .records .now)) (c .before .before .before .before .loop .i) _ _ _ (c .before .before .table-from .ensures) (turn-start megabytes (mappings (c .before .before .before .before .before .before .before .before .args .records .now)) (c .before .before .before .before .loop .i) _ _ _ (c .before .before .table-from .ensures) (c .before .before .before .before .loop .inv .1) (c .before .start-after .ensures)) (c .table-size .ensures), simp length-set (c .before .before .before .before .loop .inv .2), starts-more megabytes (mappings (c .before .before .before .before .before .before .before .before .args .records .now)) (c .before .before .before .before .loop .starts) (c .before .before .before .before .loop .i) (c .before .start-after .result) (omega (arith, c .before .before .before .before .loop .inv .2)) (turn-start megabytes (mappings (c .before .before .before .before .before .before .before .before .args .records .now)) (c .before .before .before .before .loop .i) _ _ _ (c .before .before .table-from .ensures) (c .before .before .before .before .loop .inv .1) (c .before .start-after .ensures)) (c .before .before .before .before .loop .inv .3))
+loop-again c =
+    let l = c .before .before .before .loop in (
+      omega arith,
+      simp length-set (l .inv .1),
+      begun-skip (c .before .before .before .before .before .args .seen .now) (l .i) (l .e) (l .firsts) (l .inv .2) (c .before .before .loop-test .taken) (l .inv .1)
+          (sym (no-table (c .before .before .before .before .before .args .seen .now) (l .i) (sym (c .before .has-table .ensures) ∙ not-true _ (c .if1 .taken)))),
+    )
+
+table-by-requires : tie.Need-table-by-requires Inv-loop μ-loop
+table-by-requires c κs = omega arith
+
+start-after-requires : tie.Need-start-after-requires Inv-loop μ-loop
+start-after-requires c κs = tt
+
+cast-s : tie.Need-cast-s Inv-loop μ-loop
+cast-s c =
+    let l = c .before .before .before .before .before .loop in
+    let s = c .start-after in
+    omega (arith, start-bound (c .before .before .before .before .before .before .before .args .seen .now) (l .i) (l .e) (l .firsts) (l .inv .2) (c .before .before .before .before .loop-test .taken) (l .inv .1) _ (s .result) _ _ (c .before .table-by .ensures) (s .ensures) refl refl)
+
+table-word-requires : tie.Need-table-word-requires Inv-loop μ-loop
+table-word-requires c κs =
+    let l = c .before .before .before .before .before .loop in
+    let s = c .start-after in
+    omega (arith, start-bound (c .before .before .before .before .before .before .before .args .seen .now) (l .i) (l .e) (l .firsts) (l .inv .2) (c .before .before .before .before .loop-test .taken) (l .inv .1) _ (s .result) _ _ (c .before .table-by .ensures) (s .ensures) refl refl)
+
+cast-firsts-2 : tie.Need-cast-firsts-2 Inv-loop μ-loop
+cast-firsts-2 c = omega arith
+
+mul-firsts-2 : tie.Need-mul-firsts-2 Inv-loop μ-loop
+mul-firsts-2 c = omega arith
+
+slice-write-firsts-2 : tie.Need-slice-write-firsts-2 Inv-loop μ-loop
+slice-write-firsts-2 c = omega (arith, c .before .before .before .before .before .before .loop .inv .1)
+
+table-size-requires : tie.Need-table-size-requires Inv-loop μ-loop
+table-size-requires c κs = tt
+
+add-e : tie.Need-add-e Inv-loop μ-loop
+add-e c =
+    let l = c .before .before .before .before .before .before .before .loop in
+    let s = c .before .before .start-after in
+    let t = c .before .before .before .table-by in
+    omega (arith, start-bound (c .before .before .before .before .before .before .before .before .before .args .seen .now) (l .i) (l .e) (l .firsts) (l .inv .2) (c .before .before .before .before .before .before .loop-test .taken) (l .inv .1) _ (s .result) _ _ (t .ensures) (s .ensures) refl refl, c .table-size .ensures, size-le (t .result))
+
+add-i-2 : tie.Need-add-i-2 Inv-loop μ-loop
+add-i-2 c = omega arith
+
+loop-less-2 : tie.Need-loop-less-2 Inv-loop μ-loop
+loop-less-2 c = omega arith
+
+loop-again-2 : tie.Need-loop-again-2 Inv-loop μ-loop
+loop-again-2 c =
+    let l = c .before .before .before .before .before .before .before .loop in
+    let s = c .before .before .start-after in (
+      omega arith,
+      simp length-set (l .inv .1),
+      begun-more (c .before .before .before .before .before .before .before .before .before .args .seen .now) (l .i) (l .e) (l .firsts) (l .inv .2) (c .before .before .before .before .before .before .loop-test .taken) (l .inv .1) (c .before .before .before .table-by .result) (s .result) (c .before .table-word .result) (c .table-size .result)
+          (c .before .before .before .table-by .ensures) (s .ensures) (c .before .table-word .ensures) (c .table-size .ensures),
+    )
 
 same-length : tie.Need-same-length Inv-loop μ-loop
-same-length c = c .before .loop .inv .2 ∙ sym (c .before .before .before .before .before .pre .1)
+same-length c = c .before .loop .inv .1 ∙ sym (c .before .before .before .pre)
 
 returns : tie.Need-returns Inv-loop μ-loop
-unfolding imageLength
-returns c = record { ends = c .before .loop .inv .1 ∙ ap (tableEnd megabytes (mappings (c .before .before .before .before .before .args .records .now))) (let e : c .before .loop .i ≡ megabytes = omega arith in e); begins = λ x h. c .before .loop .inv .3 x (omega arith) }
+returns c =
+    let l = c .before .loop in
+    placed (c .before .before .before .args .seen .now) (l .i) (l .e) (l .firsts) (omega arith) (l .inv .1) (l .inv .2)
 
 pub place-spec : {M : Type 1} → statement M
 place-spec =
@@ -73,16 +118,24 @@ place-spec =
     μ-loop
     mul-e
     loop-holds
-    table-from-requires
-    start-after-requires
-    cast-s
-    cast-starts
-    mul-starts
-    slice-write-starts
-    table-size-requires
-    add-e
+    has-table-requires
+    cast-firsts
+    mul-firsts
+    slice-write-firsts
     add-i
     loop-less
     loop-again
+    table-by-requires
+    start-after-requires
+    cast-s
+    table-word-requires
+    cast-firsts-2
+    mul-firsts-2
+    slice-write-firsts-2
+    table-size-requires
+    add-e
+    add-i-2
+    loop-less-2
+    loop-again-2
     same-length
     returns)
