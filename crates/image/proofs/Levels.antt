@@ -6,7 +6,6 @@ use Prim.Native.Nat.{ℕ, _+_, _*_, _-_, _/_, _%_, _^_, _≤_, _<_}
 use native.Mathlib.Omega.{arith}
 use native.Mathlib.Decide.{ℕ-discrete}
 use borrow.Author.Tests.{eq-eqb, ne-eqb}
-use lib.Dec.{eqb}
 use lib.ListN.{length, getD, set}
 use lib.Seq.{getD-set-same, getD-set-other}
 use Rattle.page.specs.Low.{upper}
@@ -23,6 +22,7 @@ use Rattle.tables.specs.Kinds.{Kinds, tableBy}
 use Rattle.tables.proofs.Notes.{by-kinds}
 use Rattle.tables.proofs.Places.{start-ge, start-le, start-4, size-le, size-4, end-4, turn-start, turn-end}
 use Rattle.words.specs.Words.{firstBy, wordIn, wordsIn}
+use Rattle.image.proofs.Runs.{own-words}
 use Rattle.image.specs.Places.{based, Inside, Level, Placed}
 
 -- the tables of the megabytes below i are placed, and the last one ends at e
@@ -68,9 +68,6 @@ set-more P l i w lt p f x h = elim (ℕ-discrete x i) [
 
 module _ (seen : List Bool) (i e : ℕ) (firsts : List ℕ) (b : Begun seen i e firsts) (lt : i < megabytes) (room : length firsts ≡ megabytes) where
   module _ (t : Table) (s w z : ℕ) (p : t ≡ tableBy seen i) (q : s ≡ startAfter t e) (v : w ≡ firstBy t s Nobody) (r : z ≡ tableSize t) where
-    pub start-bound : s ≤ 4 * megabytes + 8192 * i + 4095
-    start-bound = omega (arith, start-le t e, b .high)
-
     pub begun-more : Begun seen (i + 1) (s + z) (set firsts i w)
     begun-more =
         let even : s % 4 ≡ 0 = ap (λ (x : ℕ). x % 4) q ∙ start-4 t e (b .even) in
@@ -165,15 +162,11 @@ module _ (n : ℕ) (firsts : List ℕ) (l : Level n firsts) (m : Mapping) (lt : 
   inside = subst (Inside n) (sym e) (l .tables (m .at .0 / 2 ^ 20) lt)
 
   pub fine-room : f % 4 ≡ 3 → f - 3 + 4 * (wordIn Fine m + wordsIn Fine (m .at .0 / 2 ^ 20) m) ≤ n
-  unfolding wordsIn
   fine-room h =
-      let w : wordsIn Fine (m .at .0 / 2 ^ 20) m ≡ 2 ^ lowBits (m .kind) / 2 ^ 10 =
-      pick-yes (eqb (m .at .0 / 2 ^ 20) (m .at .0 / 2 ^ 20)) _ 0 (eq-eqb (m .at .0 / 2 ^ 20) (m .at .0 / 2 ^ 20) refl) in
+      let w = own-words Fine m in
       omega (arith, inside .fine h, words-fine (m .kind) (m .at .0))
 
   pub coarse-room : f % 4 ≡ 1 → f - 1 + 4 * (wordIn Coarse m + wordsIn Coarse (m .at .0 / 2 ^ 20) m) ≤ n
-  unfolding wordsIn
   coarse-room h =
-      let w : wordsIn Coarse (m .at .0 / 2 ^ 20) m ≡ 2 ^ lowBits (m .kind) / 2 ^ 12 =
-      pick-yes (eqb (m .at .0 / 2 ^ 20) (m .at .0 / 2 ^ 20)) _ 0 (eq-eqb (m .at .0 / 2 ^ 20) (m .at .0 / 2 ^ 20) refl) in
+      let w = own-words Coarse m in
       omega (arith, inside .coarse h, words-coarse (m .kind) (m .at .0))

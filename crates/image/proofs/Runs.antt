@@ -1,46 +1,68 @@
 -- The words of a mapping, as runs that rise by a step. Assumes nothing.
-use mathlib.Core.Path.{_≡_, refl, sym, ap, _∙_, subst}
+use mathlib.Core.Path.{_≡_, refl, sym, ap, ap₂, _∙_, subst}
 use mathlib.Core.List.{List}
-use Prim.Native.Nat.{ℕ, _+_, _*_, _/_, _%_, _^_, _≤_, _<_}
+use Prim.Native.Nat.{ℕ, _+_, _*_, _-_, _/_, _%_, _^_, _≤_, _<_}
 use native.Mathlib.Omega.{arith}
 use borrow.Author.Tests.{eq-eqb}
-use lib.Pow.{low}
+use native.Mathlib.Nat.{mul-assoc, add-assoc, add-mul, mul-lt-mul-of-pos-right}
+use lib.Dec.{lit≤}
+use lib.Pow.{low, pow-pos, shl-shr}
 use lib.ListN.{length}
 use Rattle.page.specs.Low.{upper, joined}
 use Rattle.page.specs.Words.{lowBits, typeOf}
 use Rattle.page.specs.declared.Kind.{Kind}
 use Rattle.page.specs.declared.Kind.the-variants.{Section, Large, Small, Tiny}
 use Rattle.page.proofs.Picks.{pick-yes}
+use Rattle.page.proofs.Lower.{joined-high}
+use Rattle.page.proofs.Slot.{lowBits-ge, lowBits-le}
 use Rattle.records.specs.declared.Mapping.{Mapping}
 use Rattle.records.specs.Mappings.{byteOf}
 use Rattle.tables.specs.declared.Table.{Table}
 use Rattle.tables.specs.declared.Table.the-variants.{Fine, Coarse}
 use Rattle.words.specs.Words.{writtenAs, pageWord, stepBits, addressOf, wordIn, wordsIn}
+use Rattle.words.proofs.Regions.{power, whole-words, whole-start}
 use Rattle.image.specs.Image.{spliced}
 use Rattle.image.proofs.Splices.{spliced-same}
 
-cut : (n hi lo x : ℕ) → x ≡ hi * 2 ^ n + lo → lo < 2 ^ n → x % 2 ^ n ≡ lo
-cut n hi lo x e h = ap (λ (y : ℕ). y % 2 ^ n) e ∙ low hi n h
+whole-up : (s q : ℕ) → upper s (q * 2 ^ s) ≡ q * 2 ^ s
+unfolding upper
+whole-up s q = ap (λ (k : ℕ). k * 2 ^ s) (shl-shr q s)
 
--- the part of a page that a word stands for, in a fine table and in a coarse one
+-- the part of a page that word y of its region stands for, where a word stands for 2^s addresses
+module _ (s n to a y : ℕ) (sn : s ≤ n) (n20 : n ≤ 20) (h : y < 2 ^ n / 2 ^ s) where
+  abbrev x : ℕ
+  x = a / 2 ^ 20 * 2 ^ 20 + (upper n (a % 2 ^ 20) / 2 ^ s + y) * 2 ^ s
+
+  short : y * 2 ^ s < 2 ^ n
+  short = subst (λ (k : ℕ). y * 2 ^ s < k) (whole-words s n sn) (mul-lt-mul-of-pos-right h (pow-pos s))
+
+  parts : x ≡ (a / 2 ^ 20 * 2 ^ (20 - n) + a % 2 ^ 20 / 2 ^ n) * 2 ^ n + y * 2 ^ s
+  unfolding upper
+  parts =
+      ap₂ (λ (b c : ℕ). b + c)
+      (ap (λ (k : ℕ). a / 2 ^ 20 * k) (power n 20 n20) ∙ sym (mul-assoc (a / 2 ^ 20) (2 ^ (20 - n)) (2 ^ n)))
+      (add-mul (upper n (a % 2 ^ 20) / 2 ^ s) y (2 ^ s) ∙ ap (λ (k : ℕ). k + y * 2 ^ s) (whole-start s n (a % 2 ^ 20) sn))
+      ∙ sym (add-assoc (a / 2 ^ 20 * 2 ^ (20 - n) * 2 ^ n) (a % 2 ^ 20 / 2 ^ n * 2 ^ n) (y * 2 ^ s))
+      ∙ ap (λ (k : ℕ). k + y * 2 ^ s) (sym (add-mul (a / 2 ^ 20 * 2 ^ (20 - n)) (a % 2 ^ 20 / 2 ^ n) (2 ^ n)))
+
+  pub part : upper n to + y * 2 ^ s ≡ upper s (joined n to x)
+  unfolding joined
+  part =
+      let e : upper n to + y * 2 ^ s ≡ (upper n to / 2 ^ s + y) * 2 ^ s =
+      ap (λ (k : ℕ). k + y * 2 ^ s) (sym (whole-start s n to sn)) ∙ sym (add-mul (upper n to / 2 ^ s) y (2 ^ s)) in
+      let inner : x % 2 ^ n ≡ y * 2 ^ s = ap (λ (z : ℕ). z % 2 ^ n) parts ∙ low (a / 2 ^ 20 * 2 ^ (20 - n) + a % 2 ^ 20 / 2 ^ n) n short in
+      e ∙ sym (whole-up s (upper n to / 2 ^ s + y)) ∙ ap (upper s) (sym e ∙ ap (λ (k : ℕ). upper n to + k) (sym inner))
+
+-- a page that is written as it is has equal words
+alike : (n to b : ℕ) → upper n to ≡ upper n (joined n to b)
+unfolding upper
+alike n to b = ap (λ (k : ℕ). k * 2 ^ n) (sym (joined-high n to b))
+
+-- the words of a page in a fine table rise by 1,024, as they are those of its tiny pages
 fine-part : (k : Kind) (to a y : ℕ) → y < 2 ^ lowBits k / 2 ^ 10 → upper (lowBits k) to + 1024 * y ≡ upper 10 (joined (lowBits k) to (a / 2 ^ 20 * 2 ^ 20 + (upper (lowBits k) (a % 2 ^ 20) / 2 ^ 10 + y) * 2 ^ 10))
-unfolding upper joined
-fine-part Section to a y h =
-    let z : a % 2 ^ 20 / 2 ^ 20 * 2 ^ 20 / 2 ^ 10 ≡ a % 2 ^ 20 / 2 ^ 20 * 1024 = omega arith in
-    let e : (a / 2 ^ 20 * 2 ^ 20 + (a % 2 ^ 20 / 2 ^ 20 * 2 ^ 20 / 2 ^ 10 + y) * 2 ^ 10) % 2 ^ 20 ≡ 1024 * y = cut 20 (a / 2 ^ 20 + a % 2 ^ 20 / 2 ^ 20) (1024 * y) (a / 2 ^ 20 * 2 ^ 20 + (a % 2 ^ 20 / 2 ^ 20 * 2 ^ 20 / 2 ^ 10 + y) * 2 ^ 10) (omega arith) (omega arith) in
-    omega (arith, e)
-fine-part Large to a y h =
-    let z : a % 2 ^ 20 / 2 ^ 16 * 2 ^ 16 / 2 ^ 10 ≡ a % 2 ^ 20 / 2 ^ 16 * 64 = omega arith in
-    let e : (a / 2 ^ 20 * 2 ^ 20 + (a % 2 ^ 20 / 2 ^ 16 * 2 ^ 16 / 2 ^ 10 + y) * 2 ^ 10) % 2 ^ 16 ≡ 1024 * y = cut 16 (a / 2 ^ 20 * 16 + a % 2 ^ 20 / 2 ^ 16) (1024 * y) (a / 2 ^ 20 * 2 ^ 20 + (a % 2 ^ 20 / 2 ^ 16 * 2 ^ 16 / 2 ^ 10 + y) * 2 ^ 10) (omega arith) (omega arith) in
-    omega (arith, e)
-fine-part Small to a y h =
-    let z : a % 2 ^ 20 / 2 ^ 12 * 2 ^ 12 / 2 ^ 10 ≡ a % 2 ^ 20 / 2 ^ 12 * 4 = omega arith in
-    let e : (a / 2 ^ 20 * 2 ^ 20 + (a % 2 ^ 20 / 2 ^ 12 * 2 ^ 12 / 2 ^ 10 + y) * 2 ^ 10) % 2 ^ 12 ≡ 1024 * y = cut 12 (a / 2 ^ 20 * 256 + a % 2 ^ 20 / 2 ^ 12) (1024 * y) (a / 2 ^ 20 * 2 ^ 20 + (a % 2 ^ 20 / 2 ^ 12 * 2 ^ 12 / 2 ^ 10 + y) * 2 ^ 10) (omega arith) (omega arith) in
-    omega (arith, e)
-fine-part Tiny to a y h =
-    let z : a % 2 ^ 20 / 2 ^ 10 * 2 ^ 10 / 2 ^ 10 ≡ a % 2 ^ 20 / 2 ^ 10 * 1 = omega arith in
-    let e : (a / 2 ^ 20 * 2 ^ 20 + (a % 2 ^ 20 / 2 ^ 10 * 2 ^ 10 / 2 ^ 10 + y) * 2 ^ 10) % 2 ^ 10 ≡ 1024 * y = cut 10 (a / 2 ^ 20 * 1024 + a % 2 ^ 20 / 2 ^ 10) (1024 * y) (a / 2 ^ 20 * 2 ^ 20 + (a % 2 ^ 20 / 2 ^ 10 * 2 ^ 10 / 2 ^ 10 + y) * 2 ^ 10) (omega arith) (omega arith) in
-    omega (arith, e)
+fine-part k to a y h =
+    (let z : upper (lowBits k) to + 1024 * y ≡ upper (lowBits k) to + y * 2 ^ 10 = omega arith in z)
+    ∙ part 10 (lowBits k) to a y (lowBits-ge k) (lowBits-le k) h
 
 -- by how much a page's words rise in a coarse table
 abbrev pub coarseRise : Kind → ℕ
@@ -51,23 +73,14 @@ coarseRise Tiny = 0
 
 coarse-part : (k : Kind) (to a y : ℕ) → y < 2 ^ lowBits k / 2 ^ 12
     → upper (lowBits k) to + coarseRise k * y ≡ upper (lowBits (writtenAs Coarse k)) (joined (lowBits k) to (a / 2 ^ 20 * 2 ^ 20 + (upper (lowBits k) (a % 2 ^ 20) / 2 ^ 12 + y) * 2 ^ 12))
-unfolding upper joined
 coarse-part Section to a y h =
-    let z : a % 2 ^ 20 / 2 ^ 20 * 2 ^ 20 / 2 ^ 12 ≡ a % 2 ^ 20 / 2 ^ 20 * 256 = omega arith in
-    let e : (a / 2 ^ 20 * 2 ^ 20 + (a % 2 ^ 20 / 2 ^ 20 * 2 ^ 20 / 2 ^ 12 + y) * 2 ^ 12) % 2 ^ 20 ≡ 4096 * y = cut 20 (a / 2 ^ 20 + a % 2 ^ 20 / 2 ^ 20) (4096 * y) (a / 2 ^ 20 * 2 ^ 20 + (a % 2 ^ 20 / 2 ^ 20 * 2 ^ 20 / 2 ^ 12 + y) * 2 ^ 12) (omega arith) (omega arith) in
-    omega (arith, e)
-coarse-part Large to a y h =
-    let z : a % 2 ^ 20 / 2 ^ 16 * 2 ^ 16 / 2 ^ 12 ≡ a % 2 ^ 20 / 2 ^ 16 * 16 = omega arith in
-    let e : (a / 2 ^ 20 * 2 ^ 20 + (a % 2 ^ 20 / 2 ^ 16 * 2 ^ 16 / 2 ^ 12 + y) * 2 ^ 12) % 2 ^ 16 ≡ 4096 * y = cut 16 (a / 2 ^ 20 * 16 + a % 2 ^ 20 / 2 ^ 16) (4096 * y) (a / 2 ^ 20 * 2 ^ 20 + (a % 2 ^ 20 / 2 ^ 16 * 2 ^ 16 / 2 ^ 12 + y) * 2 ^ 12) (omega arith) (omega arith) in
-    omega (arith, e)
-coarse-part Small to a y h =
-    let z : a % 2 ^ 20 / 2 ^ 12 * 2 ^ 12 / 2 ^ 12 ≡ a % 2 ^ 20 / 2 ^ 12 * 1 = omega arith in
-    let e : (a / 2 ^ 20 * 2 ^ 20 + (a % 2 ^ 20 / 2 ^ 12 * 2 ^ 12 / 2 ^ 12 + y) * 2 ^ 12) % 2 ^ 12 ≡ 4096 * y = cut 12 (a / 2 ^ 20 * 256 + a % 2 ^ 20 / 2 ^ 12) (4096 * y) (a / 2 ^ 20 * 2 ^ 20 + (a % 2 ^ 20 / 2 ^ 12 * 2 ^ 12 / 2 ^ 12 + y) * 2 ^ 12) (omega arith) (omega arith) in
-    omega (arith, e)
+    (let z : upper 20 to + 4096 * y ≡ upper 20 to + y * 2 ^ 12 = omega arith in z) ∙ part 12 20 to a y (lit≤ tt) (lit≤ tt) h
+coarse-part Large to a y h = (let z : upper 16 to + 0 * y ≡ upper 16 to = omega arith in z) ∙ alike 16 to _
+coarse-part Small to a y h = (let z : upper 12 to + 0 * y ≡ upper 12 to = omega arith in z) ∙ alike 12 to _
 coarse-part Tiny to a y h = absurd (omega arith)
 
 -- how many words a mapping has in its own megabyte
-own-words : (t : Table) (m : Mapping) → wordsIn t (m .at .0 / 2 ^ 20) m ≡ 2 ^ lowBits (m .kind) / 2 ^ stepBits t
+pub own-words : (t : Table) (m : Mapping) → wordsIn t (m .at .0 / 2 ^ 20) m ≡ 2 ^ lowBits (m .kind) / 2 ^ stepBits t
 unfolding wordsIn
 own-words t m = pick-yes _ _ _ (eq-eqb (m .at .0 / 2 ^ 20) (m .at .0 / 2 ^ 20) refl)
 

@@ -1,4 +1,4 @@
--- The tiny pages that are taken, as bits, 64 to a word.
+-- The tiny pages that earlier records have, as bits, 64 to a word: how an overlap is found (01, "When the unit says no", 11).
 use Rattle.page.specs.Ground.{ℕ, _+_, _*_, _/_, _%_, _^_, _<_, _≤_, _≡_, Bool, true, false, List, getD}
 use Rattle.page.specs.Words.{virtual}
 use Rattle.records.specs.declared.Mapping.{Mapping}

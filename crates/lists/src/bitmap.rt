@@ -29,10 +29,10 @@ fn sixteen_full(c: &mut [u64], w: usize)
     requires { ⌜ (length (now c) ≡ 256) × (w + 16 ≤ 256) ⌝ }
     ensures { λ r. ⌜ Full (now (c .entry)) (64 * w) 1024 (now (c .exit)) ⌝ }
 {
-    let mut j = 0;
-    while j < 16 {
-        c[w + j] = ALL;
-        j += 1;
+    let mut k = 0;
+    while k < 16 {
+        c[w + k] = ALL;
+        k += 1;
     }
 }
 

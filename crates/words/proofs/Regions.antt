@@ -40,7 +40,7 @@ page-ends n x y e =
     (omega arith, omega arith)
 
 -- a power of two and a smaller one
-power : (s n : ℕ) → s ≤ n → 2 ^ n ≡ 2 ^ (n - s) * 2 ^ s
+pub power : (s n : ℕ) → s ≤ n → 2 ^ n ≡ 2 ^ (n - s) * 2 ^ s
 power s n h = ap (λ (k : ℕ). 2 ^ k) (let e : n ≡ n - s + s = omega arith in e) ∙ pow-add 2 (n - s) s
 
 pub whole-words : (s n : ℕ) → s ≤ n → 2 ^ n / 2 ^ s * 2 ^ s ≡ 2 ^ n

@@ -51,14 +51,20 @@ slice-aggregate-write-first : tie.Need-slice-aggregate-write-first
 slice-aggregate-write-first c = search needs
 
 write-first-requires : tie.Need-write-first-requires
-write-first-requires c κs = level-more _ _ _ (omega (arith, c .before .before .before .before .before .before .if2 .left, c .before .before .before .before .write-zeros .kept .0)) (c .before .before .before .before .before .before .before .before .place .ensures .level)
+write-first-requires c κs =
+    let zeros = c .before .before .before .before .write-zeros in
+    let room = c .before .before .before .before .before .before .if2 .left in
+    level-more _ _ _ (omega (arith, zeros .kept .0)) (c .before .before .before .before .before .before .before .before .place .ensures .level)
 
 slice-aggregate-write-mappings : tie.Need-slice-aggregate-write-mappings
 slice-aggregate-write-mappings c = search needs
 
 write-mappings-requires : tie.Need-write-mappings-requires
 write-mappings-requires c κs =
-    level-more _ _ _ (omega (arith, c .before .before .before .before .before .before .before .before .before .before .before .if2 .left, c .before .before .before .before .before .before .before .before .before .write-zeros .kept .0, c .before .before .before .before .write-first .kept .1 .1 .0)) (c .before .before .before .before .before .before .before .before .before .before .before .before .before .place .ensures .level)
+    let first = c .before .before .before .before .write-first in
+    let zeros = c .before .before .before .before .before .before .before .before .before .write-zeros in
+    let room = c .before .before .before .before .before .before .before .before .before .before .before .if2 .left in
+    level-more _ _ _ (omega (arith, zeros .kept .0, first .kept .1 .1 .0)) (c .before .before .before .before .before .before .before .before .before .before .before .before .before .place .ensures .level)
 
 same-length-2 : tie.Need-same-length-2
 same-length-2 c = search needs
@@ -72,9 +78,11 @@ returns-3 c known =
     let z = c .before .before .before .before .before .before .before .before .before .before .before .before .write-zeros in
     let f = c .before .before .before .before .before .before .before .write-first in
     let e = p .ends ms known in
-    let room : imageLength megabytes ms ≤ length (a .out .now) = omega (arith, c .before .before .before .before .before .before .before .before .before .before .before .before .before .before .if2 .left) in
+    let fits = c .before .before .before .before .before .before .before .before .before .before .before .before .before .before .if2 .left in
+    let room : imageLength megabytes ms ≤ length (a .out .now) = omega arith in
     let same = f .kept .1 .1 .0 ∙ z .kept .0 in
-    let first = spliced-same (z .last .0) 0 megabytes _ _ (omega (arith, z .kept .0, p .level .room, c .before .before .before .before .before .before .before .before .before .before .before .before .before .before .if2 .left)) (λ k h. first-none ms (q .last .1 .0) (a .base) k h (p .begins ms known)) in (
+    let first =
+    spliced-same (z .last .0) 0 megabytes _ _ (omega (arith, z .kept .0, p .level .room)) (λ k h. first-none ms (q .last .1 .0) (a .base) k h (p .begins ms known)) in (
       e,
       image-done megabytes ms (a .base) (a .out .now) _ room
           (c .before .before .write-mappings .ensures (p .begins ms known) (omega (arith, same)) (a .base) (a .out .now) (sym same)

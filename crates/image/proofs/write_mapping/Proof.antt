@@ -37,7 +37,8 @@ sub-write-fine c = search needs
 
 write-fine-requires : tie.Need-write-fine-requires
 write-fine-requires c κs =
-    fine-room _ (c .before .before .before .before .before .before .before .before .before .before .args .firsts .now) (c .before .before .before .before .before .before .before .before .before .before .pre .0) (c .before .before .before .before .before .before .mapping-at .result) (c .before .before .before .if1 .left) _ refl (c .before .if2 .taken)
+    let a = c .before .before .before .before .before .before .before .before .before .before in
+    fine-room _ (a .args .firsts .now) (a .pre .0) (c .before .before .before .before .before .before .mapping-at .result) (c .before .before .before .if1 .left) _ refl (c .before .if2 .taken)
 
 same-length : tie.Need-same-length
 same-length c = search needs
@@ -58,7 +59,8 @@ sub-write-coarse c = search needs
 
 write-coarse-requires : tie.Need-write-coarse-requires
 write-coarse-requires c κs =
-    coarse-room _ (c .before .before .before .before .before .before .before .before .before .before .before .args .firsts .now) (c .before .before .before .before .before .before .before .before .before .before .before .pre .0) (c .before .before .before .before .before .before .before .mapping-at .result) (c .before .before .before .before .if1 .left) _ refl (c .before .if3 .taken)
+    let a = c .before .before .before .before .before .before .before .before .before .before .before in
+    coarse-room _ (a .args .firsts .now) (a .pre .0) (c .before .before .before .before .before .before .before .mapping-at .result) (c .before .before .before .before .if1 .left) _ refl (c .before .if3 .taken)
 
 same-length-2 : tie.Need-same-length-2
 same-length-2 c = search needs

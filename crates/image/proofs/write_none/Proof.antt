@@ -15,7 +15,11 @@ same-length : tie.Need-same-length
 same-length c = search needs
 
 returns-2 : tie.Need-returns-2
-returns-2 c = (sym none-length, none-written (c .before .before .before .before .before .before .args .base) (c .before .before .before .before .before .before .args .out .now) _ (c .before .before .before .before .if1 .left) (c .before .before .write-zeros .ensures))
+returns-2 c =
+    let write-zeros = c .before .before .write-zeros in
+    let if1 = c .before .before .before .before .if1 in
+    let args = c .before .before .before .before .before .before .args in
+    (sym none-length, none-written (args .base) (args .out .now) _ (if1 .left) (write-zeros .ensures))
 
 pub write-none-spec : {M : Type 1} → statement M
 write-none-spec = tie.close (tie.spec returns write-zeros-requires same-length returns-2)

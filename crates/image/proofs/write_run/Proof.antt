@@ -27,10 +27,18 @@ add-put-word : tie.Need-add-put-word Inv-loop μ-loop
 add-put-word c = omega (arith, c .before .before .before .before .pre .3)
 
 mul-put-word-2 : tie.Need-mul-put-word-2 Inv-loop μ-loop
-mul-put-word-2 c = let p : c .before .before .before .before .args .d * c .before .before .loop .y ≤ 4096 * 1024 = mul-le-mul (c .before .before .before .before .pre .1) (let q : c .before .before .loop .y ≤ 1024 = omega (arith, c .before .before .before .before .pre .2) in q) in omega arith
+mul-put-word-2 c =
+    let loop = c .before .before .loop in
+    let args = c .before .before .before .before .args in
+    let pre = c .before .before .before .before .pre in
+    let p : args .d * loop .y ≤ 4096 * 1024 = mul-le-mul (pre .1) (let q : loop .y ≤ 1024 = omega (arith, pre .2) in q) in omega arith
 
 add-put-word-2 : tie.Need-add-put-word-2 Inv-loop μ-loop
-add-put-word-2 c = let p : c .before .before .before .before .args .d * c .before .before .loop .y ≤ 4096 * 1024 = mul-le-mul (c .before .before .before .before .pre .1) (let q : c .before .before .loop .y ≤ 1024 = omega (arith, c .before .before .before .before .pre .2) in q) in omega (arith, c .before .before .before .before .pre .0)
+add-put-word-2 c =
+    let loop = c .before .before .loop in
+    let args = c .before .before .before .before .args in
+    let pre = c .before .before .before .before .pre in
+    let p : args .d * loop .y ≤ 4096 * 1024 = mul-le-mul (pre .1) (let q : loop .y ≤ 1024 = omega (arith, pre .2) in q) in omega (arith, pre .0)
 
 put-word-requires : tie.Need-put-word-requires Inv-loop μ-loop
 put-word-requires c κs = omega (arith, c .before .before .before .before .pre .3, c .before .before .loop .inv .1)
@@ -42,13 +50,25 @@ loop-less : tie.Need-loop-less Inv-loop μ-loop
 loop-less c = omega arith
 
 loop-again : tie.Need-loop-again Inv-loop μ-loop
-loop-again c = (omega arith, c .before .before .put-word .kept .0 ∙ c .before .before .before .before .before .loop .inv .1, c .before .before .put-word .ensures ∙ ap (λ (l : List ℕ). spliced l (c .before .before .before .before .before .before .before .args .at + 4 * c .before .before .before .before .before .loop .y) (λ (_ : ℕ). c .before .before .before .before .before .before .before .args .w + c .before .before .before .before .before .before .before .args .d * c .before .before .before .before .before .loop .y) 1) (c .before .before .before .before .before .loop .inv .2) ∙ spliced-more (c .before .before .before .before .before .before .before .args .out .now) (c .before .before .before .before .before .before .before .args .at) (c .before .before .before .before .before .loop .y) _ (λ (x : ℕ). c .before .before .before .before .before .before .before .args .w + c .before .before .before .before .before .before .before .args .d * x) (omega (arith, c .before .before .before .before .before .before .before .pre .3)) refl)
+loop-again c =
+    let put-word = c .before .before .put-word in
+    let loop = c .before .before .before .before .before .loop in
+    let args = c .before .before .before .before .before .before .before .args in
+    let pre = c .before .before .before .before .before .before .before .pre in (
+      omega arith,
+      put-word .kept .0 ∙ loop .inv .1,
+      put-word .ensures
+          ∙ ap (λ (l : List ℕ). spliced l (args .at + 4 * loop .y) (λ (_ : ℕ). args .w + args .d * loop .y) 1) (loop .inv .2)
+          ∙ spliced-more (args .out .now) (args .at) (loop .y) _ (λ (x : ℕ). args .w + args .d * x) (omega (arith, pre .3)) refl,
+    )
 
 same-length : tie.Need-same-length Inv-loop μ-loop
 same-length c = search needs
 
 returns : tie.Need-returns Inv-loop μ-loop
-returns c = c .before .loop .inv .2 ∙ ap (spliced (c .before .before .before .args .out .now) (c .before .before .before .args .at) (λ (x : ℕ). c .before .before .before .args .w + c .before .before .before .args .d * x)) (let e : c .before .loop .y ≡ c .before .before .before .args .n = omega arith in e)
+returns c =
+    let args = c .before .before .before .args in
+    c .before .loop .inv .2 ∙ ap (spliced (args .out .now) (args .at) (λ (x : ℕ). args .w + args .d * x)) (let e : c .before .loop .y ≡ args .n = omega arith in e)
 
 pub write-run-spec : {M : Type 1} → statement M
 write-run-spec =

@@ -1,12 +1,12 @@
-use mathlib.Core.Path.{_≡_, refl, sym, _∙_}
+use mathlib.Core.Path.{_≡_, sym, _∙_}
 use native.Mathlib.Omega.{arith}
 use Prim.Native.Nat.{_≤_, _-_}
 use lib.ListN.{length, length-set}
 use borrow.Author.Tests.{not-true}
 use Rattle.page.specs.Words.{megabytes}
 use Rattle.tables.proofs.Notes.{no-table}
-use Rattle.tables.proofs.Places.{size-le}
-use Rattle.image.proofs.Levels.{Begun, begun-none, begun-skip, begun-more, start-bound, placed}
+use Rattle.tables.proofs.Places.{start-le, size-le}
+use Rattle.image.proofs.Levels.{Begun, begun-none, begun-skip, begun-more, placed}
 use Rattle.image.proofs.places.place.Statement.{statement}
 use Rattle.image.proofs.places.place.Tie as tie
 
@@ -59,13 +59,13 @@ cast-s : tie.Need-cast-s Inv-loop μ-loop
 cast-s c =
     let l = c .before .before .before .before .before .loop in
     let s = c .start-after in
-    omega (arith, start-bound (c .before .before .before .before .before .before .before .args .seen .now) (l .i) (l .e) (l .firsts) (l .inv .2) (c .before .before .before .before .loop-test .taken) (l .inv .1) _ (s .result) _ _ (c .before .table-by .ensures) (s .ensures) refl refl)
+    omega (arith, start-le (c .before .table-by .result) (l .e), s .ensures, l .inv .2 .high)
 
 table-word-requires : tie.Need-table-word-requires Inv-loop μ-loop
 table-word-requires c κs =
     let l = c .before .before .before .before .before .loop in
     let s = c .start-after in
-    omega (arith, start-bound (c .before .before .before .before .before .before .before .args .seen .now) (l .i) (l .e) (l .firsts) (l .inv .2) (c .before .before .before .before .loop-test .taken) (l .inv .1) _ (s .result) _ _ (c .before .table-by .ensures) (s .ensures) refl refl)
+    omega (arith, start-le (c .before .table-by .result) (l .e), s .ensures, l .inv .2 .high)
 
 cast-firsts-2 : tie.Need-cast-firsts-2 Inv-loop μ-loop
 cast-firsts-2 c = omega arith
@@ -84,7 +84,7 @@ add-e c =
     let l = c .before .before .before .before .before .before .before .loop in
     let s = c .before .before .start-after in
     let t = c .before .before .before .table-by in
-    omega (arith, start-bound (c .before .before .before .before .before .before .before .before .before .args .seen .now) (l .i) (l .e) (l .firsts) (l .inv .2) (c .before .before .before .before .before .before .loop-test .taken) (l .inv .1) _ (s .result) _ _ (t .ensures) (s .ensures) refl refl, c .table-size .ensures, size-le (t .result))
+    omega (arith, start-le (t .result) (l .e), s .ensures, l .inv .2 .high, c .table-size .ensures, size-le (t .result))
 
 add-i-2 : tie.Need-add-i-2 Inv-loop μ-loop
 add-i-2 c = omega arith
@@ -94,12 +94,16 @@ loop-less-2 c = omega arith
 
 loop-again-2 : tie.Need-loop-again-2 Inv-loop μ-loop
 loop-again-2 c =
-    let l = c .before .before .before .before .before .before .before .loop in
-    let s = c .before .before .start-after in (
+    let l = c .before .before .before .before .before .before .before in
+    let t = c .before .before .before .table-by in
+    let s = c .before .before .start-after in
+    let w = c .before .table-word in
+    let z = c .table-size in (
       omega arith,
-      simp length-set (l .inv .1),
-      begun-more (c .before .before .before .before .before .before .before .before .before .args .seen .now) (l .i) (l .e) (l .firsts) (l .inv .2) (c .before .before .before .before .before .before .loop-test .taken) (l .inv .1) (c .before .before .before .table-by .result) (s .result) (c .before .table-word .result) (c .table-size .result)
-          (c .before .before .before .table-by .ensures) (s .ensures) (c .before .table-word .ensures) (c .table-size .ensures),
+      simp length-set (l .loop .inv .1),
+      begun-more (l .before .before .args .seen .now) (l .loop .i) (l .loop .e) (l .loop .firsts) (l .loop .inv .2)
+          (c .before .before .before .before .before .before .loop-test .taken) (l .loop .inv .1) (t .result) (s .result) (w .result) (z .result)
+          (t .ensures) (s .ensures) (w .ensures) (z .ensures),
     )
 
 same-length : tie.Need-same-length Inv-loop μ-loop

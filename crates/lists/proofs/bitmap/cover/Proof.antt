@@ -73,25 +73,39 @@ same-length : tie.Need-same-length
 same-length c = search needs
 
 returns : tie.Need-returns
-returns c = cover-section (c .before .before .before .before .before .before .before .before .before .before .args .c .now) (c .before .before .before .before .before .before .before .before .before .before .args .m) (c .before .before .before .before .before .before .before .before .before .before .pre .1) _ (c .before .before .before .before .enum-told .given .1) (c .before .before .sixteen-full .ensures)
+returns c =
+    let sixteen-full = c .before .before .sixteen-full in
+    let enum-told = c .before .before .before .before .enum-told in
+    let args = c .before .before .before .before .before .before .before .before .before .before .args in
+    let pre = c .before .before .before .before .before .before .before .before .before .before .pre in
+    cover-section (args .c .now) (args .m) (pre .1) _ (enum-told .given .1) (sixteen-full .ensures)
 
 same-length-2 : tie.Need-same-length-2
 same-length-2 c = search needs
 
 returns-2 : tie.Need-returns-2
-returns-2 c = cover-large (c .before .before .before .before .before .before .args .c .now) (c .before .before .before .before .before .before .args .m) (c .before .before .before .before .before .before .pre .1) (c .before .before .before .before .before .before .pre .0) (c .enum-told2 .given .1)
+returns-2 c =
+    let args = c .before .before .before .before .before .before .args in
+    let pre = c .before .before .before .before .before .before .pre in
+    cover-large (args .c .now) (args .m) (pre .1) (pre .0) (c .enum-told2 .given .1)
 
 same-length-3 : tie.Need-same-length-3
 same-length-3 c = search needs
 
 returns-3 : tie.Need-returns-3
-returns-3 c = cover-small (c .before .before .before .before .before .before .before .args .c .now) (c .before .before .before .before .before .before .before .args .m) (c .before .before .before .before .before .before .before .pre .1) (c .before .before .before .before .before .before .before .pre .0) (c .before .enum-told3 .given .1)
+returns-3 c =
+    let args = c .before .before .before .before .before .before .before .args in
+    let pre = c .before .before .before .before .before .before .before .pre in
+    cover-small (args .c .now) (args .m) (pre .1) (pre .0) (c .before .enum-told3 .given .1)
 
 same-length-4 : tie.Need-same-length-4
 same-length-4 c = search needs
 
 returns-4 : tie.Need-returns-4
-returns-4 c = cover-tiny (c .before .before .before .before .before .before .before .args .c .now) (c .before .before .before .before .before .before .before .args .m) (c .before .before .before .before .before .before .before .pre .1) (c .before .before .before .before .before .before .before .pre .0) (c .before .enum-told4 .given .1)
+returns-4 c =
+    let args = c .before .before .before .before .before .before .before .args in
+    let pre = c .before .before .before .before .before .before .before .pre in
+    cover-tiny (args .c .now) (args .m) (pre .1) (pre .0) (c .before .enum-told4 .given .1)
 
 pub cover-spec : {M : Type 1} → statement M
 cover-spec =

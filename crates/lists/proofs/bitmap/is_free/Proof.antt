@@ -17,7 +17,10 @@ sixteen-free-requires : tie.Need-sixteen-free-requires
 sixteen-free-requires c κs = search needs
 
 returns : tie.Need-returns
-returns c = free-section (c .before .before .before .before .before .before .before .args .c .now) (c .before .before .before .before .before .before .before .args .m) (c .before .before .before .before .before .before .before .pre .1) (c .sixteen-free .result) (c .before .enum-told .given .1) (c .sixteen-free .ensures)
+returns c =
+    let args = c .before .before .before .before .before .before .before .args in
+    let pre = c .before .before .before .before .before .before .before .pre in
+    free-section (args .c .now) (args .m) (pre .1) (c .sixteen-free .result) (c .before .enum-told .given .1) (c .sixteen-free .ensures)
 
 enum-told-2 : tie.Need-enum-told-2
 enum-told-2 c = search needs
@@ -29,7 +32,10 @@ shared-slice-read-result : tie.Need-shared-slice-read-result
 shared-slice-read-result c = search needs
 
 returns-2 : tie.Need-returns-2
-returns-2 c = free-large (c .before .before .before .before .before .before .before .args .c .now) (c .before .before .before .before .before .before .before .args .m) (c .before .before .before .before .before .before .before .pre .1) (c .before .enum-told2 .given .1) (c .shared-slice-known2 .given (c .before .before .before .before .before .before .before .args .m .at .0 / 65536) .fits)
+returns-2 c =
+    let args = c .before .before .before .before .before .before .before .args in
+    let pre = c .before .before .before .before .before .before .before .pre in
+    free-large (args .c .now) (args .m) (pre .1) (c .before .enum-told2 .given .1) (c .shared-slice-known2 .given (args .m .at .0 / 65536) .fits)
 
 enum-told-3 : tie.Need-enum-told-3
 enum-told-3 c = search needs
@@ -50,7 +56,10 @@ shr-result : tie.Need-shr-result
 shr-result c = search needs
 
 returns-3 : tie.Need-returns-3
-returns-3 c = free-small (c .before .before .before .before .before .before .before .args .c .now) (c .before .before .before .before .before .before .before .args .m) (c .before .before .before .before .before .before .before .pre .1) (c .before .enum-told3 .given .1)
+returns-3 c =
+    let args = c .before .before .before .before .before .before .before .args in
+    let pre = c .before .before .before .before .before .before .before .pre in
+    free-small (args .c .now) (args .m) (pre .1) (c .before .enum-told3 .given .1)
 
 enum-told-4 : tie.Need-enum-told-4
 enum-told-4 c = search needs
@@ -68,7 +77,10 @@ shr-result-2 : tie.Need-shr-result-2
 shr-result-2 c = search needs
 
 returns-4 : tie.Need-returns-4
-returns-4 c = free-tiny (c .before .before .before .before .before .before .before .args .c .now) (c .before .before .before .before .before .before .before .args .m) (c .before .before .before .before .before .before .before .pre .1) (c .before .enum-told4 .given .1)
+returns-4 c =
+    let args = c .before .before .before .before .before .before .before .args in
+    let pre = c .before .before .before .before .before .before .before .pre in
+    free-tiny (args .c .now) (args .m) (pre .1) (c .before .enum-told4 .given .1)
 
 pub is-free-spec : {M : Type 1} → statement M
 is-free-spec =

@@ -24,7 +24,11 @@ shared-slice-read-if1 : tie.Need-shared-slice-read-if1 Inv-loop μ-loop
 shared-slice-read-if1 c = omega arith
 
 returns : tie.Need-returns Inv-loop μ-loop
-returns c = λ f. c .if1 .taken (clear-word (c .before .before .before .before .args .c .now) (c .before .before .before .before .args .w + c .before .before .before .loop .j) (c .before .shared-slice-known .given (c .before .before .before .before .args .w + c .before .before .before .loop .j) .fits) (clear-part (c .before .before .before .before .args .c .now) (64 * c .before .before .before .before .args .w) 1024 _ 64 (omega arith) (omega arith) f))
+returns c =
+    let loop = c .before .before .before .loop in
+    let args = c .before .before .before .before .args in
+    λ f. c .if1 .taken
+    (clear-word (args .c .now) (args .w + loop .j) (c .before .shared-slice-known .given (args .w + loop .j) .fits) (clear-part (args .c .now) (64 * args .w) 1024 _ 64 (omega arith) (omega arith) f))
 
 add-j : tie.Need-add-j Inv-loop μ-loop
 add-j c = omega arith
@@ -33,7 +37,10 @@ loop-less : tie.Need-loop-less Inv-loop μ-loop
 loop-less c = omega arith
 
 loop-again : tie.Need-loop-again Inv-loop μ-loop
-loop-again c = (omega arith, clear-turn (c .before .before .before .before .args .c .now) (c .before .before .before .before .args .w) (c .before .before .before .loop .j) (c .if1 .left) (c .before .before .before .loop .inv .1))
+loop-again c =
+    let loop = c .before .before .before .loop in
+    let args = c .before .before .before .before .args in
+    (omega arith, clear-turn (args .c .now) (args .w) (loop .j) (c .if1 .left) (loop .inv .1))
 
 returns-2 : tie.Need-returns-2 Inv-loop μ-loop
 returns-2 c = λ p l h. c .before .loop .inv .1 p l (omega arith)
