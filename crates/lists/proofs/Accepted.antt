@@ -22,7 +22,7 @@ pub neither : (a b : Bool) → (a or b) ≡ false → (a ≡ false) × (b ≡ fa
 neither true b e = absurd (true≢false (sym (or-yes true b refl) ∙ e))
 neither false b e = (refl, sym (or-no false b refl) ∙ e)
 
--- a list is accepted exactly when no record of it is bad, and none overlaps an earlier one
+-- a record of an accepted list: it is not bad, and overlaps no earlier one
 abbrev pub Clean : ℕ → List ℕ → ℕ → Type 0
 Clean n rs i = (bad n rs i ≡ false) × (overlapping rs i ≡ false)
 
@@ -44,20 +44,9 @@ module _ (n : ℕ) (rs : List ℕ) where
         | no g ↦ clean-from k (suc i) j (f .1) (omega arith) (omega arith)
       ]
 
-  fine-from : (k i : ℕ) → ((j : ℕ) → i ≤ j → j < i + k → Clean n rs j) → checkedFrom n rs i k ≡ Fine
-  unfolding checkedFrom
-  fine-from zero i f = refl
-  fine-from (suc k) i f =
-      let c = f i (omega arith) (omega arith) in
-      pick-no _ _ _ (c .0) ∙ pick-no _ _ _ (c .1) ∙ fine-from k (suc i) (λ j h l. f j (omega arith) (omega arith))
-
   pub fine-clean : checked n rs ≡ Fine → (i : ℕ) → i < begun rs → Clean n rs i
   unfolding checked
   fine-clean e i h = clean-from (begun rs) 0 i e (omega arith) (omega arith)
-
-  pub clean-fine : ((i : ℕ) → i < begun rs → Clean n rs i) → checked n rs ≡ Fine
-  unfolding checked
-  clean-fine f = fine-from (begun rs) 0 (λ j h l. f j (omega arith))
 
 -- so each of its mappings is proper
 pub proper-at : (n : ℕ) (rs : List ℕ) (i : ℕ) → bad n rs i ≡ false → proper n (mappingOf (recordAt rs i)) ≡ true
