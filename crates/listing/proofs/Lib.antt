@@ -1,0 +1,13 @@
+pub mod Digits
+pub mod Runs
+pub mod Says
+pub mod Pastes
+pub mod Turns
+pub mod Columns
+pub mod Comments
+pub mod Spelling
+pub mod Reread
+pub mod Sound
+pub mod Accepts
+pub mod Back
+pub mod Examples

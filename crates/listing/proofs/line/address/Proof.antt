@@ -1,0 +1,63 @@
+use Rattle.listing.specs.Lines.{addressOf}
+use Rattle.listing.proofs.Says.{address-at}
+use mathlib.Core.Path.{sym, _∙_, subst}
+use Rattle.page.proofs.Picks.{pick-yes, pick-no}
+use borrow.Author.Tests.{eq-eqb, le-leb, lt-leb}
+use Prim.Native.Nat.{ℕ, _<_, _≤_}
+use borrow.Author.Needs.{needs}
+use Rattle.listing.proofs.line.address.Statement.{statement}
+use Rattle.listing.proofs.line.address.Tie as tie
+
+returns : tie.Need-returns
+unfolding addressOf
+returns c = sym (pick-yes _ _ _ (eq-eqb _ _ (c .if1 .taken)))
+
+number-requires : tie.Need-number-requires
+number-requires c κs = search needs
+
+enum-known-n : tie.Need-enum-known-n
+enum-known-n c = search needs
+
+wide-requires : tie.Need-wide-requires
+wide-requires c κs = search needs
+
+returns-2 : tie.Need-returns-2
+returns-2 c = sym (pick-yes _ _ _ (le-leb _ _ (subst (λ (z : ℕ). c .before .before .before .before .before .before .before .before .args .end ≤ z) (c .before .wide .ensures) (c .if2 .taken)))) ∙ address-at _ _ _ _ _ (c .before .before .before .before .before .before .if1 .left) (c .before .before .before .before .before .number .ensures) (c .before .before .before .n .given .1)
+
+multiple-requires : tie.Need-multiple-requires
+multiple-requires c κs = search needs
+
+returns-3 : tie.Need-returns-3
+returns-3 c = sym (pick-no _ _ _ (lt-leb _ _ (subst (λ (z : ℕ). z < c .before .before .before .before .before .before .before .before .before .before .args .end) (c .before .before .before .wide .ensures) (c .before .before .if2 .left))) ∙ pick-yes _ _ _ (sym (c .before .multiple .ensures) ∙ c .if3 .taken)) ∙ address-at _ _ _ _ _ (c .before .before .before .before .before .before .before .before .if1 .left) (c .before .before .before .before .before .before .before .number .ensures) (c .before .before .before .before .before .n .given .1)
+
+returns-4 : tie.Need-returns-4
+returns-4 c = sym (pick-no _ _ _ (lt-leb _ _ (subst (λ (z : ℕ). z < c .before .before .before .before .before .before .before .before .before .before .args .end) (c .before .before .before .wide .ensures) (c .before .before .if2 .left))) ∙ pick-no _ _ _ (sym (c .before .multiple .ensures) ∙ c .if3 .left)) ∙ address-at _ _ _ _ _ (c .before .before .before .before .before .before .before .before .if1 .left) (c .before .before .before .before .before .before .before .number .ensures) (c .before .before .before .before .before .n .given .1)
+
+enum-told : tie.Need-enum-told
+enum-told c = search needs
+
+returns-5 : tie.Need-returns-5
+returns-5 c = address-at _ _ _ _ _ (c .before .before .before .if1 .left) (c .before .before .number .ensures) (c .enum-told .given .1)
+
+enum-told-2 : tie.Need-enum-told-2
+enum-told-2 c = search needs
+
+returns-6 : tie.Need-returns-6
+returns-6 c = address-at _ _ _ _ _ (c .before .before .before .if1 .left) (c .before .before .number .ensures) (c .enum-told2 .given .1)
+
+pub address-spec : {M : Type 1} → statement M
+address-spec =
+    tie.close
+    (tie.spec
+    returns
+    number-requires
+    enum-known-n
+    wide-requires
+    returns-2
+    multiple-requires
+    returns-3
+    returns-4
+    enum-told
+    returns-5
+    enum-told-2
+    returns-6)

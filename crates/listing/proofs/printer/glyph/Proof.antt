@@ -1,0 +1,31 @@
+use Rattle.listing.specs.Prints.{glyph}
+use mathlib.Core.Path.{sym}
+use Rattle.page.proofs.Picks.{pick-yes, pick-no}
+use borrow.Author.Tests.{lt-ltb, le-ltb}
+use borrow.Author.Needs.{needs}
+use Rattle.listing.proofs.printer.glyph.Statement.{statement}
+use Rattle.listing.proofs.printer.glyph.Tie as tie
+
+cast-result : tie.Need-cast-result
+cast-result c = search needs
+
+add-result : tie.Need-add-result
+add-result c = search needs
+
+returns : tie.Need-returns
+unfolding glyph
+returns c = sym (pick-yes _ _ _ (lt-ltb _ _ (c .if1 .taken)))
+
+cast-result-2 : tie.Need-cast-result-2
+cast-result-2 c = search needs
+
+add-result-2 : tie.Need-add-result-2
+add-result-2 c = search needs
+
+returns-2 : tie.Need-returns-2
+unfolding glyph
+returns-2 c = sym (pick-no _ _ _ (le-ltb _ _ (c .if1 .left)))
+
+pub glyph-spec : {M : Type 1} → statement M
+glyph-spec =
+    tie.close (tie.spec cast-result add-result returns cast-result-2 add-result-2 returns-2)

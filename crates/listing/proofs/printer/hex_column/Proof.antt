@@ -1,0 +1,46 @@
+use Rattle.listing.specs.Prints.{hexText}
+use borrow.Author.Needs.{needs}
+use Rattle.listing.proofs.printer.hex_column.Statement.{statement}
+use Rattle.listing.proofs.printer.hex_column.Tie as tie
+
+glyph-requires : tie.Need-glyph-requires
+glyph-requires c κs = search needs
+
+glyph-requires-2 : tie.Need-glyph-requires-2
+glyph-requires-2 c κs = search needs
+
+glyph-requires-3 : tie.Need-glyph-requires-3
+glyph-requires-3 c κs = search needs
+
+glyph-requires-4 : tie.Need-glyph-requires-4
+glyph-requires-4 c κs = search needs
+
+glyph-requires-5 : tie.Need-glyph-requires-5
+glyph-requires-5 c κs = search needs
+
+glyph-requires-6 : tie.Need-glyph-requires-6
+glyph-requires-6 c κs = search needs
+
+glyph-requires-7 : tie.Need-glyph-requires-7
+glyph-requires-7 c κs = search needs
+
+glyph-requires-8 : tie.Need-glyph-requires-8
+glyph-requires-8 c κs = search needs
+
+returns : tie.Need-returns
+unfolding hexText
+returns c = rw (c .glyph8 .ensures, c .before .glyph7 .ensures, c .before .before .glyph6 .ensures, c .before .before .before .glyph5 .ensures, c .before .before .before .before .glyph4 .ensures, c .before .before .before .before .before .glyph3 .ensures, c .before .before .before .before .before .before .glyph2 .ensures, c .before .before .before .before .before .before .before .glyph .ensures)
+
+pub hex-column-spec : {M : Type 1} → statement M
+hex-column-spec =
+    tie.close
+    (tie.spec
+    glyph-requires
+    glyph-requires-2
+    glyph-requires-3
+    glyph-requires-4
+    glyph-requires-5
+    glyph-requires-6
+    glyph-requires-7
+    glyph-requires-8
+    returns)

@@ -1,0 +1,76 @@
+-- A text as lines, and its mappings as the builder's records (01, "The builder"), up to the first bad line.
+use Rattle.page.specs.Ground.{ℕ, suc, _+_, _*_, _/_, _%_, _≤_, List, [], _∷_, _++_, eqb, ltb, leb, length, take, drop, set}
+use Rattle.page.specs.Pick.{pick, _or_}
+use Rattle.page.specs.Words.{typeOf}
+use Rattle.records.specs.declared.Mapping.{Mapping}
+use Rattle.records.specs.Mappings.{recordSize}
+use Rattle.lists.specs.Refusals.{most}
+use Rattle.listing.specs.declared.Wrong.{Wrong}
+use Rattle.listing.specs.declared.Said.{Said}
+use Rattle.listing.specs.declared.Listed.{Listed}
+use Rattle.listing.specs.Lines.{said}
+
+-- the most bytes of a text
+abbrev pub longestText : ℕ
+longestText = 262144
+
+-- a byte in front of the first line
+abbrev pub onto : ℕ → List (List ℕ) → List (List ℕ)
+onto x [] = (x ∷ []) ∷ []
+onto x (l ∷ t) = (x ∷ l) ∷ t
+
+-- a text's lines: what stands before, between and behind its line feeds
+unfoldable pub linesOf : List ℕ → List (List ℕ)
+linesOf [] = [] ∷ []
+linesOf (x ∷ t) = pick (eqb x 10) ([] ∷ linesOf t) (onto x (linesOf t))
+
+-- a word's four bytes, little-endian
+abbrev pub wordBytes : ℕ → List ℕ
+wordBytes w = w % 256 ∷ w / 256 % 256 ∷ w / 65536 % 256 ∷ w / 16777216 % 256 ∷ []
+
+-- a mapping's record: virtual, physical, type, access, two zero bytes
+unfoldable pub recordOf : Mapping → List ℕ
+recordOf m = wordBytes (m .at .0) ++ (wordBytes (m .to .0) ++ (typeOf (m .kind) ∷ m .access % 256 ∷ 0 ∷ 0 ∷ []))
+
+-- bytes in a memory, from an index on
+unfoldable pub pasted : List ℕ → ℕ → List ℕ → List ℕ
+pasted l at s = (take at l ++ s) ++ drop (at + length s) l
+
+-- what reading leaves: the answer, the memory of the records, and that of the line numbers
+pub record Reading : Type 0 where
+  pub answer : Listed
+  pub records : List ℕ
+  pub lines : List ℕ
+
+abbrev pub reading : Listed → List ℕ → List ℕ → Reading
+reading a rs ls = record { answer = a; records = rs; lines = ls }
+
+-- a text that is not too long, and memories with room for the most mappings
+pub record Rooms (t rs ls : List ℕ) : Type 0 where
+  pub text : length t ≤ longestText
+  pub records : recordSize * most ≤ length rs
+  pub lines : most ≤ length ls
+
+-- one of three, by what a line says
+abbrev pub bySaid : {A : Type 0} → Said → A → (Mapping → A) → (Wrong → A) → A
+bySaid Said.Nothing a f g = a
+bySaid (Said.Mapped m) a f g = f m
+bySaid (Said.Bad w) a f g = g w
+
+-- lines from line i on, behind n mappings: each mapping's record and line number are put in their place, up to the first bad line
+unfoldable pub readLines : ℕ → ℕ → List (List ℕ) → List ℕ → List ℕ → Reading
+readLines i n [] rs ls = reading (Listed.Mappings n) rs ls
+readLines i n (l ∷ t) rs ls =
+    bySaid (said l)
+    (readLines (suc i) n t rs ls)
+    (λ m.
+    pick (leb most n) (reading (Listed.Bad i Wrong.TooManyMappings) rs ls)
+    (readLines (suc i) (suc n) t (pasted rs (recordSize * n) (recordOf m)) (set ls n i)))
+    (λ w. reading (Listed.Bad i w) rs ls)
+
+-- a text from its first line on; memories too short for the most mappings, and a text that is too long, change nothing
+unfoldable pub readText : List ℕ → List ℕ → List ℕ → Reading
+readText t rs ls =
+    pick (ltb (length rs) (recordSize * most) or ltb (length ls) most) (reading Listed.NoRoom rs ls)
+    (pick (ltb longestText (length t)) (reading (Listed.Bad 0 Wrong.TextTooLong) rs ls)
+    (readLines 1 0 (linesOf t) rs ls))
