@@ -9,6 +9,7 @@ pub mod bill;
 pub mod boundary;
 pub mod builder;
 pub mod dice;
+pub mod listing;
 pub mod memory;
 pub mod meters;
 pub mod native;

@@ -12,7 +12,7 @@ mod line;
 mod notes;
 mod printer;
 mod text;
-mod words;
+mod tokens;
 
 // What a word says as a number in hex: a value of 32 bits, more than that, or none.
 pub(crate) enum Number {
@@ -141,7 +141,7 @@ pub fn purpose(text: &[u8], line: u32) -> Span
     if at > text.len() {
         return Span { from: 0, to: 0 };
     }
-    let n = words::run(&text[at..], Class::Inline);
+    let n = tokens::run(&text[at..], Class::Inline);
     let s = notes::comment(&text[at..at + n]);
     Span {
         from: at + s.from,

@@ -6,7 +6,7 @@ use crate::Number;
 use crate::Said;
 use crate::Wrong;
 use crate::hex;
-use crate::words;
+use crate::tokens;
 use page::Kind;
 use page::PhysicalAddress;
 use page::VirtualAddress;
@@ -65,7 +65,7 @@ fn address(w: &[u8], end: u64, k: Kind) -> Address
 fn ended(line: &[u8], m: Mapping) -> Said
     ensures { λ r. ⌜ r ≡ ended m (now (line .entry)) ⌝ }
 {
-    if words::run(line, Class::Blank) == line.len() {
+    if tokens::run(line, Class::Blank) == line.len() {
         return Said::Mapped(m);
     }
     Said::Bad(Wrong::WordTooMany)
@@ -75,13 +75,13 @@ fn ended(line: &[u8], m: Mapping) -> Said
 fn from_access(line: &[u8], k: Kind, v: u32, p: u32) -> Said
     ensures { λ r. ⌜ r ≡ fromAccess k v p (now (line .entry)) ⌝ }
 {
-    let s = words::word(line);
+    let s = tokens::word(line);
     let from = s.from;
     let to = s.to;
     if from == to {
         return Said::Bad(Wrong::WordMissing);
     }
-    let a = words::access_named(&line[from..to]);
+    let a = tokens::access_named(&line[from..to]);
     if a == 0 {
         return Said::Bad(Wrong::UnknownAccess);
     }
@@ -98,7 +98,7 @@ fn from_access(line: &[u8], k: Kind, v: u32, p: u32) -> Said
 fn from_physical(line: &[u8], k: Kind, v: u32) -> Said
     ensures { λ r. ⌜ r ≡ fromPhysical k v (now (line .entry)) ⌝ }
 {
-    let s = words::word(line);
+    let s = tokens::word(line);
     let from = s.from;
     let to = s.to;
     let a = address(&line[from..to], PHYSICAL, k);
@@ -115,7 +115,7 @@ fn from_physical(line: &[u8], k: Kind, v: u32) -> Said
 fn from_virtual(line: &[u8], k: Kind) -> Said
     ensures { λ r. ⌜ r ≡ fromVirtual k (now (line .entry)) ⌝ }
 {
-    let s = words::word(line);
+    let s = tokens::word(line);
     let from = s.from;
     let to = s.to;
     let a = address(&line[from..to], VIRTUAL, k);
@@ -132,13 +132,13 @@ fn from_virtual(line: &[u8], k: Kind) -> Said
 fn from_kind(line: &[u8]) -> Said
     ensures { λ r. ⌜ r ≡ fromKind (now (line .entry)) ⌝ }
 {
-    if words::run(line, Class::Blank) == line.len() {
+    if tokens::run(line, Class::Blank) == line.len() {
         return Said::Nothing;
     }
-    let s = words::word(line);
+    let s = tokens::word(line);
     let from = s.from;
     let to = s.to;
-    let n = words::kind_named(&line[from..to]);
+    let n = tokens::kind_named(&line[from..to]);
     match n {
         Named::Known(k) => return from_virtual(&line[to..], k),
         Named::Unknown => return Said::Bad(Wrong::UnknownKind),
@@ -167,6 +167,6 @@ pub(crate) fn said(line: &[u8]) -> Said
     if n > LONGEST {
         return Said::Bad(Wrong::LineTooLong);
     }
-    let c = words::run(&line[0..n], Class::Plain);
+    let c = tokens::run(&line[0..n], Class::Plain);
     from_kind(&line[0..c])
 }

@@ -2,7 +2,7 @@
 use crate::Class;
 use crate::Span;
 use crate::line;
-use crate::words;
+use crate::tokens;
 ghost use mathlib.Core.Path.{_≡_};
 ghost use Prim.Native.Nat.{_≤_};
 ghost use lib.ListN.{length};
@@ -19,7 +19,7 @@ pub(crate) fn start_of(text: &[u8], k: u32) -> usize
     let mut at: usize = 0;
     let mut i: u32 = 0;
     while i < k {
-        let r = words::run(&text[at..], Class::Inline);
+        let r = tokens::run(&text[at..], Class::Inline);
         if at + r >= len {
             return len + 1;
         }
@@ -35,7 +35,7 @@ fn solid_to(s: &[u8]) -> usize
 {
     let mut n = s.len();
     while n > 0 {
-        if !words::blank(s[n - 1]) {
+        if !tokens::blank(s[n - 1]) {
             return n;
         }
         n -= 1;
@@ -47,11 +47,11 @@ fn solid_to(s: &[u8]) -> usize
 fn words_of(s: &[u8]) -> Span
     ensures { λ r. ⌜ r ≡ commentOf (now (s .entry)) ⌝ }
 {
-    let c = words::run(s, Class::Plain);
+    let c = tokens::run(s, Class::Plain);
     if c == s.len() {
         return Span { from: 0, to: 0 };
     }
-    let from = c + 1 + words::run(&s[c + 1..], Class::Blank);
+    let from = c + 1 + tokens::run(&s[c + 1..], Class::Blank);
     let to = solid_to(s);
     if to < from {
         return Span { from: 0, to: 0 };

@@ -5,7 +5,7 @@ use crate::Said;
 use crate::Wrong;
 use crate::bytes;
 use crate::line;
-use crate::words;
+use crate::tokens;
 ghost use mathlib.Core.Path.{_≡_};
 ghost use Rattle.listing.specs.Texts.{Rooms, reading, linesOf, readLines};
 
@@ -19,7 +19,7 @@ pub(crate) fn read_lines(text: &[u8], records: &mut [u8], lines: &mut [u32]) -> 
     let mut i: u32 = 1;
     let mut n: usize = 0;
     while at <= len {
-        let to = at + words::run(&text[at..], Class::Inline);
+        let to = at + tokens::run(&text[at..], Class::Inline);
         let s = line::said(&text[at..to]);
         match s {
             Said::Nothing => {

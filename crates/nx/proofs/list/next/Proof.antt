@@ -1,0 +1,49 @@
+use Prim.Native.Nat.{_≤_, _-_}
+use borrow.Author.Needs.{needs}
+use Rattle.nx.proofs.list.next.Statement.{statement}
+use Rattle.nx.proofs.list.next.Tie as tie
+
+abbrev Inv-loop : tie.InvT-loop
+Inv-loop list from n best₀ least₀ i₀ best least i = i ≤ n
+
+abbrev μ-loop : tie.MeasureT-loop
+μ-loop list from n best₀ least₀ i₀ best least i = n - i
+
+count-requires : tie.Need-count-requires Inv-loop μ-loop
+count-requires c κs = search needs
+
+loop-holds : tie.Need-loop-holds Inv-loop μ-loop
+loop-holds c = search needs
+
+mapping-at-requires : tie.Need-mapping-at-requires Inv-loop μ-loop
+mapping-at-requires c κs = search needs
+
+start-requires : tie.Need-start-requires Inv-loop μ-loop
+start-requires c κs = search needs
+
+add-i : tie.Need-add-i Inv-loop μ-loop
+add-i c = search needs
+
+loop-less : tie.Need-loop-less Inv-loop μ-loop
+loop-less c = search needs
+
+loop-again : tie.Need-loop-again Inv-loop μ-loop
+loop-again c = search needs
+
+returns : tie.Need-returns Inv-loop μ-loop
+returns c = search needs
+
+pub next-spec : {M : Type 1} → statement M
+next-spec =
+    tie.close
+    (tie.spec
+    Inv-loop
+    μ-loop
+    count-requires
+    loop-holds
+    mapping-at-requires
+    start-requires
+    add-i
+    loop-less
+    loop-again
+    returns)

@@ -1,0 +1,94 @@
+// The table of commands: each one's name, how many words it takes, and its function.
+use crate::args;
+use crate::build;
+use crate::convert;
+use crate::files;
+use crate::map;
+use crate::show;
+use crate::text;
+use crate::trial;
+
+// The commands' names, in the order of the table below.
+fn command(w: &[u8]) -> usize {
+    text::place(b"help|build|show|try|map|records|text", w)
+}
+
+// Whether a command takes so many words.
+fn takes(command: usize, n: usize) -> bool {
+    match command {
+        0 => return n == 0,
+        1 => {
+            if n == 3 {
+                return true;
+            }
+            return n == 2;
+        }
+        3 => return n == 2,
+        2 | 4 | 5 | 6 => return n == 1,
+        _ => return false,
+    }
+}
+
+// What a command with its words answers: 0 fine, 1 a list, a script or a file is wrong, 2 wrong use.
+fn done(command: usize, first: &[u8], second: &[u8], third: &[u8]) -> u32 {
+    match command {
+        1 => return build::run(first, second, third),
+        2 => return show::run(first),
+        3 => return trial::run(first, second),
+        4 => return map::run(first),
+        5 => return convert::records(first),
+        6 => return convert::text(first),
+        _ => return files::told(usage(text::OUT)),
+    }
+}
+
+// A command with the words behind it.
+fn with_words(command: usize) -> u32 {
+    let mut first = io::buffer();
+    let mut second = io::buffer();
+    let mut third = io::buffer();
+    let a = os::arg(2, &mut first);
+    let b = os::arg(3, &mut second);
+    let c = os::arg(4, &mut third);
+    done(command, &first[..a], &second[..b], &third[..c])
+}
+
+// The command that the arguments say.
+pub fn run() -> u32 {
+    if !args::fit() {
+        return 2;
+    }
+    let mut word = io::buffer();
+    let n = os::arg(1, &mut word);
+    let which = command(&word[..n]);
+    if takes(which, args::count()) {
+        return with_words(which);
+    }
+    usage(text::ERR);
+    2
+}
+
+// The usage.
+fn usage(fd: i32) -> bool {
+    text::put(
+        fd,
+        b"nx: address tables of the OMAP5910 DSP's memory unit, from a list of mappings as text\n\n\
+          \x20 nx build LIST IMAGE [BASE]  write the tables to IMAGE, to stand at BASE (hex; 20000000)\n\
+          \x20 nx show LIST                the list in order, its gaps, its tables, shared memory\n\
+          \x20 nx try LIST SCRIPT          a session on the model, its meters and its bill\n\
+          \x20 nx map LIST                 a picture of the 16 megabytes, as SVG\n\
+          \x20 nx records LIST             the list as binary records\n\
+          \x20 nx text RECORDS             binary records as a list\n\
+          \x20 nx help                     this page\n\n",
+    )
+        & text::put(
+            fd,
+            b"A list has a line for each mapping: kind, virtual and physical address, access, purpose.\n\
+          \x20 section 000000 11000000 r   # code      (section, large, small, tiny; r or rw)\n\n\
+          A script has a line for each call; a register by its name or its offset, prices first.\n\
+          \x20 price external row 2 10.25  # on-chip or external, flat or row, nanoseconds\n\
+          \x20 write control 7             # or: read fault-status\n\
+          \x20 request w 412345            # or: acknowledge, prefetch 1FF800, drop, shift 012345\n\n\
+          A file named - is standard input. Pages go to standard output.\n",
+        )
+}

@@ -1,0 +1,96 @@
+// nx records and nx text: between a list as text and the binary records of the builder.
+use crate::files;
+use crate::files::Got;
+use crate::list;
+use crate::list::Loaded;
+use crate::parse;
+use crate::text;
+use listing::Printed;
+
+// The bytes of the most records, and one more.
+const INPUT: usize = 3073;
+
+// Room for the most records as text.
+const PRINTED: usize = 16384;
+
+// nx records LIST.
+pub fn records(path: &[u8]) -> u32 {
+    let mut t = [0u8; list::TEXT];
+    let mut records = [0u8; list::RECORDS];
+    let mut lines = [0u32; list::MOST];
+    let loaded = list::load(path, &mut t, &mut records, &mut lines);
+    match loaded {
+        Loaded::List(_, n) => {
+            return files::told(text::put(text::OUT, parse::cut(&records, 0, n)));
+        }
+        Loaded::Failed => return 1,
+    }
+}
+
+// The first record that is bad, or the number of records.
+fn first_bad(records: &[u8]) -> usize {
+    let n = records::count(records);
+    let mut i = 0;
+    while i < n {
+        if i >= list::MOST {
+            return i;
+        }
+        let at = records::SIZE * i;
+        if !records::well_formed(parse::cut(records, at, at + records::SIZE)) {
+            return i;
+        }
+        i += 1;
+    }
+    i
+}
+
+// Says which record is refused, and why.
+fn refused(path: &[u8], i: usize, why: usize) -> u32 {
+    list::at_line(path, 0);
+    text::form(text::ERR, b"refused 10 at %d: ", &[i as u64]);
+    text::part(
+        text::ERR,
+        b"the record is bad\n|the record is short\n|more than 256 records\n",
+        why,
+    );
+    1
+}
+
+// Records as text.
+fn printed(records: &[u8]) -> u32 {
+    let mut out = [0u8; PRINTED];
+    let printed = listing::print(records, &mut out);
+    match printed {
+        Printed::Length(n) => return files::told(text::put(text::OUT, parse::cut(&out, 0, n))),
+        Printed::NoList => return 1,
+        Printed::NoRoom => return 1,
+    }
+}
+
+// Records as text, or the first that is refused.
+fn judged(path: &[u8], records: &[u8]) -> u32 {
+    let n = records::count(records);
+    let bad = first_bad(records);
+    if bad < n {
+        return refused(path, bad, 0);
+    }
+    if records.len() % records::SIZE != 0 {
+        return refused(path, n, 1);
+    }
+    printed(records)
+}
+
+// nx text RECORDS.
+pub fn text(path: &[u8]) -> u32 {
+    let mut records = [0u8; INPUT];
+    let got = files::read(path, &mut records);
+    match got {
+        Got::Bytes(n) => {
+            if n >= INPUT {
+                return refused(path, list::MOST, 2);
+            }
+            return judged(path, parse::cut(&records, 0, n));
+        }
+        Got::Failed => return 1,
+    }
+}

@@ -1,0 +1,21 @@
+// nx: lists of mappings as text, their tables, and sessions on the model, for people.
+mod args;
+mod build;
+mod cli;
+mod convert;
+mod files;
+mod list;
+mod map;
+mod parse;
+mod script;
+mod show;
+mod text;
+mod trial;
+mod utf8;
+
+// Where the program's last act, one digit, goes: a program has no exit status of its own.
+const STATUS: i32 = 3;
+
+fn main() {
+    io::print_decimal(STATUS, cli::run() as u64);
+}
