@@ -133,7 +133,7 @@ pub fn line(text: &[u8], from: usize) -> &[u8] {
 }
 
 // Where the next line begins, or the end.
-pub fn next_line(text: &[u8], from: usize) -> usize
+pub(crate) fn next_line(text: &[u8], from: usize) -> usize
     requires { ⌜ from < length (now text) ⌝ }
     ensures { λ r. ⌜ from < r ⌝ }
 {
