@@ -1,8 +1,8 @@
 -- What a call said has four words. Assumes nothing.
 use mathlib.Core.Path.{_≡_, refl}
 use lib.ListN.{length}
-use Rattle.session.specs.declared.Said.{Said}
-use Rattle.session.specs.declared.Said.the-variants.{Answered, Reported}
+use Rattle.decision.specs.declared.Said.{Said}
+use Rattle.decision.specs.declared.Said.the-variants.{Answered, Reported}
 use Rattle.answers.specs.Answers.{saidWords}
 
 pub said-length : (s : Said) → length (saidWords s) ≡ 4

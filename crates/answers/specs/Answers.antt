@@ -5,8 +5,8 @@ use Rattle.registers.specs.declared.Answer.{Answer}
 use Rattle.registers.specs.declared.Answer.the-variants as A
 use Rattle.decision.specs.declared.Shift.{Shift}
 use Rattle.decision.specs.declared.Shift.the-variants as H
-use Rattle.session.specs.declared.Said.{Said}
-use Rattle.session.specs.declared.Said.the-variants.{Answered, Reported}
+use Rattle.decision.specs.declared.Said.{Said}
+use Rattle.decision.specs.declared.Said.the-variants.{Answered, Reported}
 use Rattle.signed.specs.Signed.{twos}
 use Rattle.wire.specs.Words.{wide}
 

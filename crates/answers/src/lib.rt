@@ -1,8 +1,8 @@
 // What a call said as 16 bytes: a number, a zero word and a value.
+use decision::Said;
 use decision::Shift;
 use registers::Answer;
 use registers::Fault;
-use session::Said;
 ghost use mathlib.Core.Path.{_≡_};
 ghost use Rattle.registers.specs.Answers.{faultNumber};
 ghost use Rattle.wire.specs.Words.{written};

@@ -1,4 +1,4 @@
--- The room that a run needs. Assumes nothing.
+-- What a run that is answered has: room, and calls alone. Assumes nothing.
 use mathlib.Core.Path.{_≡_, sym, _∙_}
 use mathlib.Core.Bool.{true}
 use mathlib.Core.List.{List}
@@ -7,7 +7,8 @@ use native.Mathlib.Omega.{arith}
 use native.Mathlib.Decide.{decLe}
 use lib.Dec.{leb}
 use borrow.Author.Tests.{le-leb, lt-leb, leb-true}
-use Rattle.page.proofs.Picks.{and-right}
+use Rattle.page.proofs.Picks.{and-left, and-right}
+use Rattle.calls.specs.Records.{allGood}
 use Rattle.asked.specs.Asked.{answerSize, stateSize, runSize, mayRun}
 
 -- as many answers as fit beside a state
@@ -20,3 +21,8 @@ room-for n room h = elim (decLe n ((room - stateSize) / answerSize)) [
 pub run-fits : (calls : List ℕ) (onkind extkind room : ℕ) → mayRun calls onkind extkind room ≡ true → runSize calls ≤ room
 unfolding mayRun
 run-fits calls onkind extkind room h = leb-true _ _ (and-right _ _ (and-right _ _ (and-right _ _ h)))
+
+-- and its calls are calls
+pub run-good : (calls : List ℕ) (onkind extkind room : ℕ) → mayRun calls onkind extkind room ≡ true → allGood calls ≡ true
+unfolding mayRun
+run-good calls onkind extkind room h = and-left _ _ (and-right _ _ (and-right _ _ h))

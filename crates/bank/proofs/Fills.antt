@@ -1,5 +1,5 @@
 -- A fill changes exactly one slot, at the lock base or above it. Assumes nothing.
-use mathlib.Core.Path.{_≡_, refl, sym, ap, ap₂, _∙_}
+use mathlib.Core.Path.{_≡_, refl, ap₂}
 use mathlib.Core.Logic.{_≢_}
 use Prim.Native.Nat.{ℕ, _+_, _<_, _≤_}
 use native.Mathlib.Nat.{le-refl}
@@ -11,7 +11,7 @@ use Rattle.page.specs.declared.Words.{Words}
 use Rattle.page.proofs.Picks.{pick-by}
 use Rattle.bank.specs.declared.Bank.{Bank}
 use Rattle.bank.specs.Slots.{slotAt}
-use Rattle.bank.specs.Changes.{nextSlot, nextVictim, storedAt, lockedAt, filled, filledAt}
+use Rattle.bank.specs.Changes.{nextSlot, nextVictim, storedAt, filled}
 
 abbrev words : ℕ → ℕ → Words
 words x y = record { cam = x; ram = y }
@@ -58,8 +58,3 @@ module _ (b : Bank) (w : Words) where
   pub fill-victim : filled b w .victim ≡ nextVictim (nextSlot (b .victim) (b .lock)) (b .lock)
   unfolding filled
   fill-victim = refl
-
--- a fill computed part by part
-pub filled-is : (b e : Bank) (w : Words) (i v : ℕ) → i ≡ nextSlot (b .victim) (b .lock) → v ≡ nextVictim i (b .lock) → e ≡ storedAt b i w → lockedAt e (e .lock) v ≡ filled b w
-unfolding filled
-filled-is b e w i v p q r = ap₂ (λ (x : Bank) (y : ℕ). lockedAt x (x .lock) y) r q ∙ ap (filledAt b w) p

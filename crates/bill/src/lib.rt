@@ -1,11 +1,10 @@
 // The walk bill: a running total and a smoothed miss figure in f64, and what it keeps of each memory.
 use memory::Place;
-use memory::Reads;
 use memory::Source;
 use prices::Prices;
 use prices::Side;
 ghost use mathlib.Core.Path.{_≡_};
-ghost use Rattle.bill.specs.Bill.{billOk, moneyOk, wordPosted, readsPosted, attemptPosted, seenPosted, freshBill};
+ghost use Rattle.bill.specs.Bill.{billOk, wordPosted, attemptPosted, seenPosted, freshBill};
 
 // The running total in nanoseconds, the smoothed miss figure, and the two sides.
 pub struct Bill {
@@ -20,13 +19,6 @@ pub enum Seen {
     Nothing,
     Match,
     NoMatch,
-}
-
-// Refusal 9: false where it holds.
-pub fn money_ok(prices: Prices, bill: Bill) -> bool
-    ensures { λ r. ⌜ r ≡ moneyOk prices bill ⌝ }
-{
-    prices::prices_ok(prices) & bill.ok()
 }
 
 impl Bill {
@@ -74,17 +66,6 @@ impl Bill {
                 return e;
             }
             Place::Nowhere => return self,
-        }
-    }
-
-    // The bill after the words of a walk, in order.
-    pub fn post_reads(self, reads: Reads, prices: Prices) -> Bill
-        ensures { λ r. ⌜ r ≡ readsPosted prices self reads ⌝ }
-    {
-        match reads {
-            Reads::Nothing => return self,
-            Reads::One(a) => return self.post_word(a, prices),
-            Reads::Two(a, b) => return self.post_word(a, prices).post_word(b, prices),
         }
     }
 

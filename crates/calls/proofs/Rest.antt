@@ -5,9 +5,9 @@ use mathlib.Core.List.{List, [], _∷_}
 use Prim.Native.Nat.{ℕ, zero, suc, _+_, _*_, _-_, _<_, _≤_}
 use native.Mathlib.Omega.{arith}
 use Rattle.page.specs.Pick.{_and_}
-use Rattle.page.proofs.Picks.{and-yes, and-no}
+use Rattle.page.proofs.Picks.{and-yes, and-no, and-left, and-right}
 use Rattle.forms.specs.declared.Call.{Call}
-use Rattle.calls.specs.Records.{callSize, callAt, callsFrom, isGood, goodCalls}
+use Rattle.calls.specs.Records.{callSize, callAt, callCount, callsFrom, isGood, goodCalls, allGood}
 
 -- record i, then those behind it
 pub calls-next : (l : List ℕ) (n i : ℕ) → i < n → callsFrom l i (n - i) ≡ callAt l (callSize * i) ∷ callsFrom l (i + 1) (n - (i + 1))
@@ -27,3 +27,15 @@ good-next l n i h g = ap goodCalls (calls-next l n i h) ∙ and-yes _ _ g
 
 pub bad-next : (l : List ℕ) (n i : ℕ) → i < n → isGood (callAt l (callSize * i)) ≡ false → goodCalls (callsFrom l i (n - i)) ≡ false
 bad-next l n i h g = ap goodCalls (calls-next l n i h) ∙ and-no _ _ g
+
+-- of good calls from record j on, each is good
+good-from : (l : List ℕ) (n j k i : ℕ) → i ≡ j + k → k < n → goodCalls (callsFrom l j n) ≡ true → isGood (callAt l (callSize * i)) ≡ true
+unfolding callsFrom
+good-from l zero j k i e h g = absurd (let f : ⊥ = omega arith in f)
+good-from l (suc n) j zero i e h g = ap (λ (m : ℕ). isGood (callAt l (callSize * m))) (let f : i ≡ j = omega arith in f) ∙ and-left _ _ g
+good-from l (suc n) j (suc k) i e h g = good-from l n (j + 1) k i (omega arith) (omega arith) (and-right _ _ g)
+
+-- where all are good, each is
+pub all-good-at : (l : List ℕ) (i : ℕ) → allGood l ≡ true → i < callCount l → isGood (callAt l (callSize * i)) ≡ true
+unfolding allGood
+all-good-at l i g h = good-from l (callCount l) 0 i i (omega arith) h (and-right _ _ g)

@@ -1,10 +1,11 @@
 -- Calls as records of 12 bytes (02, P1): kind, offset or access, two zero bytes, address word, value word.
-use Rattle.page.specs.Ground.{ℕ, zero, suc, _+_, _*_, _/_, _%_, Bool, true, false, List, [], _∷_, eqb, leb, length, getD, take, drop}
+use Rattle.page.specs.Ground.{ℕ, zero, suc, _+_, _*_, _/_, _%_, Bool, true, List, [], _∷_, eqb, leb, length, getD, take, drop}
 use Rattle.page.specs.Pick.{pick, _and_}
 use Rattle.memory.specs.Memory.{wordOf}
 use Rattle.forms.specs.declared.Call.{Call}
-use Rattle.forms.specs.declared.Call.the-variants.{Write, Read, Request, Drop, Shift, Bad}
+use Rattle.forms.specs.declared.Call.the-variants.{Bad}
 use Rattle.kinds.specs.Kinds.{callFrom}
+pub use Rattle.kinds.specs.Kinds.{isGood}
 
 -- the bytes of a record
 abbrev pub callSize : ℕ
@@ -30,14 +31,6 @@ callsFrom l i (suc n) = callAt l (callSize * i) ∷ callsFrom l (i + 1) n
 
 abbrev pub callsIn : List ℕ → List Call
 callsIn l = callsFrom l 0 (callCount l)
-
-abbrev pub isGood : Call → Bool
-isGood (Write o v) = true
-isGood (Read o) = true
-isGood (Request va a) = true
-isGood Drop = true
-isGood (Shift va) = true
-isGood Bad = false
 
 abbrev pub goodCalls : List Call → Bool
 goodCalls [] = true

@@ -1,6 +1,7 @@
 // A call as a record of 12 bytes.
 use forms::Call;
 ghost use mathlib.Core.Path.{_≡_};
+ghost use mathlib.Core.Bool.{true};
 ghost use Prim.Native.Nat.{_≤_};
 ghost use lib.ListN.{length};
 ghost use Rattle.calls.specs.Records.{callSize, callOf, callAt, callCount, isGood, allGood};
@@ -35,6 +36,33 @@ pub fn decode(bytes: &[u8], at: usize) -> Call
         return Call::Bad;
     }
     call_of(&bytes[at..at + SIZE])
+}
+
+// The call of a record's bytes that are known to be a call.
+fn known_of(r: &[u8]) -> Call
+    requires { ⌜ callSize ≤ length (now r) ⌝ }
+    ensures { λ c. ⌜ (isGood (callOf (now (r .entry))) ≡ true → c ≡ callOf (now (r .entry))) ⌝ }
+{
+    kinds::known(
+        r[0],
+        r[1],
+        memory::word_of(&r[4..8]),
+        memory::word_of(&r[8..12]),
+    )
+}
+
+// The call of the record at an offset that is known to be one: tested are its length and its kind alone.
+pub fn decode_known(bytes: &[u8], at: usize) -> Call
+    ensures { λ r. ⌜ (isGood (callAt (now (bytes .entry)) at) ≡ true → r ≡ callAt (now (bytes .entry)) at) ⌝ }
+{
+    let len = bytes.len();
+    if len < SIZE {
+        return Call::Bad;
+    }
+    if len - SIZE < at {
+        return Call::Bad;
+    }
+    known_of(&bytes[at..at + SIZE])
 }
 
 // How many whole records there are.

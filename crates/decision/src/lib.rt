@@ -1,17 +1,18 @@
-// What a slot or a walk comes to: the parts of every decision.
+// What an access and a matching slot come to, what an answer leaves, and the shift report.
 use bank::Fill;
 use bill::Seen;
 use descriptors::Found;
-use descriptors::Page;
 use memory::Reads;
+use meters::Tally;
 use page::Access;
 use page::PhysicalAddress;
 use page::VirtualAddress;
 use registers::Answer;
 use registers::Fault;
-use walk::Walked;
+use registers::Pending;
 ghost use mathlib.Core.Path.{_≡_};
-ghost use Rattle.decision.specs.Decisions.{byAccess, plainly, byMatch, missingWord, noPage, withPage, byWalk};
+ghost use Rattle.decision.specs.Decisions.{byAccess, plainly, byMatch, settled, meteredOnce, tallyOf};
+ghost use Rattle.decision.specs.Prefetches.{prefetchKept, shiftBy};
 
 // What an attempt comes to: its answer, what it puts into the slots, the words it read and what it did with the slots.
 pub struct Decision {
@@ -28,8 +29,14 @@ pub enum Shift {
     Refused(u8),
 }
 
+// What a call says.
+pub enum Said {
+    Answered(Answer),
+    Reported(Shift),
+}
+
 // A page's byte, or a permission fault.
-fn by_access(bits: u32, at: PhysicalAddress, a: Access) -> Answer
+pub fn by_access(bits: u32, at: PhysicalAddress, a: Access) -> Answer
     ensures { λ r. ⌜ r ≡ byAccess bits at a ⌝ }
 {
     if page::permitted(bits, a) {
@@ -59,52 +66,70 @@ pub fn by_match(cam: u32, ram: u32, va: VirtualAddress, a: Access) -> Decision
     plain(answer, Seen::Match)
 }
 
-// A word that the walk needs is in neither memory.
-pub fn missing() -> Decision
-    ensures { λ r. ⌜ r ≡ missingWord ⌝ }
+// The pending fault after an answer.
+pub fn settle(p: Pending, answer: Answer, va: VirtualAddress, a: Access) -> Pending
+    ensures { λ r. ⌜ r ≡ settled va a p answer ⌝ }
 {
-    plain(Answer::Refused(3), Seen::Nothing)
-}
-
-// A walk that found no page.
-pub fn no_page(reads: Reads, fault: Fault, seen: Seen) -> Decision
-    ensures { λ r. ⌜ r ≡ noPage reads fault seen ⌝ }
-{
-    Decision {
-        answer: Answer::Fault(fault),
-        fill: Fill::Nothing,
-        reads: reads,
-        seen: seen,
+    match answer {
+        Answer::Address(_) => Pending::Nothing,
+        Answer::Fault(k) => Pending::Held(k, va, a),
+        Answer::Value(_) => p,
+        Answer::Done => p,
+        Answer::Refused(_) => p,
     }
 }
 
-// A walk that found a page, which fills a slot.
-pub fn with_page(p: Page, va: VirtualAddress, reads: Reads, answer: Answer, seen: Seen) -> Decision
-    ensures { λ r. ⌜ r ≡ withPage p va reads answer seen ⌝ }
+// One request or retry, and the words it read.
+fn metered(again: bool, words: u32) -> Tally
+    ensures { λ r. ⌜ r ≡ meteredOnce again words ⌝ }
 {
-    let kind = p.kind;
-    let frame = p.frame;
-    let words = page::made(kind, frame, p.access, va);
-    Decision {
-        answer: answer,
-        fill: Fill::Slot(words),
-        reads: reads,
-        seen: seen,
+    if again {
+        return Tally {
+            fresh: 0,
+            retries: 1,
+            words: words,
+        };
+    }
+    Tally {
+        fresh: 1,
+        retries: 0,
+        words: words,
     }
 }
 
-// What a walk comes to: a page fills a slot, then access is checked.
-pub fn by_walk(w: Walked, va: VirtualAddress, a: Access) -> Decision
-    ensures { λ r. ⌜ r ≡ byWalk va a w ⌝ }
+// What an attempt adds to the meters.
+pub fn tally_of(again: bool, answer: Answer, words: u32) -> Tally
+    ensures { λ r. ⌜ r ≡ tallyOf again words answer ⌝ }
 {
-    let found = w.found;
-    let reads = w.reads;
+    match answer {
+        Answer::Address(_) => metered(again, words),
+        Answer::Fault(_) => metered(again, words),
+        Answer::Value(_) => Tally::zero(),
+        Answer::Done => Tally::zero(),
+        Answer::Refused(_) => Tally::zero(),
+    }
+}
+
+// The prefetch register after an answer.
+pub fn prefetch_kept(v: u16, old: u16, answer: Answer) -> u16
+    ensures { λ r. ⌜ r ≡ prefetchKept v old answer ⌝ }
+{
+    match answer {
+        Answer::Refused(_) => old,
+        Answer::Address(_) => v,
+        Answer::Fault(_) => v,
+        Answer::Value(_) => v,
+        Answer::Done => v,
+    }
+}
+
+// The shift of an address by what its plain walk found.
+pub fn shift_by(found: Found, va: VirtualAddress) -> Shift
+    ensures { λ r. ⌜ r ≡ shiftBy va found ⌝ }
+{
     match found {
-        Found::Missing => missing(),
-        Found::NoPage => no_page(reads, Fault::Translation, Seen::NoMatch),
-        Found::Page(p) => {
-            let answer = by_access(p.access, descriptors::physical(p, va), a);
-            with_page(p, va, reads, answer, Seen::NoMatch)
-        }
+        Found::Missing => Shift::Refused(3),
+        Found::NoPage => Shift::Fault,
+        Found::Page(p) => Shift::Distance(descriptors::distance(descriptors::physical(p, va), va)),
     }
 }

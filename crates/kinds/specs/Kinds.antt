@@ -1,8 +1,8 @@
 -- The call of a record's fields, by its kind (02, P1).
-use Rattle.page.specs.Ground.{ℕ, eqb}
+use Rattle.page.specs.Ground.{ℕ, Bool, true, false, eqb}
 use Rattle.page.specs.Pick.{pick, _and_}
 use Rattle.forms.specs.declared.Call.{Call}
-use Rattle.forms.specs.declared.Call.the-variants.{Bad}
+use Rattle.forms.specs.declared.Call.the-variants.{Write, Read, Request, Drop, Shift, Bad}
 use Rattle.forms.specs.Forms.{writeBy, readBy, requestBy, dropBy, shiftBy}
 
 -- the kinds by their byte
@@ -17,3 +17,12 @@ callBy k x a v =
 -- the same where the two bytes between are zero
 unfoldable pub callFrom : ℕ → ℕ → ℕ → ℕ → ℕ → ℕ → Call
 callFrom k x third fourth a v = pick (eqb third 0 and eqb fourth 0) (callBy k x a v) Bad
+
+-- whether a record is a call
+abbrev pub isGood : Call → Bool
+isGood (Write o v) = true
+isGood (Read o) = true
+isGood (Request va a) = true
+isGood Drop = true
+isGood (Shift va) = true
+isGood Bad = false

@@ -1,8 +1,7 @@
-// One lane of the slots' words: the search, the flushes, what is in range, a word stored and read.
+// One lane of the slots' words: the flushes, and what is in range.
 use page::VirtualAddress;
 ghost use mathlib.Core.Path.{_≡_};
-ghost use lib.ListN.{getD, set};
-ghost use Rattle.lanes.specs.Lanes.{lookedUp, ramOk, camsOk, ramsOk, flushedAll, flushedEntry};
+ghost use Rattle.lanes.specs.Lanes.{ramOk, camsOk, ramsOk, flushedAll, flushedEntry};
 
 // How many slots there are.
 pub const SLOTS: usize = 32;
@@ -14,21 +13,6 @@ pub const CAM_LIMIT: u32 = 262144;
 pub enum Matched {
     At(usize),
     Nothing,
-}
-
-// The lowest slot that matches.
-pub fn lookup(cam: &[u32; SLOTS], va: VirtualAddress) -> Matched
-    ensures { λ r. ⌜ r ≡ lookedUp (now (cam .entry)) va ⌝ }
-{
-    let mut i: usize = 0;
-    while i < SLOTS {
-        let w = cam[i];
-        if page::matches(w, va) {
-            return Matched::At(i);
-        }
-        i += 1;
-    }
-    Matched::Nothing
 }
 
 // The CAM lane after a global flush.
@@ -92,28 +76,4 @@ pub fn rams_ok(ram: &[u32; SLOTS]) -> bool
         i += 1;
     }
     ok
-}
-
-// A lane with one word set; all of it as it was where there is no such slot.
-pub fn store(lane: [u32; SLOTS], at: u8, word: u32) -> [u32; SLOTS]
-    ensures { λ r. ⌜ r ≡ set lane at word ⌝ }
-{
-    let i = at as usize;
-    if i < SLOTS {
-        let mut out = lane;
-        out[i] = word;
-        return out;
-    }
-    lane
-}
-
-// A lane's word; 0 where there is no such slot.
-pub fn word_at(lane: [u32; SLOTS], at: u8) -> u32
-    ensures { λ r. ⌜ r ≡ getD lane at 0 ⌝ }
-{
-    let i = at as usize;
-    if i < SLOTS {
-        return lane[i];
-    }
-    0
 }

@@ -8,6 +8,7 @@ use crate::script;
 use crate::script::Step;
 use crate::text;
 use bill::Bill;
+use decision::Said;
 use forms::Call;
 use lists::Meaning;
 use meters::Meters;
@@ -16,7 +17,6 @@ use page::VirtualAddress;
 use prices::Price;
 use prices::Prices;
 use session::Bench;
-use session::Said;
 use session::Stepped;
 ghost use Prim.Native.Nat.{_≤_};
 

@@ -1,13 +1,11 @@
-// The registers: their types and Table 3, and what a setting or a tending does.
-use bank::Bank;
+// The registers: their types and Table 3, what is in range, and a slot in register form.
 use page::Access;
 use page::PhysicalAddress;
 use page::VirtualAddress;
 use page::Words;
 ghost use mathlib.Core.Path.{_≡_};
 ghost use Rattle.registers.specs.Answers.{isPrefetch, idle};
-ghost use Rattle.registers.specs.Fields.{isOn, isWalking, freshRegisters, entryOk, registersOk, pendingOk, wordsOf, entryOf, camAddress, setting};
-ghost use Rattle.registers.specs.Table.{tended};
+ghost use Rattle.registers.specs.Fields.{isOn, isWalking, freshRegisters, entryOk, registersOk, pendingOk, wordsOf, entryOf, camAddress};
 
 pub enum Fault {
     Translation,
@@ -190,17 +188,6 @@ pub fn cam_address(e: Entry) -> VirtualAddress
     VirtualAddress(w.cam / 16 % 16384 * 1024)
 }
 
-// The slots after a flush or a write of the lock register.
-pub fn tend_bank(b: Bank, staged: Entry, t: Tending) -> Bank
-    ensures { λ r. ⌜ r ≡ tended b staged t ⌝ }
-{
-    match t {
-        Tending::Lock(l, v) => b.locked(l, v),
-        Tending::Flush => b.flush(),
-        Tending::FlushEntry => b.flush_at(cam_address(staged)),
-    }
-}
-
 impl Registers {
     // Every register zero.
     pub fn fresh() -> Registers
@@ -218,44 +205,6 @@ impl Registers {
             prefetch: 0,
             staged: none,
             copied: none,
-        }
-    }
-
-    // The registers after a setting.
-    pub fn set(mut self, s: Setting) -> Registers
-        ensures { λ r. ⌜ r ≡ setting self s ⌝ }
-    {
-        match s {
-            Setting::Control(v) => {
-                self.control = v;
-                self
-            }
-            Setting::BaseHigh(v) => {
-                let b = PhysicalAddress((v as u32) * 65536 + self.base.0 % 65536);
-                self.base = b;
-                self
-            }
-            Setting::BaseLow(v) => {
-                let b = PhysicalAddress(self.base.0 / 65536 * 65536 + (v as u32));
-                self.base = b;
-                self
-            }
-            Setting::CamHigh(v) => {
-                self.staged.camhi = v;
-                self
-            }
-            Setting::CamLow(v) => {
-                self.staged.camlo = v;
-                self
-            }
-            Setting::RamHigh(v) => {
-                self.staged.ramhi = v;
-                self
-            }
-            Setting::RamLow(v) => {
-                self.staged.ramlo = v;
-                self
-            }
         }
     }
 }

@@ -1,10 +1,17 @@
 // A run: every call of a list in order, its answers and the state after the last one written.
+use bank::Bank;
+use bill::Bill;
+use forms::Call;
+use plan::Plan;
 use prices::Prices;
+use registers::Pending;
 use session::Bench;
+use unit::Device;
 ghost use mathlib.Core.Path.{_≡_};
-ghost use Prim.Native.Nat.{_+_, _*_, _/_, _≤_};
-ghost use lib.ListN.{length};
+ghost use Rattle.page.specs.Pick.{_and_};
 ghost use Rattle.memory.specs.Memory.{lent};
+ghost use Rattle.bill.specs.Bill.{billOk};
+ghost use Rattle.run.specs.Planned.{planOf, Asked};
 ghost use Rattle.run.specs.Run.{ran, ranFrom, runWith};
 
 // The bytes of an answer.
@@ -13,7 +20,30 @@ const ANSWER: usize = 16;
 // The bytes of a state.
 const STATE: usize = 328;
 
-// Every call in order, its answers and the state after the last one written.
+// What a call is to do, by what was tested once, the control register, the pending fault and the bill.
+fn plan_of(
+    call: Call,
+    ok: bool,
+    memories: bool,
+    money: bool,
+    bill: Bill,
+    control: u16,
+    p: Pending,
+) -> Plan
+    ensures { λ r. ⌜ r ≡ planOf ok memories (money and billOk bill) control p call ⌝ }
+{
+    match call {
+        Call::Write(offset, v) => plan::write(ok, memories, money, bill, control, p, offset, v),
+        Call::Read(offset) => plan::read(ok, offset),
+        Call::Request(va, a) => plan::request(ok, memories, money, bill, p, va, a),
+        Call::Drop => plan::drop(ok, p),
+        Call::Shift(va) => plan::shift(ok, memories, va),
+        Call::Bad => Plan::Done,
+    }
+}
+
+// Every call in order, its answers and the state after the last one written. The device lies in parts, the slots in place; whether it
+// is in range, and memories and prices in order, is tested once.
 fn run_all<'a>(
     start: Bench,
     handed: u32,
@@ -25,27 +55,72 @@ fn run_all<'a>(
     prices: Prices,
     out: &mut [u8],
 ) -> u64
-    requires { ⌜ 16 * (length (now calls) / 12) + 328 ≤ length (now out) ⌝ }
+    requires { ⌜ Asked (now calls) (now out) ⌝ }
     ensures { λ r. ⌜ ran r (now (out .exit)) ≡ ranFrom (lent (now (on .entry)) onbase (now (ext .entry)) extbase) prices handed start (now (calls .entry)) (now (out .entry)) ⌝ }
 {
     let n = calls::count(calls);
-    let mut bench = start;
+    let memories = memory::memories_ok(on, onbase, ext, extbase);
+    let money = prices::prices_ok(prices);
+    let d = start.device;
+    let ok = d.in_range();
+    let b = d.bank;
+    let mut r = d.registers;
+    let mut cam = b.cam;
+    let mut ram = b.ram;
+    let mut lock = b.lock;
+    let mut victim = b.victim;
+    let mut p = d.pending;
+    let mut bill = start.bill;
+    let mut meters = start.meters;
+    let mut lows = slots::lows(&cam);
+    let mut highs = slots::highs(&cam);
     let mut i: usize = 0;
     while i < n {
-        let s = bench.step(
-            calls::decode(calls, 12 * i),
+        let call = calls::decode_known(calls, 12 * i);
+        let plan = plan_of(call, ok, memories, money, bill, r.control, p);
+        let x = perform::perform(
+            plan,
+            &mut cam,
+            &mut ram,
+            &mut lows,
+            &mut highs,
+            r,
+            lock,
+            victim,
+            p,
+            bill,
             on,
             onbase,
             ext,
             extbase,
             prices,
         );
-        let said = s.said;
-        bench = s.bench;
+        let said = x.said;
+        let tally = x.tally;
+        r = x.registers;
+        lock = x.lock;
+        victim = x.victim;
+        p = x.pending;
+        bill = x.bill;
+        meters = meters.posted(tally);
         answers::put_said(out, ANSWER * i, said);
         i += 1;
     }
-    state::put_state(out, ANSWER * n, bench, handed);
+    let last = Bench {
+        device: Device {
+            registers: r,
+            bank: Bank {
+                cam: cam,
+                ram: ram,
+                lock: lock,
+                victim: victim,
+            },
+            pending: p,
+        },
+        bill: bill,
+        meters: meters,
+    };
+    state::put_state(out, ANSWER * n, last, handed);
     (ANSWER * n + STATE) as u64
 }
 

@@ -10,8 +10,8 @@ use Rattle.unit.specs.Machine.{Step, step}
 use Rattle.forms.specs.declared.Call.{Call}
 use Rattle.forms.specs.declared.Call.the-variants as C
 use Rattle.session.specs.declared.Bench.{Bench}
-use Rattle.session.specs.declared.Said.{Said}
-use Rattle.session.specs.declared.Said.the-variants.{Answered, Reported}
+use Rattle.decision.specs.declared.Said.{Said}
+use Rattle.decision.specs.declared.Said.the-variants.{Answered, Reported}
 use Rattle.session.specs.declared.Stepped.{Stepped}
 
 -- a fresh device, bill and meters

@@ -1,6 +1,6 @@
 // A session on the bench: a device, a bill and meters, and one call after another.
 use bill::Bill;
-use decision::Shift;
+use decision::Said;
 use forms::Call;
 use meters::Meters;
 use meters::Tally;
@@ -19,12 +19,6 @@ pub struct Bench {
     pub device: Device,
     pub bill: Bill,
     pub meters: Meters,
-}
-
-// What a call says.
-pub enum Said {
-    Answered(Answer),
-    Reported(Shift),
 }
 
 // The bench after a call, and what the call said.

@@ -2,6 +2,7 @@
 // hand. A line ends in a number (0 for a length or an address, else the paper's) and a value.
 use bank::Bank;
 use builder::Built;
+use decision::Said;
 use forms::Call;
 use libc::STDOUT_FILENO;
 use page::Access;
@@ -9,7 +10,6 @@ use page::VirtualAddress;
 use prices::Price;
 use prices::Prices;
 use session::Bench;
-use session::Said;
 use session::Stepped;
 
 // The sheet's base.

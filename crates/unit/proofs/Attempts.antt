@@ -1,12 +1,11 @@
--- What the code does over memories that were tried is what the definitions say, with 3 as the last refusal. Assumes nothing.
+-- A walk over memories that were tried, and an attempt that lacks a word: it says 3 of itself. Assumes nothing.
 use mathlib.Core.Path.{_≡_, refl, sym, _∙_, ap}
-use mathlib.Core.Bool.{Bool, true, false, not, false≢true}
+use mathlib.Core.Bool.{Bool, true, not, false≢true}
 use mathlib.Core.List.{[], _∷_}
 use Prim.Native.Nat.{ℕ}
-use lib.Dec.{leb}
 use borrow.Author.Tests.{not-true}
-use Rattle.page.specs.Pick.{pick, _and_}
-use Rattle.page.proofs.Picks.{pick-no, pick-by, and-left, and-right}
+use Rattle.page.specs.Pick.{_and_}
+use Rattle.page.proofs.Picks.{pick-no, and-left, and-right}
 use Rattle.descriptors.specs.declared.Found.the-variants as D
 use Rattle.walk.specs.Walk.{walkWithin}
 use Rattle.descriptors.specs.Statements.{isMissing}
@@ -15,22 +14,16 @@ use Rattle.lanes.specs.Lanes.{lookedUp}
 use Rattle.lanes.specs.declared.Matched.the-variants as M
 use Rattle.registers.specs.declared.Pending.the-variants.{Held}
 use Rattle.registers.specs.Answers.{isPrefetch}
-use Rattle.page.specs.Words.{limit}
 use Rattle.registers.specs.Fields.{isOn, isWalking}
 use Rattle.decision.specs.Decisions.{byFound}
-use Rattle.decision.specs.Prefetches.{pageAt, prefetchFound, prefetchDecided, shiftBy}
+use Rattle.decision.specs.Prefetches.{pageAt, prefetchFound, shiftBy}
 use Rattle.decision.specs.declared.Shift.the-variants as H
 use Rattle.decision.proofs.Joins.{decided-walk, prefetch-on}
-use Rattle.prefetches.specs.Shifts.{shiftWithin}
-use Rattle.plans.specs.declared.Plan.{Plan}
-use Rattle.plans.specs.declared.Plan.the-variants as L
-use Rattle.plans.specs.Plans.{retryPlan}
-use Rattle.steps.specs.Steps.{performed, shiftStep}
-use Rattle.unit.specs.Types.{Access, VirtualAddress, Lent, lentOk, Found, Walked, Bill, Prices, Matched, Fault, Device, Outcome}
+use Rattle.unit.specs.Types.{Access, VirtualAddress, Lent, lentOk, Found, Walked, Bill, Prices, Matched, Fault, Device}
 use Rattle.unit.specs.Refusals.{refuses}
-use Rattle.unit.specs.Device.{inRange, cleared, doneWith, refusedWith, outcomeOf, look, concluded, decidedBy, attemptOf}
-use Rattle.unit.specs.Calls.{noMatch, lacks, retryLacks, prefetchEnds, prefetched, heldRetried, shiftOf}
-use Rattle.unit.proofs.Refusing.{refused-here, passed, last-same, firstly}
+use Rattle.unit.specs.Device.{refusedWith, look, concluded, attemptOf}
+use Rattle.unit.specs.Calls.{noMatch, lacks, retryLacks, prefetchEnds, prefetched, heldRetried}
+use Rattle.unit.proofs.Refusing.{last-same}
 
 matched-nothing : (x : Matched) → noMatch x ≡ true → x ≡ M.Nothing
 matched-nothing (M.At i) h = absurd (false≢true h)
@@ -42,19 +35,12 @@ found-missing D.NoPage h = absurd (false≢true h)
 found-missing D.Missing h = refl
 
 -- memories that were tried lose nothing by being tried again
-look-ok : (m : Lent) (d : Device) (va : VirtualAddress) → lentOk m ≡ true → walkWithin m (d .registers .base .0) (va .0) ≡ look m d va
+pub look-ok : (m : Lent) (d : Device) (va : VirtualAddress) → lentOk m ≡ true → walkWithin m (d .registers .base .0) (va .0) ≡ look m d va
 look-ok m d va h = sym (walk-ok m h (d .registers .base .0) (va .0))
-
--- what is to be done, done to a device
-abbrev pub done : Lent → Prices → Bill → Device → Plan → Outcome
-done m p b d x = outcomeOf (performed m p b (d .registers) (d .bank) (d .pending) x)
 
 -- a request or a retry
 module _ (m : Lent) (p : Prices) (b : Bill) (again : Bool) (d : Device) (va : VirtualAddress) (a : Access) where
-  attempt-ok : lentOk m ≡ true → done m p b d (L.Attempt again va a) ≡ attemptOf m p b again d va a
-  attempt-ok h = ap (λ (w : Walked). concluded p b again d va a (decidedBy w d va a)) (look-ok m d va h)
-
-  lacks-attempt : lacks m d va ≡ true → attemptOf m p b again d va a ≡ refusedWith d b 3
+  pub lacks-attempt : lacks m d va ≡ true → attemptOf m p b again d va a ≡ refusedWith d b 3
   unfolding lacks byFound
   lacks-attempt h =
       let on = isOn (d .registers .control) in
@@ -70,37 +56,20 @@ module _ (m : Lent) (p : Prices) (b : Bill) (again : Bool) (d : Device) (va : Vi
       (and-left walking gone l)
       ∙ ap (byFound va a (look m d va .reads)) (found-missing (look m d va .found) (and-right walking gone l)))
 
-  pub attempt-last : lentOk m ≡ true → done m p b d (L.Attempt again va a) ≡ refuses ((lacks m d va, 3) ∷ []) (refusedWith d b) (attemptOf m p b again d va a)
-  attempt-last h = last-same _ _ _ _ _ (attempt-ok h) lacks-attempt
-
 -- the fault that is pending, retried
 module _ (m : Lent) (p : Prices) (b : Bill) (d : Device) (k : Fault) (va : VirtualAddress) (a : Access) where
-  retry-ok : lentOk m ≡ true → done m p b d (retryPlan k va a) ≡ heldRetried m p b d k va a
-  unfolding pick
-  retry-ok h = by (isPrefetch k)
-    where
-      by : (t : Bool) → done m p b d (pick t L.Drop (L.Attempt true va a)) ≡ pick t (doneWith b (cleared d)) (attemptOf m p b true d va a)
-      by true = refl
-      by false = attempt-ok m p b true d va a h
-
-  lacks-retry : retryLacks m d (Held k va a) ≡ true → heldRetried m p b d k va a ≡ refusedWith d b 3
+  pub lacks-retry : retryLacks m d (Held k va a) ≡ true → heldRetried m p b d k va a ≡ refusedWith d b 3
   lacks-retry h =
       let t = not (isPrefetch k) in
       pick-no _ _ _ (not-true (isPrefetch k) (and-left t (lacks m d va) h))
       ∙ lacks-attempt m p b true d va a (and-right t (lacks m d va) h)
-
-  pub retry-last : lentOk m ≡ true → done m p b d (retryPlan k va a) ≡ refuses ((retryLacks m d (Held k va a), 3) ∷ []) (refusedWith d b) (heldRetried m p b d k va a)
-  retry-last h = last-same _ _ _ _ _ (retry-ok h) lacks-retry
 
 -- a prefetch
 module _ (m : Lent) (p : Prices) (b : Bill) (d : Device) (v : ℕ) where
   abbrev pub prefetchLacks : Bool
   prefetchLacks = noMatch (lookedUp (d .bank .cam) (pageAt v)) and isMissing (look m d (pageAt v) .found)
 
-  prefetch-ok : lentOk m ≡ true → done m p b d (L.Prefetch v) ≡ prefetched m p b d v
-  prefetch-ok h = ap (λ (w : Walked). prefetchEnds p b d v (prefetchDecided w (d .bank .cam) (pageAt v))) (look-ok m d (pageAt v) h)
-
-  lacks-prefetch : prefetchLacks ≡ true → prefetched m p b d v ≡ refusedWith d b 3
+  pub lacks-prefetch : prefetchLacks ≡ true → prefetched m p b d v ≡ refusedWith d b 3
   unfolding prefetchFound
   lacks-prefetch h =
       let none = noMatch (lookedUp (d .bank .cam) (pageAt v)) in
@@ -109,22 +78,9 @@ module _ (m : Lent) (p : Prices) (b : Bill) (d : Device) (v : ℕ) where
       (prefetch-on (look m d (pageAt v)) (d .bank .cam) (pageAt v) M.Nothing (matched-nothing (lookedUp (d .bank .cam) (pageAt v)) (and-left none gone h))
       ∙ ap (prefetchFound (pageAt v) (look m d (pageAt v) .reads)) (found-missing (look m d (pageAt v) .found) (and-right none gone h)))
 
-  pub prefetch-last : lentOk m ≡ true → done m p b d (L.Prefetch v) ≡ refuses ((prefetchLacks, 3) ∷ []) (refusedWith d b) (prefetched m p b d v)
-  prefetch-last h = last-same _ _ _ _ _ (prefetch-ok h) lacks-prefetch
-
 -- the shift report
 module _ (m : Lent) (d : Device) (va : VirtualAddress) where
-  shift-last : lentOk m ≡ true → shiftBy va (walkWithin m (d .registers .base .0) (va .0) .found) ≡ refuses ((isMissing (look m d va .found), 3) ∷ []) H.Refused (shiftBy va (look m d va .found))
+  pub shift-last : lentOk m ≡ true → shiftBy va (walkWithin m (d .registers .base .0) (va .0) .found) ≡ refuses ((isMissing (look m d va .found), 3) ∷ []) H.Refused (shiftBy va (look m d va .found))
   shift-last h =
       last-same _ _ _ _ _ (ap (λ (w : Walked). shiftBy va (w .found)) (look-ok m d va h))
       (λ q. ap (shiftBy va) (found-missing (look m d va .found) q))
-
-  within-is : shiftWithin m (d .registers .base) va ≡ refuses ((not (lentOk m), 4) ∷ (isMissing (look m d va .found), 3) ∷ []) H.Refused (shiftBy va (look m d va .found))
-  within-is =
-      pick-by (λ x. x ≡ refuses ((not (lentOk m), 4) ∷ (isMissing (look m d va .found), 3) ∷ []) H.Refused (shiftBy va (look m d va .found))) (lentOk m) _ _
-      (λ h. shift-last h ∙ sym (passed _ _ _ _ _ (ap not h)))
-      (λ h. sym (refused-here _ _ _ _ _ (ap not h)))
-
-  pub shift-is : shiftStep m (d .registers) (d .bank) (d .pending) va ≡ shiftOf m d va
-  unfolding shiftOf inRange
-  shift-is = firstly (λ s. s) H.Refused H.Refused (λ _. refl) _ _ _ (inRange d) (leb limit (va .0)) within-is

@@ -1,4 +1,5 @@
 pub mod Refusing
 pub mod Attempts
-pub mod Writes
-pub mod Drops
+pub mod Planned
+pub mod Fitting
+pub mod Acting

@@ -35,16 +35,3 @@ module _ {K A : Type 0} (say : K → A) (else : A) where
   unfolding refuses
   refuses-by P [] f g = g tt
   refuses-by P (r ∷ rs) f g = pick-by P _ _ _ (λ _. f (r .1)) (λ e. refuses-by P rs f (λ c. g (e, c)))
-
--- 8, and 8 and 1, as the code tests them over a device's parts
-module _ {E A : Type 0} (run : E → A) (no : ℕ → E) (say : ℕ → A) (says : (n : ℕ) → run (no n) ≡ say n) (rs : Refusals) (x : E) (y : A) where
-  pub within : (ok : Bool) → run x ≡ refuses rs say y → run (pick ok x (no 8)) ≡ refuses ((not ok, 8) ∷ rs) say y
-  unfolding pick refuses
-  within true h = h
-  within false h = says 8
-
-  pub firstly : (ok l : Bool) → run x ≡ refuses rs say y → (let k = pick ok (pick l 1 0) 8 in run (pick (eqb k 0) x (no k))) ≡ refuses ((not ok, 8) ∷ (l, 1) ∷ rs) say y
-  unfolding pick refuses
-  firstly true true h = says 1
-  firstly true false h = h
-  firstly false l h = says 8

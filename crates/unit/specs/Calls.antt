@@ -1,25 +1,27 @@
 -- Each call: its refusals in the paper's order, then what it does (01, "Registers", "When the unit says no").
 use Rattle.page.specs.Ground.{ℕ, _/_, _%_, _^_, Bool, true, false, not, List, [], _∷_, eqb, leb}
 use Rattle.page.specs.Pick.{pick, _and_, _or_}
+use Rattle.page.specs.declared.Access.the-variants.{Read}
+use Rattle.memory.specs.Reads.{wordCount}
 use Rattle.descriptors.specs.Statements.{isMissing}
+use Rattle.bank.specs.Changes.{loaded, copied}
 use Rattle.bill.specs.Bill.{moneyOk}
 use Rattle.lanes.specs.Lanes.{slots, lookedUp}
 use Rattle.registers.specs.Answers.{idle, isPrefetch}
 use Rattle.page.specs.Words.{limit}
-use Rattle.registers.specs.Fields.{isOn, isWalking, setting}
+use Rattle.registers.specs.Fields.{isOn, isWalking, setting, withPrefetch, withCopied, wordsOf, entryOf}
 use Rattle.registers.specs.Table.{noRegister, commandOf, valueAt, tended}
 use Rattle.lanes.specs.declared.Matched.the-variants as M
 use Rattle.registers.specs.declared.Pending.the-variants.{Nothing, Held}
 use Rattle.registers.specs.declared.Answer.the-variants as A
 use Rattle.registers.specs.declared.Command.the-variants as C
 use Rattle.decision.specs.declared.Shift.the-variants as H
-use Rattle.decision.specs.Prefetches.{pageAt, prefetchDecided, shiftBy}
-use Rattle.attempts.specs.Effects.{prefetchEnded}
-use Rattle.orders.specs.Orders.{bankLoaded, registersCopied}
+use Rattle.decision.specs.Decisions.{billed}
+use Rattle.decision.specs.Prefetches.{pageAt, prefetchDecided, prefetchKept, shiftBy}
 use Rattle.unit.specs.Types.{Access, VirtualAddress, Lent, lentOk, Bill, Prices, Matched, Fault, Pending, Decision, Shift, Command, Device, Outcome, Told}
 use Rattle.unit.specs.Refusals.{Refusals, refuses}
 use Rattle.unit.specs.Offsets.{prefetchAt, acknowledgeAt, lockAt, loadAt}
-use Rattle.unit.specs.Device.{freshDevice, inRange, setRegisters, setBank, cleared, told, toldRefused, doneWith, refusedWith, outcomeOf, look, attemptOf}
+use Rattle.unit.specs.Device.{freshDevice, inRange, setRegisters, setBank, cleared, told, toldRefused, doneWith, refusedWith, look, applied, attemptOf}
 
 -- an offset is one of a list
 abbrev pub oneOf : List ℕ → ℕ → Bool
@@ -99,9 +101,14 @@ writeRefusals m p b d o v =
     ∷ (writeLacks m d o v, 3)
     ∷ []
 
--- prefetch: no effect on a match, else a walk
+-- prefetch: no effect on a match, else a walk; the register keeps what was written, words are metered, it is no request
 abbrev pub prefetchEnds : Prices → Bill → Device → ℕ → Decision → Outcome
-prefetchEnds p b d v x = outcomeOf (prefetchEnded p b (d .registers) (d .bank) (d .pending) v x)
+prefetchEnds p b d v x = record {
+  device = applied (setRegisters d (withPrefetch (d .registers) (prefetchKept (v % 2 ^ 14) (d .registers .prefetch) (x .answer)))) (x .fill) (x .answer) (pageAt v) Read;
+  bill = billed p b x;
+  tally = record { fresh = 0; retries = 0; words = wordCount (x .reads) };
+  answer = x .answer;
+}
 
 abbrev pub prefetched : Lent → Prices → Bill → Device → ℕ → Outcome
 prefetched m p b d v = prefetchEnds p b d v (prefetchDecided (look m d (pageAt v)) (d .bank .cam) (pageAt v))
@@ -116,10 +123,10 @@ retried m p b d (Held k va a) = heldRetried m p b d k va a
 
 -- load stores the staged entry in the victim slot, copy reads that slot back
 abbrev pub withLoaded : Device → Device
-withLoaded d = setBank d (bankLoaded (d .registers) (d .bank))
+withLoaded d = setBank d (loaded (d .bank) (wordsOf (d .registers .staged)))
 
 abbrev pub withCopy : Device → Device
-withCopy d = setRegisters d (registersCopied (d .registers) (d .bank))
+withCopy d = setRegisters d (withCopied (d .registers) (entryOf (copied (d .bank))))
 
 -- what a write does past its refusals, by its command
 abbrev pub carried : Lent → Prices → Bill → Device → Command → Outcome

@@ -1,16 +1,16 @@
 -- The device: fresh, in range, with parts set, and after an attempt (01, "The unit", "The walk").
 use Rattle.page.specs.Ground.{ℕ, Bool}
+use Rattle.page.specs.Pick.{_and_}
+use Rattle.memory.specs.Reads.{wordCount}
 use Rattle.walk.specs.Walk.{walkIn}
 use Rattle.meters.specs.Posted.{noTally}
-use Rattle.bank.specs.Slots.{freshBank}
+use Rattle.bank.specs.Slots.{freshBank, bankOk}
 use Rattle.bank.specs.Changes.{entryFilled}
-use Rattle.registers.specs.Fields.{freshRegisters}
+use Rattle.registers.specs.Fields.{freshRegisters, registersOk, pendingOk}
 use Rattle.registers.specs.declared.Pending.the-variants as P
 use Rattle.registers.specs.declared.Answer.the-variants as A
-use Rattle.decision.specs.Decisions.{decided, settled}
-use Rattle.attempts.specs.Effects.{attempted}
-use Rattle.steps.specs.Steps.{partsOk}
-use Rattle.unit.specs.Types.{Access, VirtualAddress, Lent, Walked, Bill, Prices, Bank, Fill, Answer, Decision, Shift, Registers, Effect, Device, Outcome, Told, Reported}
+use Rattle.decision.specs.Decisions.{decided, settled, tallyOf, billed}
+use Rattle.unit.specs.Types.{Access, VirtualAddress, Lent, Walked, Bill, Prices, Bank, Fill, Answer, Decision, Shift, Registers, Device, Outcome, Told, Reported}
 
 -- a fresh device is all zero
 abbrev pub freshDevice : Device
@@ -18,7 +18,7 @@ freshDevice = record { registers = freshRegisters; bank = freshBank; pending = P
 
 -- every field is in its range; where one is not, every call answers 8
 unfoldable pub inRange : Device → Bool
-inRange d = partsOk (d .registers) (d .bank) (d .pending)
+inRange d = registersOk (d .registers) and pendingOk (d .pending) and bankOk (d .bank)
 
 -- a device with one part set
 abbrev pub setRegisters : Device → Registers → Device
@@ -53,15 +53,6 @@ doneWith b d = unbilled b (toldDone d)
 abbrev pub refusedWith : Device → Bill → ℕ → Outcome
 refusedWith d b k = unbilled b (toldRefused d k)
 
--- what a call that may walk leaves of the parts is the device
-abbrev pub outcomeOf : Effect → Outcome
-outcomeOf e = record {
-  device = record { registers = e .registers; bank = e .bank; pending = e .pending };
-  bill = e .bill;
-  tally = e .tally;
-  answer = e .answer;
-}
-
 -- what the plain walk of an address gives from the base register
 abbrev pub look : Lent → Device → VirtualAddress → Walked
 look m d va = walkIn m (d .registers .base .0) (va .0)
@@ -72,7 +63,12 @@ applied d f r va a = record { registers = d .registers; bank = entryFilled (d .b
 
 -- an attempt with its decision: again says whether it is a retry
 abbrev pub concluded : Prices → Bill → Bool → Device → VirtualAddress → Access → Decision → Outcome
-concluded p b again d va a x = outcomeOf (attempted p b again (d .registers) (d .bank) (d .pending) va a x)
+concluded p b again d va a x = record {
+  device = applied d (x .fill) (x .answer) va a;
+  bill = billed p b x;
+  tally = tallyOf again (wordCount (x .reads)) (x .answer);
+  answer = x .answer;
+}
 
 -- what a request or a retry comes to where w is what the plain walk of its address gives
 abbrev pub decidedBy : Walked → Device → VirtualAddress → Access → Decision

@@ -3,5 +3,5 @@ pub mod Refusals
 pub mod Device
 pub mod Offsets
 pub mod Calls
-pub mod Steps
 pub mod Machine
+pub mod Acts

@@ -7,8 +7,6 @@ pub use Rattle.registers.specs.declared.Registers.{Registers}
 pub use Rattle.registers.specs.declared.Setting.{Setting}
 pub use Rattle.registers.specs.declared.Tending.{Tending}
 pub use Rattle.registers.specs.declared.Command.{Command}
-pub use Rattle.plans.specs.declared.Ask.{Ask}
-pub use Rattle.effects.specs.declared.Effect.{Effect}
 pub use Rattle.unit.specs.declared.Device.{Device}
 pub use Rattle.unit.specs.declared.Outcome.{Outcome}
 pub use Rattle.unit.specs.declared.Told.{Told}

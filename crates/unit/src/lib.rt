@@ -1,18 +1,22 @@
 // The device and its calls.
 use bank::Bank;
 use bill::Bill;
+use decision::Said;
 use decision::Shift;
-use effects::Effect;
 use meters::Tally;
 use page::Access;
 use page::VirtualAddress;
+use plan::Plan;
+use prices::Price;
 use prices::Prices;
 use registers::Answer;
 use registers::Pending;
 use registers::Registers;
 ghost use mathlib.Core.Path.{_≡_};
 ghost use Rattle.memory.specs.Memory.{lent};
-ghost use Rattle.unit.specs.Device.{freshDevice, inRange, reported, outcomeOf};
+ghost use Rattle.perform.specs.Performed.{performed};
+ghost use Rattle.unit.specs.Device.{freshDevice, inRange, reported};
+ghost use Rattle.unit.specs.Acts.{doneOf, answerOf, shiftIn, outcomeOf, toldOf, Fitted, Alone};
 ghost use Rattle.unit.specs.Calls.{requestOf, writeOf, readOf, dropOf, shiftOf};
 
 // The registers, the slots, and perhaps one pending fault.
@@ -42,25 +46,130 @@ pub struct Reported {
     pub shift: Shift,
 }
 
-// The device after a call that may walk.
-fn after(e: Effect) -> Outcome
-    ensures { λ r. ⌜ r ≡ outcomeOf e ⌝ }
+// What a plan leaves and says.
+struct Acted {
+    device: Device,
+    bill: Bill,
+    tally: Tally,
+    said: Said,
+}
+
+// What is planned, done to a device.
+fn act<'a>(
+    d: Device,
+    plan: Plan,
+    on: &'a [u8],
+    onbase: u32,
+    ext: &'a [u8],
+    extbase: u32,
+    prices: Prices,
+    bill: Bill,
+) -> Acted
+    ensures { λ r. ⌜ (Fitted d plan → doneOf r ≡ performed (lent (now (on .entry)) onbase (now (ext .entry)) extbase) prices bill (d .registers) (d .bank) (d .pending) plan) ⌝ }
 {
-    let r = e.registers;
-    let b = e.bank;
-    let p = e.pending;
-    let bill = e.bill;
-    let tally = e.tally;
-    let answer = e.answer;
-    Outcome {
+    let r = d.registers;
+    let b = d.bank;
+    let p = d.pending;
+    let mut cam = b.cam;
+    let mut ram = b.ram;
+    let mut lows = slots::lows(&cam);
+    let mut highs = slots::highs(&cam);
+    let x = perform::perform(
+        plan,
+        &mut cam,
+        &mut ram,
+        &mut lows,
+        &mut highs,
+        r,
+        b.lock,
+        b.victim,
+        p,
+        bill,
+        on,
+        onbase,
+        ext,
+        extbase,
+        prices,
+    );
+    let registers = x.registers;
+    let pending = x.pending;
+    let charged = x.bill;
+    let tally = x.tally;
+    let said = x.said;
+    Acted {
         device: Device {
-            registers: r,
-            bank: b,
-            pending: p,
+            registers: registers,
+            bank: Bank {
+                cam: cam,
+                ram: ram,
+                lock: x.lock,
+                victim: x.victim,
+            },
+            pending: pending,
         },
+        bill: charged,
+        tally: tally,
+        said: said,
+    }
+}
+
+// The same for a plan that reads no memory and charges nothing.
+fn act_alone(d: Device, plan: Plan) -> Acted
+    ensures { λ r. ⌜ (Fitted d plan → Alone d plan (doneOf r)) ⌝ }
+{
+    let none = [0u8; 1];
+    let free = Prices {
+        onchip: Price::Flat(0.0),
+        external: Price::Flat(0.0),
+    };
+    act(d, plan, &none, 0, &none, 0, free, Bill::fresh())
+}
+
+// The answer in what is said.
+fn answer_of(said: Said) -> Answer
+    ensures { λ r. ⌜ r ≡ answerOf said ⌝ }
+{
+    match said {
+        Said::Answered(r) => r,
+        Said::Reported(_) => Answer::Done,
+    }
+}
+
+// The shift in what is said.
+fn shift_in(said: Said) -> Shift
+    ensures { λ r. ⌜ r ≡ shiftIn said ⌝ }
+{
+    match said {
+        Said::Answered(_) => Shift::Fault,
+        Said::Reported(s) => s,
+    }
+}
+
+// What a call that may walk hands back.
+fn outcome_of(x: Acted) -> Outcome
+    ensures { λ r. ⌜ r ≡ outcomeOf (doneOf x) ⌝ }
+{
+    let device = x.device;
+    let bill = x.bill;
+    let tally = x.tally;
+    let said = x.said;
+    Outcome {
+        device: device,
         bill: bill,
         tally: tally,
-        answer: answer,
+        answer: answer_of(said),
+    }
+}
+
+// What a call that never walks hands back.
+fn told_of(x: Acted) -> Told
+    ensures { λ r. ⌜ r ≡ toldOf (doneOf x) ⌝ }
+{
+    let device = x.device;
+    let said = x.said;
+    Told {
+        device: device,
+        answer: answer_of(said),
     }
 }
 
@@ -86,7 +195,13 @@ impl Device {
         let r = self.registers;
         let b = self.bank;
         let p = self.pending;
-        steps::in_range(r, b, p)
+        if !registers::registers_ok(r) {
+            return false;
+        }
+        if !registers::pending_ok(p) {
+            return false;
+        }
+        b.in_range()
     }
 
     // A request.
@@ -103,10 +218,12 @@ impl Device {
     ) -> Outcome
         ensures { λ r. ⌜ r ≡ requestOf (lent (now (on .entry)) onbase (now (ext .entry)) extbase) prices bill self va a ⌝ }
     {
-        let r = self.registers;
-        let b = self.bank;
         let p = self.pending;
-        after(steps::request(va, a, r, b, p, on, onbase, ext, extbase, prices, bill))
+        let ok = self.in_range();
+        let memories = memory::memories_ok(on, onbase, ext, extbase);
+        let money = prices::prices_ok(prices);
+        let plan = plan::request(ok, memories, money, bill, p, va, a);
+        outcome_of(act(self, plan, on, onbase, ext, extbase, prices, bill))
     }
 
     // A register write.
@@ -124,45 +241,27 @@ impl Device {
         ensures { λ r. ⌜ r ≡ writeOf (lent (now (on .entry)) onbase (now (ext .entry)) extbase) prices bill self offset v ⌝ }
     {
         let r = self.registers;
-        let b = self.bank;
         let p = self.pending;
-        after(steps::write(offset, v, r, b, p, on, onbase, ext, extbase, prices, bill))
+        let ok = self.in_range();
+        let memories = memory::memories_ok(on, onbase, ext, extbase);
+        let money = prices::prices_ok(prices);
+        let plan = plan::write(ok, memories, money, bill, r.control, p, offset, v);
+        outcome_of(act(self, plan, on, onbase, ext, extbase, prices, bill))
     }
 
     // A register read.
     pub fn read(self, offset: u32) -> Told
         ensures { λ r. ⌜ r ≡ readOf self offset ⌝ }
     {
-        if !self.in_range() {
-            return Told {
-                device: self,
-                answer: Answer::Refused(8),
-            };
-        }
-        let r = self.registers;
-        let p = self.pending;
-        Told {
-            device: self,
-            answer: values::value_at(offset, r, self.bank.lock, self.bank.victim, p),
-        }
+        told_of(act_alone(self, plan::read(self.in_range(), offset)))
     }
 
     // The pending fault cleared.
     pub fn drop(self) -> Told
         ensures { λ r. ⌜ r ≡ dropOf self ⌝ }
     {
-        let r = self.registers;
-        let b = self.bank;
         let p = self.pending;
-        let k = checks::drop_refusal(self.in_range(), p);
-        Told {
-            device: Device {
-                registers: r,
-                bank: b,
-                pending: checks::dropped(k, p),
-            },
-            answer: checks::drop_answer(k),
-        }
+        told_of(act_alone(self, plan::drop(self.in_range(), p)))
     }
 
     // A shift report.
@@ -176,12 +275,18 @@ impl Device {
     ) -> Reported
         ensures { λ r. ⌜ r ≡ reported self (shiftOf (lent (now (on .entry)) onbase (now (ext .entry)) extbase) self va) ⌝ }
     {
-        let r = self.registers;
-        let b = self.bank;
-        let p = self.pending;
+        let memories = memory::memories_ok(on, onbase, ext, extbase);
+        let plan = plan::shift(self.in_range(), memories, va);
+        let free = Prices {
+            onchip: Price::Flat(0.0),
+            external: Price::Flat(0.0),
+        };
+        let x = act(self, plan, on, onbase, ext, extbase, free, Bill::fresh());
+        let device = x.device;
+        let said = x.said;
         Reported {
-            device: self,
-            shift: steps::shift(va, r, b, p, on, onbase, ext, extbase),
+            device: device,
+            shift: shift_in(said),
         }
     }
 }

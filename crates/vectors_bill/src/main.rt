@@ -4,7 +4,6 @@
 use bill::Bill;
 use bill::Seen;
 use memory::Place;
-use memory::Reads;
 use memory::Source;
 use page::PhysicalAddress;
 use prices::LastRow;
@@ -55,7 +54,7 @@ fn bills() {
 
 // Whether prices and a bill are allowed.
 fn money(p: Prices, b: Bill) {
-    show::answer(b"money", bill::money_ok(p, b));
+    show::answer(b"money", prices::prices_ok(p) & b.ok());
 }
 
 // A fresh bill with other figures.
@@ -138,31 +137,37 @@ fn dear(b: Bill) {
     word(b, source(0x100003FC, Place::External(0)), p, 16.0);
 }
 
-// The words of a walk, posted to a fresh bill, and the total that it should have.
-fn walk(reads: Reads, total: f64) {
-    let p = Prices {
+// The prices of a walk.
+fn walking() -> Prices {
+    Prices {
         onchip: Price::Flat(0.1),
         external: Price::Row {
             same: 0.5,
             fresh: 0.2,
         },
-    };
-    shown(Bill::fresh().post_reads(reads, p), total, 0.0);
+    }
+}
+
+// A fresh bill after a word of a walk.
+fn first(s: Source) -> Bill {
+    Bill::fresh().post_word(s, walking())
+}
+
+// A fresh bill after two words of a walk, and the total that it should have.
+fn walk(a: Source, b: Source, total: f64) {
+    shown(first(a).post_word(b, walking()), total, 0.0);
 }
 
 // The words of a walk in order: 0.1 + 0.2 rounds up, and 0.2 + 0.5 is a tie that goes down to 0.7.
 fn walks() {
-    walk(Reads::Nothing, 0.0);
+    shown(Bill::fresh(), 0.0, 0.0);
     let on = source(0x448, Place::OnChip(0));
-    walk(Reads::One(on), 0.1);
+    shown(first(on), 0.1, 0.0);
     let ext = source(0x448, Place::External(0));
-    walk(Reads::Two(on, ext), 0.30000000000000004);
-    walk(Reads::Two(on, ext), 0.3);
+    walk(on, ext, 0.30000000000000004);
+    walk(on, ext, 0.3);
     let last = source(0xFFFFFFFC, Place::External(0));
-    walk(
-        Reads::Two(last, source(0xFFFFFC00, Place::External(0))),
-        0.7,
-    );
+    walk(last, source(0xFFFFFC00, Place::External(0)), 0.7);
 }
 
 // A bill after an attempt, and the misses that it should have.

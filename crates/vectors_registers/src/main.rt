@@ -1,21 +1,31 @@
-// What `registers`, `values` and `commands` answer for values worked out by hand from the paper: its file `stdout` has
-// them, in hexadecimal.
+// What `registers`, `values` and `commands` answer, and `perform` does, for values worked out by hand from the paper: its
+// file `stdout` has them, in hexadecimal.
 // A read is shown by its offset, then 1 and the value or 0 and the number of the refusal.
 // A write is shown by its offset and value, then a number for what it asks for and its value: 0 a refusal, 1 nothing,
 // 2 reset, 3 load, 4 copy, 5 prefetch, 6 acknowledge, 7 global flush, 8 entry flush; or by the lock base and the victim; or
 // by what it sets in fresh registers.
-use bank::Bank;
+use bill::Bill;
+use lanes::SLOTS;
 use page::Access;
 use page::PhysicalAddress;
 use page::VirtualAddress;
+use prices::Price;
+use prices::Prices;
 use registers::Answer;
 use registers::Command;
 use registers::Entry;
 use registers::Fault;
 use registers::Pending;
 use registers::Registers;
-use registers::Setting;
 use registers::Tending;
+
+// What a write leaves: the registers, the lock base, the victim, and the victim's CAM word.
+struct Left {
+    registers: Registers,
+    lock: u8,
+    victim: u8,
+    cam: u32,
+}
 
 fn main() {
     let p = Pending::Held(Fault::Permission, VirtualAddress(0x3ABCDE), Access::Write);
@@ -126,17 +136,17 @@ fn fault(p: Pending) {
 // A write at an offset.
 fn write(offset: u32, v: u16) {
     show::words(b"write", offset, v as u32);
-    asked(commands::command_at(offset, v));
+    asked(commands::command_at(offset, v), offset, v);
 }
 
 // What a write asks for.
-fn asked(c: Command) {
+fn asked(c: Command, offset: u32, v: u16) {
     match c {
         Command::Refused(k) => show::said(0, k as u64),
         Command::Nothing => show::said(1, 0),
         Command::Reset => show::said(2, 0),
-        Command::Set(s) => {
-            set(Registers::fresh(), s);
+        Command::Set(_) => {
+            set(Registers::fresh(), offset, v);
         }
         Command::Tend(t) => tend(t),
         Command::Load => show::said(3, 0),
@@ -191,9 +201,53 @@ fn entry(e: Entry) {
     show::end();
 }
 
-// Registers after a setting: base, control, and the staged entry.
-fn set(r: Registers, s: Setting) -> Registers {
-    let after = r.set(s);
+// A write done to registers, with the bench sheet's words in slot 0, nothing locked and nothing pending.
+fn written(r: Registers, offset: u32, v: u16) -> Left {
+    let w = registers::words_of(large());
+    let mut cam = [0u32; SLOTS];
+    let mut ram = [0u32; SLOTS];
+    cam[0] = w.cam;
+    ram[0] = w.ram;
+    let mut lows = slots::lows(&cam);
+    let mut highs = slots::highs(&cam);
+    let none = [0u8; 1];
+    let free = Prices {
+        onchip: Price::Flat(0.0),
+        external: Price::Flat(0.0),
+    };
+    let idle = Pending::Nothing;
+    let bill = Bill::fresh();
+    let x = perform::perform(
+        plan::write(true, true, true, bill, r.control, idle, offset, v),
+        &mut cam,
+        &mut ram,
+        &mut lows,
+        &mut highs,
+        r,
+        0,
+        0,
+        idle,
+        bill,
+        &none,
+        0,
+        &none,
+        0,
+        free,
+    );
+    let at = x.victim as usize % SLOTS;
+    let after = x.registers;
+    Left {
+        registers: after,
+        lock: x.lock,
+        victim: x.victim,
+        cam: cam[at],
+    }
+}
+
+// Registers after a write that sets one: base, control, and the staged entry.
+fn set(r: Registers, offset: u32, v: u16) -> Registers {
+    let left = written(r, offset, v);
+    let after = left.registers;
     show::words(b" set", after.base.0, after.control as u32);
     entry(after.staged);
     after
@@ -202,38 +256,35 @@ fn set(r: Registers, s: Setting) -> Registers {
 // Base and entry from fresh registers, half by half, then control; then whether the unit is on and whether it walks, 1 for
 // yes, and the entry that copy read back.
 fn settings() {
-    let a = set(
-        set(Registers::fresh(), Setting::BaseHigh(0x2000)),
-        Setting::BaseLow(0x0080),
-    );
-    let b = set(set(a, Setting::BaseHigh(0x1000)), Setting::CamHigh(0));
-    let c = set(set(b, Setting::CamLow(0x0405)), Setting::RamHigh(0x1002));
-    let d = set(set(c, Setting::RamLow(0x0300)), Setting::Control(0x27));
+    let a = set(set(Registers::fresh(), 0x1C, 0x2000), 0x20, 0x0080);
+    let b = set(set(a, 0x1C, 0x1000), 0x2C, 0);
+    let c = set(set(b, 0x30, 0x0405), 0x34, 0x1002);
+    let d = set(set(c, 0x38, 0x0300), 0x08, 0x27);
     show::number(registers::is_on(d.control) as u64);
     show::number(registers::is_walking(d.control) as u64);
     entry(d.copied);
 }
 
-// The bench sheet's words in slot 0, tended with an entry staged: lock base, victim, and the victim's CAM word.
-fn tended(staged: Entry, t: Tending) {
-    let b = Bank::fresh().load(registers::words_of(large()));
-    let k = registers::tend_bank(b, staged, t);
-    let w = k.copy();
-    show::triple(b" slots", k.lock as u32, k.victim as u32, w.cam);
+// The bench sheet's words in slot 0, after a write with an entry staged: lock base, victim, and the victim's CAM word.
+fn tended(staged: Entry, offset: u32, v: u16) {
+    let mut r = Registers::fresh();
+    r.staged = staged;
+    let k = written(r, offset, v);
+    show::triple(b" slots", k.lock as u32, k.victim as u32, k.cam);
 }
 
 // A lock; the flushes with another page staged; an entry flush with the page's tag.
 fn tendings() {
-    tended(large(), Tending::Lock(31, 5));
-    tended(last(), Tending::Flush);
-    tended(last(), Tending::FlushEntry);
+    tended(large(), 0x24, 0x7C50);
+    tended(last(), 0x3C, 1);
+    tended(last(), 0x40, 1);
     let tag = Entry {
         camhi: 0,
         camlo: 0x0400,
         ramhi: 0,
         ramlo: 0,
     };
-    tended(tag, Tending::FlushEntry);
+    tended(tag, 0x40, 1);
 }
 
 // Registers are in range as above; not with control 2F or 40, base 20000040, prefetch 4000, CAM high 4 or read RAM low 0380.

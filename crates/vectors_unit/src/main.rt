@@ -1,12 +1,12 @@
 // A scripted session on the device: every register, every refusal from 1 to 9 and every fault. Its file `stdout` was worked out by hand.
 // A line has the call, a number (0 accepted, 100 an address, 101 a value, 102 a distance, else the paper's) and a value.
+use decision::Said;
 use forms::Call;
 use page::Access;
 use page::VirtualAddress;
 use prices::Price;
 use prices::Prices;
 use session::Bench;
-use session::Said;
 use session::Stepped;
 
 // The base of the external memory that is lent.

@@ -45,7 +45,7 @@ fn ended(found: Found, first: Source) -> Walked
 }
 
 // The word at an address.
-fn read_word<'a>(
+pub fn read_word<'a>(
     on: &'a [u8],
     onbase: u32,
     ext: &'a [u8],

@@ -1,4 +1,4 @@
-use Rattle.session.specs.declared.Said.the-variants.{Answered}
+use Rattle.decision.specs.declared.Said.the-variants.{Answered}
 use Rattle.session.specs.declared.Stepped.{Stepped}
 use Rattle.meters.specs.declared.Meters.{Meters}
 use mathlib.Core.Path.{ap}

@@ -1,4 +1,4 @@
-use Rattle.session.specs.declared.Said.the-variants as S
+use Rattle.decision.specs.declared.Said.the-variants as S
 use Rattle.session.specs.declared.Stepped.{Stepped}
 use Rattle.unit.specs.declared.Reported.{Reported}
 use Rattle.meters.specs.Posted.{noTally, posted}
@@ -70,9 +70,12 @@ returns c = let x = c .before .before .before .before .before .before .before .b
     c .posted .ensures ∙ ap (λ o. made (x .self .meters) (stepOut o)) (c .before .write .ensures) ∙ sym (ap (stepped m (x .prices) (x .self)) (c .before .before .before .call .given .1))
 
 returns-2 : tie.Need-returns-2
-returns-2 c = let x = c .before .before .before .before .before .before .before .before .before .before .args in
+returns-2 c =
+    let s3 = c .before .before .before in
+    let s10 = s3 .before .before .before .before .before .before .before in
+    let x = s10 .args in
     let m : Lent = lent (now (x .on)) (x .onbase) (now (x .ext)) (x .extbase) in
-    c .kept .ensures ∙ ap (λ o. made (x .self .meters) (stepTold (x .self .bill) o)) (c .before .read .ensures) ∙ sym (ap (stepped m (x .prices) (x .self)) (c .before .before .before .call2 .given .1))
+    c .kept .ensures ∙ ap (λ o. made (x .self .meters) (stepTold (x .self .bill) o)) (c .before .read .ensures) ∙ sym (ap (stepped m (x .prices) (x .self)) (s3 .call2 .given .1))
 
 returns-3 : tie.Need-returns-3
 returns-3 c = let x = c .before .before .before .before .before .before .before .before .before .before .args in

@@ -1,4 +1,5 @@
-use Rattle.unit.proofs.Drops.{drop-is}
+use mathlib.Core.Path.{_∙_}
+use Rattle.unit.proofs.Acting.{drop-acts}
 use borrow.Author.Needs.{needs}
 use Rattle.unit.proofs.Device.drop.Statement.{statement}
 use Rattle.unit.proofs.Device.drop.Tie as tie
@@ -6,20 +7,24 @@ use Rattle.unit.proofs.Device.drop.Tie as tie
 in-range-requires : tie.Need-in-range-requires
 in-range-requires c κs = search needs
 
-drop-refusal-requires : tie.Need-drop-refusal-requires
-drop-refusal-requires c κs = search needs
+drop-requires : tie.Need-drop-requires
+drop-requires c κs = search needs
 
-dropped-requires : tie.Need-dropped-requires
-dropped-requires c κs = search needs
+act-alone-requires : tie.Need-act-alone-requires
+act-alone-requires c κs = search needs
 
-drop-answer-requires : tie.Need-drop-answer-requires
-drop-answer-requires c κs = search needs
+told-of-requires : tie.Need-told-of-requires
+told-of-requires c κs = search needs
 
 returns : tie.Need-returns
 returns c =
-    drop-is (c .before .before .before .before .before .before .args .self) (c .before .before .before .in-range .result) (c .before .before .drop-refusal .result) (c .before .dropped .result) (c .drop-answer .result)
-    (c .before .before .before .in-range .ensures) (c .before .before .drop-refusal .ensures) (c .before .dropped .ensures) (c .drop-answer .ensures)
+    let s2 = c .before .before in
+    let s3 = s2 .before in
+    let s4 = s3 .before in
+    let x = s4 .args in
+    c .told-of .ensures ∙ drop-acts (x .self) _ _ (s3 .in-range .ensures) _ (c .before .act-alone .ensures) (s2 .drop .ensures)
 
 pub drop-spec : {M : Type 1} → statement M
 drop-spec =
-    tie.close (tie.spec in-range-requires drop-refusal-requires dropped-requires drop-answer-requires returns)
+    tie.close
+    (tie.spec in-range-requires drop-requires act-alone-requires told-of-requires returns)

@@ -1,24 +1,49 @@
-use Rattle.unit.proofs.Writes.{request-is}
-use Rattle.unit.specs.Device.{outcomeOf}
-use Rattle.memory.specs.Memory.{lent}
-use denote.Ref.{now}
 use mathlib.Core.Path.{_∙_, ap}
+use denote.Ref.{now}
+use Rattle.memory.specs.Memory.{lent}
+use Rattle.unit.proofs.Acting.{request-acts}
 use borrow.Author.Needs.{needs}
 use Rattle.unit.proofs.Device.request.Statement.{statement}
 use Rattle.unit.proofs.Device.request.Tie as tie
 
+in-range-requires : tie.Need-in-range-requires
+in-range-requires c κs = search needs
+
+memories-ok-requires : tie.Need-memories-ok-requires
+memories-ok-requires c κs = search needs
+
+prices-ok-requires : tie.Need-prices-ok-requires
+prices-ok-requires c κs = search needs
+
 request-requires : tie.Need-request-requires
 request-requires c κs = search needs
 
-after-requires : tie.Need-after-requires
-after-requires c κs = search needs
+act-requires : tie.Need-act-requires
+act-requires c κs = search needs
+
+outcome-of-requires : tie.Need-outcome-of-requires
+outcome-of-requires c κs = search needs
 
 returns : tie.Need-returns
 returns c =
-    let x = c .before .before .before .before .before .before .args in
-    c .after .ensures
-    ∙ ap outcomeOf (c .before .request .ensures)
-    ∙ request-is (lent (now (x .on)) (x .onbase) (now (x .ext)) (x .extbase)) (x .prices) (x .bill) (x .self) (x .va) (x .a)
+    let s2 = c .before .before in
+    let s3 = s2 .before in
+    let s4 = s3 .before in
+    let s5 = s4 .before in
+    let s8 = s5 .before .before .before in
+    let x = s8 .args in
+    let m = lent (now (x .on)) (x .onbase) (now (x .ext)) (x .extbase) in
+    c .outcome-of .ensures ∙ request-acts m (x .prices) (x .bill) (x .self) _ _ _ _ (s5 .in-range .ensures) (s4 .memories-ok .ensures) (s3 .prices-ok .ensures) (x .va) (x .a)
+    (s2 .request .ensures) _ (c .before .act .ensures)
 
 pub request-spec : {M : Type 1} → statement M
-request-spec = tie.close (tie.spec request-requires after-requires returns)
+request-spec =
+    tie.close
+    (tie.spec
+    in-range-requires
+    memories-ok-requires
+    prices-ok-requires
+    request-requires
+    act-requires
+    outcome-of-requires
+    returns)

@@ -1,19 +1,52 @@
-use Rattle.unit.proofs.Attempts.{shift-is}
-use Rattle.unit.specs.Device.{reported}
-use Rattle.memory.specs.Memory.{lent}
-use denote.Ref.{now}
 use mathlib.Core.Path.{_∙_, ap}
+use denote.Ref.{now}
+use Rattle.memory.specs.Memory.{lent}
+use Rattle.perform.specs.Performed.{Done}
+use Rattle.unit.specs.Device.{reported}
+use Rattle.unit.specs.Acts.{toldOf, shiftIn}
+use Rattle.unit.proofs.Acting.{shift-acts}
 use borrow.Author.Needs.{needs}
 use Rattle.unit.proofs.Device.shift_report.Statement.{statement}
 use Rattle.unit.proofs.Device.shift_report.Tie as tie
 
+memories-ok-requires : tie.Need-memories-ok-requires
+memories-ok-requires c κs = search needs
+
+in-range-requires : tie.Need-in-range-requires
+in-range-requires c κs = search needs
+
 shift-requires : tie.Need-shift-requires
 shift-requires c κs = search needs
 
+fresh-requires : tie.Need-fresh-requires
+fresh-requires c κs = search needs
+
+act-requires : tie.Need-act-requires
+act-requires c κs = search needs
+
+shift-in-requires : tie.Need-shift-in-requires
+shift-in-requires c κs = search needs
+
 returns : tie.Need-returns
 returns c =
-    let x = c .before .before .before .before .before .args in
-    ap (reported _) (c .shift .ensures ∙ shift-is (lent (now (x .on)) (x .onbase) (now (x .ext)) (x .extbase)) (x .self) (x .va))
+    let s2 = c .before .before in
+    let s4 = s2 .before .before in
+    let s5 = s4 .before in
+    let s6 = s5 .before in
+    let s9 = s6 .before .before .before in
+    let x = s9 .args in
+    let m = lent (now (x .on)) (x .onbase) (now (x .ext)) (x .extbase) in
+    let e = shift-acts m _ _ (x .self) _ (x .va) _ _ (s5 .in-range .ensures) (s6 .memories-ok .ensures) (s4 .shift .ensures) _ (s2 .act .ensures) in
+    rw (c .shift-in .ensures) (ap (λ (y : Done). reported (toldOf y .device) (shiftIn (y .said))) e)
 
 pub shift-report-spec : {M : Type 1} → statement M
-shift-report-spec = tie.close (tie.spec shift-requires returns)
+shift-report-spec =
+    tie.close
+    (tie.spec
+    memories-ok-requires
+    in-range-requires
+    shift-requires
+    fresh-requires
+    act-requires
+    shift-in-requires
+    returns)

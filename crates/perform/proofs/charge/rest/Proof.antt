@@ -1,0 +1,88 @@
+use Rattle.perform.specs.Charged.{chargedOf}
+use Rattle.walk.specs.Walk.{byFirst, readWithin, coarseAt, fineAt}
+use Rattle.memory.specs.Memory.{lent}
+use Rattle.descriptors.specs.declared.Found.the-variants.{NoPage, Page}
+use Rattle.descriptors.specs.declared.First.{First}
+use Rattle.descriptors.specs.Descriptors.{Room}
+use Rattle.bill.specs.declared.Bill.{Bill}
+use mathlib.Core.Path.{sym, _∙_, ap, subst}
+use denote.Ref.{now}
+use native.Mathlib.Omega.{arith}
+use borrow.Author.Needs.{needs}
+use Rattle.perform.proofs.charge.rest.Statement.{statement}
+use Rattle.perform.proofs.charge.rest.Tie as tie
+
+enum-told : tie.Need-enum-told
+enum-told c = search needs
+
+returns : tie.Need-returns
+returns c = let a = c .before .before .before .before .args in
+    let rd = readWithin (lent (now (a .on)) (a .onbase) (now (a .ext)) (a .extbase)) in
+    ap (λ (b : Bill). record { found = NoPage; words = 1; bill = b }) (c .before .before .before .before .pre .1)
+    ∙ ap (λ (x : First). chargedOf (a .prices) (a .before) (byFirst rd (a .va .0) (a .first) x)) (sym (c .enum-told .given .1))
+
+enum-known-d : tie.Need-enum-known-d
+enum-known-d c = search needs
+
+returns-2 : tie.Need-returns-2
+returns-2 c = let a = c .before .before .before .before .before .args in
+    let rd = readWithin (lent (now (a .on)) (a .onbase) (now (a .ext)) (a .extbase)) in
+    ap (λ (b : Bill). record { found = Page (c .before .d .given .0 .0); words = 1; bill = b }) (c .before .before .before .before .before .pre .1)
+    ∙ ap (λ (x : First). chargedOf (a .prices) (a .before) (byFirst rd (a .va .0) (a .first) x)) (sym (c .before .d .given .1))
+
+enum-known-d-2 : tie.Need-enum-known-d-2
+enum-known-d-2 c = search needs
+
+mul-t21 : tie.Need-mul-t21
+mul-t21 c = search needs
+
+add-t22 : tie.Need-add-t22
+add-t22 c = omega (arith, subst Room (c .before .before .d2 .given .1) (c .before .before .before .before .before .before .pre .0))
+
+second-requires : tie.Need-second-requires
+second-requires c κs = c .before .before .before .before .before .before .pre .1
+
+returns-3 : tie.Need-returns-3
+unfolding coarseAt
+returns-3 c = let a = c .before .before .before .before .before .before .before .args in
+    let rd = readWithin (lent (now (a .on)) (a .onbase) (now (a .ext)) (a .extbase)) in
+    c .second .ensures
+    ∙ ap (λ (x : First). chargedOf (a .prices) (a .before) (byFirst rd (a .va .0) (a .first) x)) (sym (c .before .before .before .d2 .given .1))
+
+enum-known-d-3 : tie.Need-enum-known-d-3
+enum-known-d-3 c = search needs
+
+mul-t26 : tie.Need-mul-t26
+mul-t26 c = search needs
+
+add-t27 : tie.Need-add-t27
+add-t27 c = omega (arith, subst Room (c .before .before .d3 .given .1) (c .before .before .before .before .before .before .pre .0))
+
+second-requires-2 : tie.Need-second-requires-2
+second-requires-2 c κs = c .before .before .before .before .before .before .pre .1
+
+returns-4 : tie.Need-returns-4
+unfolding fineAt
+returns-4 c = let a = c .before .before .before .before .before .before .before .args in
+    let rd = readWithin (lent (now (a .on)) (a .onbase) (now (a .ext)) (a .extbase)) in
+    c .second2 .ensures
+    ∙ ap (λ (x : First). chargedOf (a .prices) (a .before) (byFirst rd (a .va .0) (a .first) x)) (sym (c .before .before .before .d3 .given .1))
+
+pub rest-spec : {M : Type 1} → statement M
+rest-spec =
+    tie.close
+    (tie.spec
+    enum-told
+    returns
+    enum-known-d
+    returns-2
+    enum-known-d-2
+    mul-t21
+    add-t22
+    second-requires
+    returns-3
+    enum-known-d-3
+    mul-t26
+    add-t27
+    second-requires-2
+    returns-4)

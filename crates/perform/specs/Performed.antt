@@ -1,0 +1,153 @@
+-- What a plan leaves of a device's parts, and says (01, "The unit", "The walk", "Registers").
+use Rattle.page.specs.Ground.{ℕ, _<_, _≡_, _/_, _%_, List, true, false}
+use Rattle.page.specs.Words.{limit}
+use Rattle.page.specs.declared.Access.{Access}
+use Rattle.page.specs.declared.VirtualAddress.{VirtualAddress}
+use Rattle.memory.specs.Memory.{Lent}
+use Rattle.memory.specs.Reads.{wordCount}
+use Rattle.meters.specs.Posted.{noTally}
+use Rattle.meters.specs.declared.Tally.{Tally}
+use Rattle.prices.specs.declared.Prices.{Prices}
+use Rattle.bill.specs.declared.Bill.{Bill}
+use Rattle.lanes.specs.Lanes.{camLimit, camsOk}
+use Rattle.bank.specs.Slots.{freshBank}
+use Rattle.bank.specs.Changes.{entryFilled, lockedAt, bankFlushed, bankFlushedAt, loaded, copied}
+use Rattle.bank.specs.declared.Bank.{Bank}
+use Rattle.bank.specs.declared.Fill.{Fill}
+use Rattle.walk.specs.Walk.{walkWithin}
+use Rattle.walk.specs.declared.Walked.{Walked}
+use Rattle.registers.specs.Fields.{isOn, isWalking, freshRegisters, setting, withPrefetch, withCopied, wordsOf, entryOf, camAddress}
+use Rattle.registers.specs.Table.{valueAt}
+use Rattle.registers.specs.declared.Answer.{Answer}
+use Rattle.registers.specs.declared.Answer.the-variants as A
+use Rattle.registers.specs.declared.Pending.{Pending}
+use Rattle.registers.specs.declared.Pending.the-variants as P
+use Rattle.registers.specs.declared.Registers.{Registers}
+use Rattle.decision.specs.Decisions.{decided, settled, tallyOf, billed}
+use Rattle.decision.specs.Prefetches.{prefetchDecided, prefetchKept, shiftBy}
+use Rattle.decision.specs.declared.Decision.{Decision}
+use Rattle.decision.specs.declared.Said.{Said}
+use Rattle.decision.specs.declared.Said.the-variants.{Answered, Reported}
+use Rattle.decision.specs.declared.Shift.the-variants as H
+use Rattle.plan.specs.Plans.{settingAt}
+use Rattle.plan.specs.declared.Plan.{Plan}
+use Rattle.plan.specs.declared.Plan.the-variants as L
+use Rattle.plan.specs.declared.Reason.{Reason}
+use Rattle.plan.specs.declared.Reason.the-variants.{Request, Retry, Prefetch}
+use Rattle.slots.specs.Lanes.{bankOf, Spanned}
+use Rattle.perform.specs.declared.Performed.{Performed}
+
+-- what a call leaves of the parts, and says
+pub record Done : Type 0 where
+  pub registers : Registers
+  pub bank : Bank
+  pub pending : Pending
+  pub bill : Bill
+  pub tally : Tally
+  pub said : Said
+
+-- a call that reads no word leaves the bill as it is and adds nothing to the meters
+abbrev pub quietly : Registers → Bank → Pending → Bill → Said → Done
+quietly r k q b s = record { registers = r; bank = k; pending = q; bill = b; tally = noTally; said = s }
+
+-- what an attempt comes to, where w is what the plain walk of its address gives
+abbrev pub decidedFor : Reason → Walked → ℕ → List ℕ → List ℕ → VirtualAddress → Access → Decision
+decidedFor Request w c cam ram va a = decided w c cam ram va a
+decidedFor Retry w c cam ram va a = decided w c cam ram va a
+decidedFor Prefetch w c cam ram va a = prefetchDecided w cam va
+
+-- what it adds to the meters: a prefetch is no request
+abbrev pub tallyFor : Reason → ℕ → Answer → Tally
+tallyFor Request n x = tallyOf false n x
+tallyFor Retry n x = tallyOf true n x
+tallyFor Prefetch n x = record { fresh = 0; retries = 0; words = n }
+
+-- the prefetch register keeps each write that is not refused: its bits 13:0 are address bits 23:10
+abbrev pub registersFor : Reason → Registers → VirtualAddress → Answer → Registers
+registersFor Request r va x = r
+registersFor Retry r va x = r
+registersFor Prefetch r va x = withPrefetch r (prefetchKept (va .0 / 1024 % 16384) (r .prefetch) x)
+
+-- the slots, the pending fault and the bill after an attempt's decision
+abbrev pub endedFor : Prices → Bill → Reason → Registers → Bank → Pending → VirtualAddress → Access → Decision → Done
+endedFor p b e r k q va a x = record {
+  registers = registersFor e r va (x .answer);
+  bank = entryFilled k (x .fill);
+  pending = settled va a q (x .answer);
+  bill = billed p b x;
+  tally = tallyFor e (wordCount (x .reads)) (x .answer);
+  said = Answered (x .answer);
+}
+
+-- over memories that were tried
+abbrev pub attempted : Lent → Prices → Bill → Reason → Registers → Bank → Pending → VirtualAddress → Access → Done
+attempted m p b e r k q va a =
+    endedFor p b e r k q va a (decidedFor e (walkWithin m (r .base .0) (va .0)) (r .control) (k .cam) (k .ram) va a)
+
+-- what is planned, done
+abbrev pub performed : Lent → Prices → Bill → Registers → Bank → Pending → Plan → Done
+performed m p b r k q (L.Refused n) = quietly r k q b (Answered (A.Refused n))
+performed m p b r k q L.Done = quietly r k q b (Answered A.Done)
+performed m p b r k q (L.Show o) = quietly r k q b (Answered (valueAt o r (k .lock) (k .victim) q))
+performed m p b r k q (L.Set o v) = quietly (setting r (settingAt o v)) k q b (Answered A.Done)
+performed m p b r k q (L.Lock l v) = quietly r (lockedAt k l v) q b (Answered A.Done)
+performed m p b r k q L.Flush = quietly r (bankFlushed k) q b (Answered A.Done)
+performed m p b r k q L.FlushEntry = quietly r (bankFlushedAt k (camAddress (r .staged))) q b (Answered A.Done)
+performed m p b r k q L.Load = quietly r (loaded k (wordsOf (r .staged))) q b (Answered A.Done)
+performed m p b r k q L.Copy = quietly (withCopied r (entryOf (copied k))) k q b (Answered A.Done)
+performed m p b r k q L.Reset = quietly freshRegisters freshBank P.Nothing b (Answered A.Done)
+performed m p b r k q L.Drop = quietly r k P.Nothing b (Answered A.Done)
+performed m p b r k q (L.Attempt a e va) = attempted m p b e r k q va a
+performed m p b r k q (L.Shift va) = quietly r k q b (Reported (shiftBy va (walkWithin m (r .base .0) (va .0) .found)))
+performed m p b r k q (L.Unreported n) = quietly r k q b (Reported (H.Refused n))
+
+-- what reads no word, handed back by value
+abbrev pub quietPerformed : Registers → ℕ → ℕ → Pending → Bill → Said → Performed
+quietPerformed r lock victim q b s = record { registers = r; lock = lock; victim = victim; pending = q; bill = b; tally = noTally; said = s }
+
+-- what is handed back by value, with the lanes as they then are
+abbrev pub doneOf : Performed → List ℕ → List ℕ → Done
+doneOf x cam ram = record {
+  registers = x .registers;
+  bank = bankOf cam ram (x .lock) (x .victim);
+  pending = x .pending;
+  bill = x .bill;
+  tally = x .tally;
+  said = x .said;
+}
+
+-- a prefetch is tried by a unit that is on and walks
+abbrev pub Ready : Reason → ℕ → Type 0
+Ready Request c = Unit {0}
+Ready Retry c = Unit {0}
+Ready Prefetch c = (isOn c ≡ true) × (isWalking c ≡ true)
+
+-- an attempt asks that lock base and victim are slots, that CAM words are in range and that its address is a virtual one
+pub record Fits (control : ℕ) (cam : List ℕ) (lock victim : ℕ) (e : Reason) (va : VirtualAddress) : Type 0 where
+  pub ready : Ready e control
+  pub cams : camsOk camLimit cam ≡ true
+  pub lock-lt : lock < 32
+  pub victim-lt : victim < 32
+  pub virtual : va .0 < limit
+
+-- what a plan asks of the parts that it is performed on
+abbrev pub Fit : ℕ → List ℕ → ℕ → ℕ → Plan → Type 0
+Fit c cam lock victim (L.Refused n) = Unit {0}
+Fit c cam lock victim L.Done = Unit {0}
+Fit c cam lock victim (L.Show o) = Unit {0}
+Fit c cam lock victim (L.Set o v) = Unit {0}
+Fit c cam lock victim (L.Lock l v) = Unit {0}
+Fit c cam lock victim L.Flush = Unit {0}
+Fit c cam lock victim L.FlushEntry = Unit {0}
+Fit c cam lock victim L.Load = victim < 32
+Fit c cam lock victim L.Copy = victim < 32
+Fit c cam lock victim L.Reset = Unit {0}
+Fit c cam lock victim L.Drop = Unit {0}
+Fit c cam lock victim (L.Attempt a e va) = Fits c cam lock victim e va
+Fit c cam lock victim (L.Shift va) = Unit {0}
+Fit c cam lock victim (L.Unreported n) = Unit {0}
+
+-- the parts after a plan are as they should be
+pub record Performs (should : Done) (x : Performed) (cam ram lows highs : List ℕ) : Type 0 where
+  pub is : doneOf x cam ram ≡ should
+  pub spanned : Spanned cam lows highs

@@ -1,0 +1,116 @@
+-- A call of a run is its plan, performed; it finds and leaves a device in range, or out of range. Assumes nothing.
+use mathlib.Core.Path.{_≡_, refl, sym, _∙_, ap}
+use mathlib.Core.Bool.{Bool, true, false}
+use Prim.Native.Nat.{ℕ, _<_}
+use borrow.Author.Tests.{ltb-true}
+use mathlib.Core.List.{List}
+use mathlib.Core.Bool.{false≢true}
+use Rattle.page.specs.Pick.{pick, _and_}
+use Rattle.page.proofs.Picks.{pick-by, and-right}
+use Rattle.memory.specs.Memory.{Lent, lentOk}
+use Rattle.meters.specs.declared.Meters.{Meters}
+use Rattle.prices.specs.declared.Prices.{Prices}
+use Rattle.bill.specs.Bill.{moneyOk}
+use Rattle.bill.specs.declared.Bill.{Bill}
+use Rattle.bank.specs.declared.Bank.{Bank}
+use Rattle.registers.specs.declared.Pending.{Pending}
+use Rattle.registers.specs.declared.Registers.{Registers}
+use Rattle.registers.specs.Table.{commandOf}
+use Rattle.plan.specs.declared.Plan.{Plan}
+use Rattle.perform.specs.Performed.{Done, Fit, performed}
+use Rattle.unit.specs.Device.{inRange}
+use Rattle.unit.specs.Machine as M
+use Rattle.unit.specs.declared.Device.{Device}
+use Rattle.unit.proofs.Fitting.{request-fits, write-fits, read-fits, drop-fits, shift-fits}
+use Rattle.unit.proofs.Planned.{request-done, write-done, read-done, drop-done, shift-done}
+use Rattle.conduct.specs.Refused.{BytesFit}
+use Rattle.conduct.proofs.Ranged.{range-kept}
+use Rattle.forms.specs.Forms.{writeBy, readBy, requestBy, dropBy, shiftBy}
+use Rattle.forms.specs.declared.Call.{Call}
+use Rattle.forms.specs.declared.Call.the-variants as C
+use Rattle.kinds.specs.Kinds.{callBy, callFrom}
+use Rattle.calls.specs.Records.{callOf, callAt, isGood}
+use Rattle.session.specs.Bench.{stepped}
+use Rattle.session.specs.declared.Stepped.{Stepped}
+use Rattle.run.specs.Planned.{partsOk, planOf, benchOf, benchDone}
+
+-- a value of a register write has 16 bits
+abbrev pub Narrow : Call → Type 0
+Narrow (C.Write o v) = v < 65536
+Narrow (C.Read o) = Unit {0}
+Narrow (C.Request va a) = Unit {0}
+Narrow C.Drop = Unit {0}
+Narrow (C.Shift va) = Unit {0}
+Narrow C.Bad = Unit {0}
+
+call-narrow : (k x a v : ℕ) → Narrow (callBy k x a v)
+unfolding callBy writeBy readBy requestBy dropBy shiftBy
+call-narrow k x a v =
+    pick-by Narrow _ _ _ (λ _. pick-by Narrow _ _ _ (λ h. ltb-true v 65536 (and-right _ _ h)) (λ _. tt))
+    (λ _. pick-by Narrow _ _ _ (λ _. pick-by Narrow _ _ _ (λ _. tt) (λ _. tt))
+    (λ _. pick-by Narrow _ _ _ (λ _. pick-by Narrow _ _ _ (λ _. tt) (λ _. tt))
+    (λ _. pick-by Narrow _ _ _ (λ _. pick-by Narrow _ _ _ (λ _. tt) (λ _. tt))
+    (λ _. pick-by Narrow _ _ _ (λ _. pick-by Narrow _ _ _ (λ _. tt) (λ _. tt)) (λ _. tt)))))
+
+pub narrow-at : (l : List ℕ) (at : ℕ) → Narrow (callAt l at)
+unfolding callAt callOf callFrom
+narrow-at l at = pick-by Narrow _ _ _ (λ _. pick-by Narrow _ _ _ (λ _. call-narrow _ _ _ _) (λ _. tt)) (λ _. tt)
+
+module _ (m : Lent) (p : Prices) (r : Registers) (k : Bank) (q : Pending) (b : Bill) where
+  abbrev pub planned : Call → Plan
+  planned c = planOf (partsOk r k q) (lentOk m) (moneyOk p b) (r .control) q c
+
+  abbrev pub left-by : Call → Done
+  left-by c = performed m p b r k q (planned c)
+
+  abbrev device : Device
+  device = record { registers = r; bank = k; pending = q }
+
+  pub planned-stepped : (t : Meters) (c : Call) → isGood c ≡ true → benchDone t (left-by c) ≡ stepped m p (benchOf r k q b t) c
+  planned-stepped t (C.Write o v) g = ap (benchDone t) (write-done m p b device v o)
+  planned-stepped t (C.Read o) g = ap (benchDone t) (read-done m p b device o)
+  planned-stepped t (C.Request va a) g = ap (benchDone t) (request-done m p b device va a)
+  planned-stepped t C.Drop g = ap (benchDone t) (drop-done m p b device)
+  planned-stepped t (C.Shift va) g = ap (benchDone t) (shift-done m p b device va)
+  planned-stepped t C.Bad g = absurd (false≢true g)
+
+  pub planned-fits : (c : Call) → Fit (r .control) (k .cam) (k .lock) (k .victim) (planned c)
+  planned-fits (C.Write o v) = write-fits device _ _ (commandOf o v)
+  planned-fits (C.Read o) = read-fits device _ o
+  planned-fits (C.Request va a) = request-fits device _ _ q va a
+  planned-fits C.Drop = drop-fits device _ q
+  planned-fits (C.Shift va) = shift-fits device _ _ va
+  planned-fits C.Bad = tt
+
+  abbrev after-ok : Done → Bool
+  after-ok x = partsOk (x .registers) (x .bank) (x .pending)
+
+  -- where it is not in range, nothing changes
+  refused-kept : (c : Call) (ok : Bool) → ok ≡ false → after-ok (performed m p b r k q (planOf ok (lentOk m) (moneyOk p b) (r .control) q c)) ≡ partsOk r k q
+  unfolding pick
+  refused-kept c true e = absurd (false≢true (sym e))
+  refused-kept (C.Write o v) false e = refl
+  refused-kept (C.Read o) false e = refl
+  refused-kept (C.Request va a) false e = refl
+  refused-kept C.Drop false e = refl
+  refused-kept (C.Shift va) false e = refl
+  refused-kept C.Bad false e = refl
+
+  abbrev ranged-step : M.Call → Type 0
+  ranged-step c = inRange (M.step m device b c .device) ≡ true
+
+  ranged-kept : (t : Meters) (c : Call) → isGood c ≡ true → Narrow c → BytesFit m → partsOk r k q ≡ true → after-ok (left-by c) ≡ true
+  ranged-kept t (C.Write o v) g w f h = ap after-ok (write-done m p b device v o) ∙ range-kept m device b (M.write o v p) f w h
+  ranged-kept t (C.Read o) g w f h = ap after-ok (read-done m p b device o) ∙ range-kept m device b (M.read o) f tt h
+  ranged-kept t (C.Request va a) g w f h = ap after-ok (request-done m p b device va a) ∙ range-kept m device b (M.request va a p) f tt h
+  ranged-kept t C.Drop g w f h = ap after-ok (drop-done m p b device) ∙ range-kept m device b M.drop-fault f tt h
+  ranged-kept t (C.Shift va) g w f h = ap after-ok (shift-done m p b device va) ∙ range-kept m device b (M.shift va) f tt h
+  ranged-kept t C.Bad g w f h = absurd (false≢true g)
+
+  -- so whether it is in range stays as it was
+  pub range-same : (t : Meters) (c : Call) → isGood c ≡ true → Narrow c → BytesFit m → after-ok (left-by c) ≡ partsOk r k q
+  range-same t c g w f = by (partsOk r k q) refl
+    where
+      by : (ok : Bool) → partsOk r k q ≡ ok → after-ok (left-by c) ≡ partsOk r k q
+      by true e = ranged-kept t c g w f e ∙ sym e
+      by false e = refused-kept c (partsOk r k q) e

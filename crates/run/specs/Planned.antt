@@ -1,0 +1,46 @@
+-- The plan of a call of a record, and the bench that a plan leaves.
+use Rattle.page.specs.Ground.{ℕ, _≤_, _≡_, Bool, true, List, length}
+use Rattle.meters.specs.Posted.{posted}
+use Rattle.meters.specs.declared.Meters.{Meters}
+use Rattle.bill.specs.declared.Bill.{Bill}
+use Rattle.bank.specs.declared.Bank.{Bank}
+use Rattle.registers.specs.Table.{commandOf}
+use Rattle.registers.specs.declared.Pending.{Pending}
+use Rattle.registers.specs.declared.Registers.{Registers}
+use Rattle.plan.specs.Plans.{requestPlan, writePlan, readPlan, dropPlan, shiftPlan}
+use Rattle.plan.specs.declared.Plan.{Plan}
+use Rattle.plan.specs.declared.Plan.the-variants as L
+use Rattle.perform.specs.Performed.{Done}
+use Rattle.unit.specs.Device.{inRange}
+use Rattle.forms.specs.declared.Call.{Call}
+use Rattle.forms.specs.declared.Call.the-variants as C
+use Rattle.calls.specs.Records.{allGood}
+use Rattle.asked.specs.Asked.{runSize}
+use Rattle.session.specs.declared.Bench.{Bench}
+use Rattle.session.specs.declared.Stepped.{Stepped}
+
+-- by what was tested: ok that the device is in range, l that the memories are not refused, x that prices and bill are not
+abbrev pub planOf : Bool → Bool → Bool → ℕ → Pending → Call → Plan
+planOf ok l x c q (C.Write o v) = writePlan ok l x c q (commandOf o v)
+planOf ok l x c q (C.Read o) = readPlan ok o
+planOf ok l x c q (C.Request va a) = requestPlan ok l x q va a
+planOf ok l x c q C.Drop = dropPlan ok q
+planOf ok l x c q (C.Shift va) = shiftPlan ok l va
+planOf ok l x c q C.Bad = L.Done
+
+-- a device of these parts is in range
+abbrev pub partsOk : Registers → Bank → Pending → Bool
+partsOk r k q = inRange (record { registers = r; bank = k; pending = q })
+
+-- a bench of its parts
+abbrev pub benchOf : Registers → Bank → Pending → Bill → Meters → Bench
+benchOf r k q b t = record { device = record { registers = r; bank = k; pending = q }; bill = b; meters = t }
+
+-- the bench after a plan, and what it says
+abbrev pub benchDone : Meters → Done → Stepped
+benchDone t x = record { bench = benchOf (x .registers) (x .bank) (x .pending) (x .bill) (posted t (x .tally)); said = x .said }
+
+-- every record is a call, and there is room for what a run writes
+pub record Asked (calls out : List ℕ) : Type 0 where
+  pub good : allGood calls ≡ true
+  pub room : runSize calls ≤ length out

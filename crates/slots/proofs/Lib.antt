@@ -1,0 +1,4 @@
+pub mod Seeking
+pub mod Ends
+pub mod Matching
+pub mod Changed

@@ -1,0 +1,333 @@
+-- Each call is its plan, performed on the parts of the device. Assumes nothing.
+use mathlib.Core.Path.{_≡_, refl, sym, _∙_, ap}
+use mathlib.Core.Bool.{Bool, true, false, not}
+use mathlib.Core.List.{[], _∷_}
+use Prim.Native.Nat.{ℕ, zero, suc, _/_, _%_, _^_, _<_}
+use native.Mathlib.Omega.{arith}
+use lib.Dec.{eqb, ltb, leb}
+use borrow.Author.Tests.{eqb-true, eqb-false, ltb-true, lt-leb, eq-eqb, ne-eqb}
+use Rattle.page.specs.Pick.{pick, _and_, _or_}
+use Rattle.page.specs.Words.{limit}
+use Rattle.page.specs.declared.Access.the-variants.{Read}
+use Rattle.page.proofs.Picks.{pick-yes, pick-no, pick-by, and-left, and-right, or-no}
+use Rattle.meters.specs.Posted.{noTally}
+use Rattle.bill.specs.Bill.{moneyOk}
+use Rattle.lanes.specs.Lanes.{slots}
+use Rattle.walk.specs.Walk.{walkWithin}
+use Rattle.registers.specs.Answers.{idle, isPrefetch}
+use Rattle.registers.specs.Fields.{isOn, isWalking, withPrefetch}
+use Rattle.registers.specs.Table.{listed, noRegister, controlCommand, lockCommand, loadCommand, whenBit, commandOf, valueAt}
+use Rattle.registers.specs.declared.Answer.the-variants as A
+use Rattle.registers.specs.declared.Command.the-variants as C
+use Rattle.registers.specs.declared.Pending.the-variants.{Nothing, Held}
+use Rattle.registers.specs.declared.Registers.{Registers}
+use Rattle.registers.specs.declared.Setting.the-variants.{Control}
+use Rattle.registers.specs.declared.Tending.the-variants.{Flush, FlushEntry}
+use Rattle.registers.proofs.Offsets.{by-offset, command-elsewhere, value-elsewhere}
+use Rattle.descriptors.specs.Statements.{isMissing}
+use Rattle.decision.specs.Prefetches.{pageAt, prefetchDecided, prefetchKept, shiftBy}
+use Rattle.decision.specs.declared.Said.the-variants.{Answered, Reported}
+use Rattle.decision.specs.declared.Shift.the-variants as H
+use Rattle.plan.specs.Plans.{settingAt, requestPlan, retryPlan, pendingPlan, commandPlan, writePlan, readPlan, dropPlan, shiftPlan}
+use Rattle.plan.specs.declared.Plan.{Plan}
+use Rattle.plan.specs.declared.Plan.the-variants as L
+use Rattle.plan.specs.declared.Reason.the-variants as E
+use Rattle.perform.specs.Performed.{Done, quietly, endedFor, decidedFor, performed}
+use Rattle.unit.specs.Types.{Access, VirtualAddress, Lent, lentOk, Walked, Bill, Prices, Fault, Pending, Answer, Tending, Command, Shift, Device, Outcome, Told}
+use Rattle.unit.specs.Refusals.{Refusing, Refusals, refuses}
+use Rattle.unit.specs.Device.{inRange, cleared, told, toldRefused, doneWith, refusedWith, look, attemptOf}
+use Rattle.unit.specs.Acts.{doneBy, doneTold}
+use Rattle.unit.specs.Calls.{lacks, requestOf, isMalformed, isUntimely, retryLacks, writeLacks, writeRefusals, prefetched, heldRetried, retried, carried, writeOf, readRefusals, readOf, dropOf, shiftOf}
+use Rattle.unit.proofs.Refusing.{refused-here, passed, last-same}
+use Rattle.unit.proofs.Attempts.{look-ok, lacks-attempt, lacks-retry, prefetchLacks, lacks-prefetch, shift-last}
+
+pick-map : {A B : Type 0} (f : A → B) (t : Bool) (x y : A) → f (pick t x y) ≡ pick t (f x) (f y)
+unfolding pick
+pick-map f true x y = refl
+pick-map f false x y = refl
+
+-- a list of refusals, seen through what is made of the call
+refuses-map : {K A B : Type 0} (f : A → B) (rs : Refusing K) (say : K → A) (y : A) → f (refuses rs say y) ≡ refuses rs (λ k. f (say k)) (f y)
+unfolding refuses
+refuses-map f [] say y = refl
+refuses-map f (r ∷ rs) say y = pick-map f (r .0) (say (r .1)) (refuses rs say y) ∙ ap (pick (r .0) (f (say (r .1)))) (refuses-map f rs say y)
+
+-- a bit is clear where it is not set
+bit-clear : (n : ℕ) → eqb (n % 2) 0 ≡ not (eqb (n % 2) 1)
+bit-clear n = by (eqb (n % 2) 0) refl
+  where
+    by : (t : Bool) → eqb (n % 2) 0 ≡ t → eqb (n % 2) 0 ≡ not (eqb (n % 2) 1)
+    by true e = e ∙ ap not (sym (ne-eqb (n % 2) 1 (λ q. absurd (omega (arith, q, eqb-true (n % 2) 0 e)))))
+    by false e = e ∙ ap not (sym (eq-eqb (n % 2) 1 (omega (arith, eqb-false (n % 2) 0 e))))
+
+or-none : (t : Bool) → (t or false) ≡ t
+unfolding _or_
+or-none true = refl
+or-none false = refl
+
+-- what stands after the device's own 8
+abbrev rest : Refusals → Refusals
+rest [] = []
+rest (r ∷ rs) = rs
+
+module _ (m : Lent) (p : Prices) (b : Bill) (d : Device) where
+  abbrev pub run : Plan → Done
+  run x = performed m p b (d .registers) (d .bank) (d .pending) x
+
+  abbrev say : ℕ → Done
+  say n = run (L.Refused n)
+
+  -- tests as plans nest them are a list of refusals
+  module _ (rs : Refusals) (x : Plan) (y : Done) where
+    gate :
+        (l o : Bool)
+        → (l ≡ true → run x ≡ refuses rs say y)
+        → (let k = pick l (pick o 0 9) 4 in run (pick (eqb k 0) x (L.Refused k))) ≡ refuses ((not l, 4) ∷ (not o, 9) ∷ rs) say y
+    unfolding pick refuses
+    gate false o h = refl
+    gate true false h = refl
+    gate true true h = h refl
+
+    ready :
+        (e s i on w : Bool)
+        → e ≡ not s
+        → run x ≡ refuses rs say y
+        → run (pick e (pick i (pick on (pick w x (L.Refused 7)) (L.Refused 7)) (L.Refused 2)) (L.Refused 8)) ≡ refuses ((s, 8) ∷ (not i, 2) ∷ (not (on and w), 7) ∷ rs) say y
+    unfolding pick _and_ refuses
+    ready e true i on w h f = ap run (pick-no e _ _ h)
+    ready e false false on w h f = ap run (pick-yes e _ _ h)
+    ready e false true false w h f = ap run (pick-yes e _ _ h)
+    ready e false true true false h f = ap run (pick-yes e _ _ h)
+    ready e false true true true h f = ap run (pick-yes e _ _ h) ∙ f
+
+    firstly :
+        (ok v l o i : Bool)
+        → (l ≡ true → run x ≡ refuses rs say y)
+        → run (pick ok (pick v (L.Refused 1) (pick l (pick o (pick i x (L.Refused 2)) (L.Refused 9)) (L.Refused 4))) (L.Refused 8))
+        ≡ refuses ((not ok, 8) ∷ (v, 1) ∷ (not l, 4) ∷ (not o, 9) ∷ (not i, 2) ∷ rs) say y
+    unfolding pick refuses
+    firstly false v l o i h = refl
+    firstly true true l o i h = refl
+    firstly true false false o i h = refl
+    firstly true false true false i h = refl
+    firstly true false true true false h = refl
+    firstly true false true true true h = h refl
+
+    within : (ok : Bool) → run x ≡ refuses rs say y → run (pick ok x (L.Refused 8)) ≡ refuses ((not ok, 8) ∷ rs) say y
+    unfolding pick refuses
+    within true h = h
+    within false h = refl
+
+  -- a last condition changes nothing where the call says 3 of itself
+  lastly : (t : Bool) (x : Done) (y : Outcome) → x ≡ doneBy y → (t ≡ true → y ≡ refusedWith d b 3) → x ≡ refuses ((t, 3) ∷ []) say (doneBy y)
+  lastly t x y e h = last-same say (doneBy y) t 3 x e (λ q. ap doneBy (h q))
+
+  -- a request or a retry
+  request-last : (va : VirtualAddress) (a : Access) → lentOk m ≡ true → run (L.Attempt a E.Request va) ≡ refuses ((lacks m d va, 3) ∷ []) say (doneBy (attemptOf m p b false d va a))
+  request-last va a h =
+      lastly _ _ (attemptOf m p b false d va a)
+      (ap (λ (w : Walked). endedFor p b E.Request (d .registers) (d .bank) (d .pending) va a (decidedFor E.Request w (d .registers .control) (d .bank .cam) (d .bank .ram) va a)) (look-ok m d va h))
+      (lacks-attempt m p b false d va a)
+
+  retry-ok : (k : Fault) (va : VirtualAddress) (a : Access) → lentOk m ≡ true → run (retryPlan k va a) ≡ doneBy (heldRetried m p b d k va a)
+  unfolding pick
+  retry-ok k va a h = by (isPrefetch k)
+    where
+      by : (t : Bool) → run (pick t L.Drop (L.Attempt a E.Retry va)) ≡ doneBy (pick t (doneWith b (cleared d)) (attemptOf m p b true d va a))
+      by true = refl
+      by false = ap (λ (w : Walked). endedFor p b E.Retry (d .registers) (d .bank) (d .pending) va a (decidedFor E.Retry w (d .registers .control) (d .bank .cam) (d .bank .ram) va a)) (look-ok m d va h)
+
+  -- a prefetch
+  prefetch-ok : (v : ℕ) → lentOk m ≡ true → run (L.Attempt Read E.Prefetch (pageAt v)) ≡ doneBy (prefetched m p b d v)
+  prefetch-ok v h =
+      let x = prefetchDecided (look m d (pageAt v)) (d .bank .cam) (pageAt v) in
+      let y = endedFor p b E.Prefetch (d .registers) (d .bank) (d .pending) (pageAt v) Read x in
+      let e : pageAt v .0 / 1024 % 16384 ≡ v % 2 ^ 14 = omega arith in
+      ap (λ (w : Walked). endedFor p b E.Prefetch (d .registers) (d .bank) (d .pending) (pageAt v) Read (decidedFor E.Prefetch w (d .registers .control) (d .bank .cam) (d .bank .ram) (pageAt v) Read)) (look-ok m d (pageAt v) h)
+      ∙ ap (λ (n : ℕ). record { registers = withPrefetch (d .registers) (prefetchKept n (d .registers .prefetch) (x .answer)); bank = y .bank; pending = y .pending; bill = y .bill; tally = y .tally; said = y .said }) e
+
+  -- a request: its list of refusals
+  pub request-done : (va : VirtualAddress) (a : Access) → run (requestPlan (inRange d) (lentOk m) (moneyOk p b) (d .pending) va a) ≡ doneBy (requestOf m p b d va a)
+  unfolding requestOf
+  request-done va a =
+      firstly _ (L.Attempt a E.Request va) (doneBy (attemptOf m p b false d va a)) (inRange d) (leb limit (va .0)) (lentOk m) (moneyOk p b) (idle (d .pending)) (request-last va a)
+      ∙ sym (refuses-map doneBy _ (refusedWith d b) (attemptOf m p b false d va a))
+
+  -- a write by its command, past the device's own 8
+  abbrev obeyed : Command → Done
+  obeyed c = run (commandPlan (lentOk m) (moneyOk p b) (d .registers .control) (d .pending) c)
+
+  -- a command that refuses nothing of its own
+  abbrev Same : Command → Type 0
+  Same c = obeyed c ≡ doneBy (carried m p b d c)
+
+  set-same : (v : ℕ) → Same (C.Set (Control v))
+  unfolding settingAt pick
+  set-same v = refl
+
+  control-same : (v : ℕ) → Same (controlCommand v)
+  unfolding controlCommand
+  control-same v = pick-by Same _ _ _ (λ _. set-same _) (λ _. refl)
+
+  bit-same : (v : ℕ) (t : Tending) → obeyed (C.Tend t) ≡ doneBy (carried m p b d (C.Tend t)) → Same (whenBit v t)
+  unfolding whenBit
+  bit-same v t h = pick-by Same _ _ _ (λ _. h) (λ _. refl)
+
+  -- 8 of the lock register
+  lock-same : (v : ℕ) → obeyed (lockCommand v) ≡ pick ((leb slots (v / 1024) or leb slots (v / 16 % 64)) or false) (say 8) (doneBy (carried m p b d (lockCommand v)))
+  unfolding lockCommand
+  lock-same v =
+      let l = v / 1024 in
+      let u = v / 16 % 64 in
+      let t = (leb slots l or leb slots u) or false in
+      pick-by (λ c. obeyed c ≡ pick t (say 8) (doneBy (carried m p b d c))) (ltb l slots and ltb u slots) _ _
+      (λ h. sym (pick-no t _ _ (or-no _ _ (or-no _ _ (lt-leb slots l (ltb-true l slots (and-left _ _ h))) ∙ lt-leb slots u (ltb-true u slots (and-right _ _ h))))))
+      (λ _. pick-by (λ z. say 8 ≡ z) t _ _ (λ _. refl) (λ _. refl))
+
+  -- 8 and 7 of the load register
+  abbrev loadBy : ℕ → Command
+  loadBy r = pick (eqb r 0) C.Nothing (pick (eqb r 1) C.Load (pick (eqb r 2) C.Copy (C.Refused 8)))
+
+  walking-pick : (t : Bool) (x : Plan) → run (pick t (L.Refused 7) x) ≡ pick (t or false) (say 7) (run x)
+  unfolding pick _or_
+  walking-pick true x = refl
+  walking-pick false x = refl
+
+  load-same : (r : ℕ) → r < 4 → obeyed (loadBy r) ≡ refuses ((eqb r 3, 8) ∷ (((eqb r 1 or eqb r 2) and isWalking (d .registers .control)) or false, 7) ∷ []) say (doneBy (carried m p b d (loadBy r)))
+  unfolding pick _and_ _or_ refuses
+  load-same zero h = refl
+  load-same (suc zero) h = walking-pick (isWalking (d .registers .control)) L.Load
+  load-same (suc (suc zero)) h = walking-pick (isWalking (d .registers .control)) L.Copy
+  load-same (suc (suc (suc zero))) h = refl
+  load-same (suc (suc (suc (suc r)))) h = absurd (omega (arith, h))
+
+  -- 7 and 3 of the acknowledge register
+  retry-same :
+      (q : Pending) (go : Bool)
+      → lentOk m ≡ true
+      → run (pick go (pendingPlan q) L.Done)
+      ≡ refuses ((go and idle q, 7) ∷ (go and retryLacks m d q, 3) ∷ []) say (doneBy (pick go (retried m p b d q) (doneWith b d)))
+  unfolding pick _and_ refuses
+  retry-same q false h = refl
+  retry-same Nothing true h = refl
+  retry-same (Held k va a) true h = lastly (retryLacks m d (Held k va a)) _ (heldRetried m p b d k va a) (retry-ok k va a h) (lacks-retry m p b d k va a)
+
+  acknowledge-same :
+      (go : Bool)
+      → obeyed (C.Acknowledge go)
+      ≡ refuses ((not (lentOk m), 4) ∷ (not (moneyOk p b), 9) ∷ (go and idle (d .pending), 7) ∷ (go and retryLacks m d (d .pending), 3) ∷ [])
+      say (doneBy (carried m p b d (C.Acknowledge go)))
+  acknowledge-same go = gate _ (pick go (pendingPlan (d .pending)) L.Done) _ (lentOk m) (moneyOk p b) (retry-same (d .pending) go)
+
+  -- 8, 2, 7 and 3 of the prefetch register
+  abbrev both : Bool
+  both = isOn (d .registers .control) and isWalking (d .registers .control)
+
+  prefetch-same :
+      (v : ℕ)
+      → obeyed (C.Prefetch v)
+      ≡ refuses ((not (lentOk m), 4) ∷ (not (moneyOk p b), 9) ∷ (eqb (v / 2 ^ 14 % 2) 1 or false, 8) ∷ (not (idle (d .pending)), 2) ∷ (not both or false, 7) ∷ (prefetchLacks m p b d v or false, 3) ∷ [])
+      say (doneBy (carried m p b d (C.Prefetch v)))
+  prefetch-same v =
+      rw (or-none (eqb (v / 2 ^ 14 % 2) 1), or-none (not both), or-none (prefetchLacks m p b d v))
+      (gate _ _ _ (lentOk m) (moneyOk p b)
+      (λ h. ready _ (L.Attempt Read E.Prefetch (pageAt v)) _ _ _ _ _ _ (bit-clear (v / 2 ^ 14))
+      (lastly (prefetchLacks m p b d v) _ (prefetched m p b d v) (prefetch-ok v h) (lacks-prefetch m p b d v))))
+
+module _ (m : Lent) (p : Prices) (b : Bill) (d : Device) (v : ℕ) where
+  abbrev Written : ℕ → Type 0
+  Written o = obeyed m p b d (commandOf o v) ≡ refuses (rest (writeRefusals m p b d o v)) (say m p b d) (doneBy (carried m p b d (commandOf o v)))
+
+  elsewhere : (o : ℕ) → noRegister o ≡ true → Written o
+  elsewhere o h = ap (obeyed m p b d) (command-elsewhere o v h) ∙ sym (refused-here _ _ _ _ _ h)
+
+  -- in the order of Table 3
+  written : (o : ℕ) → Written o
+  unfolding commandOf listed pick noRegister _and_ _or_ refuses isMalformed isUntimely writeLacks loadCommand settingAt
+  written =
+      by-offset Written
+      (prefetch-same m p b d v)
+      refl
+      (control-same m p b d v)
+      refl
+      refl
+      refl
+      (acknowledge-same m p b d (eqb (v % 2) 1))
+      refl
+      refl
+      (lock-same m p b d v)
+      (load-same m p b d (v % 4) (omega arith))
+      refl
+      refl
+      refl
+      refl
+      (bit-same m p b d v Flush refl)
+      (bit-same m p b d v FlushEntry refl)
+      refl
+      refl
+      refl
+      refl
+      elsewhere
+
+  -- a register write: its list of refusals
+  pub write-done : (o : ℕ) → run m p b d (writePlan (inRange d) (lentOk m) (moneyOk p b) (d .registers .control) (d .pending) (commandOf o v)) ≡ doneBy (writeOf m p b d o v)
+  unfolding writeOf
+  write-done o =
+      within m p b d _ _ (doneBy (carried m p b d (commandOf o v))) (inRange d) (written o)
+      ∙ sym (refuses-map doneBy (writeRefusals m p b d o v) (refusedWith d b) (carried m p b d (commandOf o v)))
+
+module _ (d : Device) where
+  abbrev shown : ℕ → Answer
+  shown o = valueAt o (d .registers) (d .bank .lock) (d .bank .victim) (d .pending)
+
+  abbrev Shown : ℕ → Type 0
+  Shown o = told d (shown o) ≡ refuses (rest (readRefusals d o)) (toldRefused d) (told d (shown o))
+
+  nowhere : (o : ℕ) → noRegister o ≡ true → Shown o
+  nowhere o h = ap (told d) (value-elsewhere o (d .registers) (d .bank .lock) (d .bank .victim) (d .pending) h) ∙ sym (refused-here _ _ _ _ _ h)
+
+  shows : (o : ℕ) → Shown o
+  unfolding valueAt listed pick noRegister _and_ refuses
+  shows =
+      by-offset Shown
+      refl refl refl refl refl refl refl refl refl refl refl refl refl refl refl refl refl refl refl refl refl
+      nowhere
+
+  read-is : (o : ℕ) → inRange d ≡ true → told d (shown o) ≡ readOf d o
+  unfolding readOf
+  read-is o h = shows o ∙ sym (passed _ _ _ _ _ (ap not h))
+
+module _ (m : Lent) (p : Prices) (b : Bill) (d : Device) where
+  -- a register read
+  pub read-done : (o : ℕ) → run m p b d (readPlan (inRange d) o) ≡ doneTold b (readOf d o)
+  unfolding readOf
+  read-done o =
+      pick-by (λ x. run m p b d x ≡ doneTold b (readOf d o)) (inRange d) _ _
+      (λ h. ap (doneTold b) (read-is d o h))
+      (λ h. ap (doneTold b) (sym (refused-here _ _ _ _ _ (ap not h))))
+
+  -- a drop
+  pub drop-done : run m p b d (dropPlan (inRange d) (d .pending)) ≡ doneTold b (dropOf d)
+  unfolding dropOf pick refuses
+  drop-done = by (inRange d) (idle (d .pending))
+    where
+      by : (ok i : Bool) → run m p b d (pick ok (pick i (L.Refused 7) L.Drop) (L.Refused 8)) ≡ doneTold b (refuses ((not ok, 8) ∷ (i, 7) ∷ []) (toldRefused d) (told (cleared d) A.Done))
+      by true true = refl
+      by true false = refl
+      by false i = refl
+
+  -- a shift report
+  abbrev pub reporting : Shift → Done
+  reporting s = quietly (d .registers) (d .bank) (d .pending) b (Reported s)
+
+  pub shift-done : (va : VirtualAddress) → run m p b d (shiftPlan (inRange d) (lentOk m) va) ≡ reporting (shiftOf m d va)
+  unfolding shiftOf pick refuses
+  shift-done va = by (inRange d) (leb limit (va .0)) (lentOk m) refl
+    where
+      by : (ok v l : Bool) → lentOk m ≡ l
+          → run m p b d (pick ok (pick v (L.Unreported 1) (pick l (L.Shift va) (L.Unreported 4))) (L.Unreported 8))
+          ≡ reporting (refuses ((not ok, 8) ∷ (v, 1) ∷ (not l, 4) ∷ (isMissing (look m d va .found), 3) ∷ []) H.Refused (shiftBy va (look m d va .found)))
+      by false v l h = refl
+      by true true l h = refl
+      by true false false h = refl
+      by true false true h = ap reporting (shift-last m d va h)

@@ -1,0 +1,65 @@
+-- A plan, done to a device: what it hands back, in parts and as each call hands it back.
+use Rattle.page.specs.Ground.{ℕ, _≡_}
+use Rattle.plan.specs.declared.Plan.{Plan}
+use Rattle.perform.specs.Performed.{Done, quietly, performed, Fit}
+use Rattle.registers.specs.declared.Answer.the-variants as A
+use Rattle.decision.specs.declared.Said.{Said}
+use Rattle.decision.specs.declared.Said.the-variants.{Answered, Reported}
+use Rattle.decision.specs.declared.Shift.the-variants as H
+use Rattle.unit.specs.Types.{Lent, Bill, Prices, Answer, Shift, Device, Outcome, Told}
+use Rattle.unit.specs.declared.Acted.{Acted}
+
+abbrev pub doneOf : Acted → Done
+doneOf x = record {
+  registers = x .device .registers;
+  bank = x .device .bank;
+  pending = x .device .pending;
+  bill = x .bill;
+  tally = x .tally;
+  said = x .said;
+}
+
+-- what a plan asks of a device
+abbrev pub Fitted : Device → Plan → Type 0
+Fitted d x = Fit (d .registers .control) (d .bank .cam) (d .bank .lock) (d .bank .victim) x
+
+-- some memories, prices and bill
+pub record Alone (d : Device) (x : Plan) (y : Done) : Type 0 where
+  pub memories : Lent
+  pub prices : Prices
+  pub bill : Bill
+  pub is : y ≡ performed memories prices bill (d .registers) (d .bank) (d .pending) x
+
+-- the answer and the shift in what is said
+abbrev pub answerOf : Said → Answer
+answerOf (Answered r) = r
+answerOf (Reported s) = A.Done
+
+abbrev pub shiftIn : Said → Shift
+shiftIn (Answered r) = H.Fault
+shiftIn (Reported s) = s
+
+abbrev pub toldOf : Done → Told
+toldOf x = record { device = record { registers = x .registers; bank = x .bank; pending = x .pending }; answer = answerOf (x .said) }
+
+abbrev pub outcomeOf : Done → Outcome
+outcomeOf x = record {
+  device = record { registers = x .registers; bank = x .bank; pending = x .pending };
+  bill = x .bill;
+  tally = x .tally;
+  answer = answerOf (x .said);
+}
+
+-- and back
+abbrev pub doneBy : Outcome → Done
+doneBy x = record {
+  registers = x .device .registers;
+  bank = x .device .bank;
+  pending = x .device .pending;
+  bill = x .bill;
+  tally = x .tally;
+  said = Answered (x .answer);
+}
+
+abbrev pub doneTold : Bill → Told → Done
+doneTold b x = quietly (x .device .registers) (x .device .bank) (x .device .pending) b (Answered (x .answer))
