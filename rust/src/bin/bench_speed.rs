@@ -1,8 +1,12 @@
 //! Speed of the proved implementation against the second program, through the
-//! byte boundary, in one process: nx_run on two sessions and nx_build on eight
-//! lists. Rounds of the two are interleaved; the table has medians with their
-//! quartiles, and the median of the rounds' own ratios. Before that the two are
-//! seen to write the same bytes.
+//! byte boundary, in one process: nx_run on sessions of each sort of call and
+//! nx_build on eight lists. Rounds of the two are interleaved; the table has
+//! medians with their quartiles, and the median of the rounds' own ratios.
+//! Before that the two are seen to write the same bytes.
+//!
+//! `--cleared` clears what is written to before each round, outside its time;
+//! `--length N` gives the sessions N calls; `--rounds N` sets the rounds;
+//! `--only WORDS` keeps the rows whose names have the words.
 
 use second::boundary::{self, Lending, Program, Second, ANSWER, STATE};
 use second::dice::Dice;
@@ -13,7 +17,6 @@ use std::time::Instant;
 
 const BASE: u32 = 0x2000_0000;
 const EXTERNAL: u32 = 0x1000_0000;
-const ROUNDS: usize = 41;
 
 fn record(virtual_start: u32, physical: u32, kind: u8) -> [u8; 12] {
     let mut bytes = [0; 12];
@@ -36,17 +39,36 @@ fn page(n: u32) -> u32 {
     (n / 8) << 20 | (n % 8 * 5 + 1) << 12
 }
 
-/// A session: the base set, on and walking, then requests.
-fn session(addresses: impl Iterator<Item = u32>) -> Vec<u8> {
-    let mut calls = vec![
-        call(boundary::WRITE, 0x1C, 0, (BASE >> 16) as u16),
-        call(boundary::WRITE, 0x20, 0, BASE as u16),
-        call(boundary::WRITE, 0x08, 0, 7),
-    ];
-    calls.extend(
-        addresses.map(|address| call(boundary::REQUEST, (address >> 3 & 1) as u8, address, 0)),
-    );
-    calls.concat()
+/// A place in a small page.
+fn within(dice: &mut Dice) -> u32 {
+    dice.below(1 << 12)
+}
+
+fn request(address: u32) -> [u8; 12] {
+    call(boundary::REQUEST, (address >> 3 & 1) as u8, address, 0)
+}
+
+fn write(offset: u8, value: u16) -> [u8; 12] {
+    call(boundary::WRITE, offset, 0, value)
+}
+
+fn read(offset: u8) -> [u8; 12] {
+    call(boundary::READ, offset, 0, 0)
+}
+
+/// The base set, and the control register.
+fn start(control: u16) -> Vec<[u8; 12]> {
+    vec![write(0x1C, (BASE >> 16) as u16), write(0x20, BASE as u16), write(0x08, control)]
+}
+
+/// A sort of session: its first calls, then `length` calls each made of its
+/// number, what each of these answers, and how many words they read.
+struct Sort {
+    name: &'static str,
+    first: Vec<[u8; 12]>,
+    each: fn(usize, &mut Dice) -> [u8; 12],
+    answers: &'static [u8],
+    words: fn(usize) -> usize,
 }
 
 /// What is done in one round.
@@ -127,7 +149,133 @@ fn lists() -> Vec<(String, usize, Vec<u8>)> {
     ]
 }
 
-fn benches() -> Vec<Bench> {
+/// What a session has.
+fn sorts() -> Vec<Sort> {
+    const ON: u16 = 3;
+    const WALKING: u16 = 7;
+    let sort = |name,
+                control,
+                each: fn(usize, &mut Dice) -> [u8; 12],
+                answers,
+                words: fn(usize) -> usize| Sort {
+        name,
+        first: start(control),
+        each,
+        answers,
+        words,
+    };
+    // Every page that a session of hits asks for, walked to once.
+    let warmed = |mut sort: Sort| {
+        sort.first.extend((0..24).map(|n| request(page(n))));
+        sort
+    };
+    // A page that is in no table, asked for once.
+    let faulted = |mut sort: Sort| {
+        sort.first.push(request(page(64)));
+        sort
+    };
+    const READABLE: [u8; 20] = [
+        0x00, 0x04, 0x08, 0x0C, 0x10, 0x14, 0x1C, 0x20, 0x24, 0x28, 0x2C, 0x30, 0x34, 0x38, 0x3C,
+        0x40, 0x44, 0x48, 0x4C, 0x50,
+    ];
+    const STAGED: [u8; 4] = [0x2C, 0x30, 0x34, 0x38];
+    vec![
+        warmed(sort(
+            "hits (24 pages, 32 slots)",
+            WALKING,
+            |_, dice| request(page(dice.below(24)) | within(dice)),
+            &[100],
+            |_| 48,
+        )),
+        sort(
+            "misses (64 pages in turn)",
+            WALKING,
+            |n, dice| request(page(n as u32 % 64) | within(dice)),
+            &[100],
+            |length| 2 * length,
+        ),
+        sort("requests while off", 1, |_, dice| request(dice.below(1 << 24)), &[100], |_| 0),
+        sort("register reads", WALKING, |n, _| read(READABLE[n % 20]), &[101], |_| 0),
+        sort(
+            "register writes",
+            WALKING,
+            |n, dice| write(STAGED[n % 4], dice.below(1 << 16) as u16),
+            &[0],
+            |_| 0,
+        ),
+        warmed(sort(
+            "reads and hits in turn",
+            WALKING,
+            |n, dice| {
+                if n % 2 == 0 {
+                    read(READABLE[n / 2 % 20])
+                } else {
+                    request(page(dice.below(24)))
+                }
+            },
+            &[101, 100],
+            |_| 48,
+        )),
+        warmed(sort(
+            "writes and hits in turn",
+            WALKING,
+            |n, dice| {
+                if n % 2 == 0 {
+                    write(STAGED[n / 2 % 4], n as u16)
+                } else {
+                    request(page(dice.below(24)))
+                }
+            },
+            &[0, 100],
+            |_| 48,
+        )),
+        faulted(sort("retries after a miss", ON, |_, _| write(0x18, 1), &[22], |_| 0)),
+        faulted(sort(
+            "retries that walk",
+            WALKING,
+            |_, _| write(0x18, 1),
+            &[21],
+            |length| 1 + length,
+        )),
+        sort(
+            "prefetches (64 pages in turn)",
+            WALKING,
+            |n, _| write(0x00, (page(n as u32 % 64) >> 10) as u16),
+            &[0],
+            |length| 2 * length,
+        ),
+        warmed(sort(
+            "flushes, of all and of one",
+            WALKING,
+            |n, _| write(if n % 2 == 0 { 0x3C } else { 0x40 }, 1),
+            &[0],
+            |_| 48,
+        )),
+        sort("loads and copies", 3, |n, _| write(0x28, 1 + n as u16 % 2), &[0], |_| 0),
+        sort(
+            "faults and drops in turn",
+            ON,
+            |n, dice| {
+                if n % 2 == 0 {
+                    request(dice.below(1 << 24))
+                } else {
+                    call(boundary::DROP, 0, 0, 0)
+                }
+            },
+            &[22, 0],
+            |_| 0,
+        ),
+        sort(
+            "shift reports",
+            WALKING,
+            |n, _| call(boundary::SHIFT, 0, page(n as u32 % 64), 0),
+            &[102],
+            |_| 0,
+        ),
+    ]
+}
+
+fn benches(length_of_session: usize) -> Vec<Bench> {
     let mut benches = Vec::new();
 
     // Small pages; the image is in the on-chip memory.
@@ -135,25 +283,25 @@ fn benches() -> Vec<Bench> {
     let mut on_chip = vec![0; 65_536];
     let length = boundary::build(&list, BASE, &mut on_chip) as usize;
     on_chip.truncate(length);
-    let mut dice = Dice::new(0xBE9C);
-    let within = |dice: &mut Dice| dice.below(1 << 12);
-    let warm: Vec<u32> = (0..24).map(page).collect();
-    let hits: Vec<u32> = (0..20_000).map(|_| page(dice.below(24)) | within(&mut dice)).collect();
-    let misses: Vec<u32> = (0..20_000).map(|n| page(n % 64) | within(&mut dice)).collect();
-    // Two words for each walk: 24 of them to warm up, or one for each request.
-    let sessions = [
-        ("run: hits (24 pages, 32 slots)", session(warm.into_iter().chain(hits)), 48),
-        ("run: misses (64 pages in turn)", session(misses.into_iter()), 40_000),
-    ];
-    for (name, calls, words) in sessions {
+    for sort in sorts() {
+        let mut dice = Dice::new(0xBE9C);
+        let mut calls = sort.first.concat();
+        for n in 0..length_of_session {
+            calls.extend((sort.each)(n, &mut dice));
+        }
         let units = calls.len() / boundary::CALL;
         let out = vec![0; units * ANSWER + STATE];
         let mut work = Work::Run { calls, on_chip: on_chip.clone(), external: vec![0; 4_096], out };
         work.go(&Second);
         let (answers, state) = work.written().split_at(units * ANSWER);
-        assert!(answers.chunks(ANSWER).skip(3).all(|answer| answer[0] == 100));
-        assert_eq!(state[boundary::METERS_AT + 8..][..4], u32::to_le_bytes(words));
-        benches.push(Bench { name: name.into(), unit: "call", units, work });
+        let said = answers.chunks(ANSWER).skip(sort.first.len());
+        for (n, answer) in said.enumerate() {
+            assert_eq!(answer[0], sort.answers[n % sort.answers.len()], "{}: {n}", sort.name);
+        }
+        let words = (sort.words)(length_of_session) as u32;
+        assert_eq!(state[boundary::METERS_AT + 8..][..4], words.to_le_bytes(), "{}", sort.name);
+        let name = format!("run: {}", sort.name);
+        benches.push(Bench { name, unit: "call", units, work });
     }
 
     for (name, builds, list) in lists() {
@@ -178,7 +326,10 @@ fn agree(work: &mut Work, programs: [&dyn Program; 2]) {
 }
 
 /// Nanoseconds for one unit, of one round.
-fn round(bench: &mut Bench, program: &dyn Program) -> f64 {
+fn round(bench: &mut Bench, program: &dyn Program, cleared: bool) -> f64 {
+    if cleared {
+        bench.work.written().fill(0);
+    }
     let begun = Instant::now();
     bench.work.go(program);
     begun.elapsed().as_nanos() as f64 / bench.units as f64
@@ -194,21 +345,57 @@ fn cell([low, median, high]: [f64; 3]) -> String {
     format!("{median:>9.1} ({low:.1} to {high:.1})")
 }
 
+/// What the command line asks for.
+struct Asked {
+    cleared: bool,
+    length: usize,
+    rounds: usize,
+    only: String,
+}
+
+impl Asked {
+    fn of(mut words: impl Iterator<Item = String>) -> Result<Asked, String> {
+        let mut asked = Asked { cleared: false, length: 20_000, rounds: 41, only: String::new() };
+        while let Some(word) = words.next() {
+            let mut number = || {
+                let value = words.next().and_then(|value| value.parse().ok()).filter(|n| *n > 0);
+                value.ok_or_else(|| format!("{word} wants a number of at least 1"))
+            };
+            match word.as_str() {
+                "--cleared" => asked.cleared = true,
+                "--length" => asked.length = number()?,
+                "--rounds" => asked.rounds = number()?,
+                "--only" => asked.only = words.next().ok_or("--only wants words")?,
+                _ => return Err(format!("{word} is no option")),
+            }
+        }
+        Ok(asked)
+    }
+}
+
 fn main() -> ExitCode {
+    let Asked { cleared, length, rounds, only } = match Asked::of(std::env::args().skip(1)) {
+        Ok(asked) => asked,
+        Err(why) => {
+            eprintln!("bench_speed: {why}; [--cleared] [--length N] [--rounds N] [--only WORDS]");
+            return ExitCode::from(2);
+        }
+    };
     let native = native::linked();
-    println!("{ROUNDS} rounds of each program, interleaved; ns for one unit: median (quartiles).");
-    println!("Buffers are the same in every round and are not cleared between rounds.");
+    println!("{rounds} rounds of each program, interleaved; ns for one unit: median (quartiles).");
+    let whether = if cleared { "cleared before each round" } else { "not cleared between rounds" };
+    println!("Sessions of {length} calls; buffers are the same in every round and {whether}.");
     println!();
     println!(
         "{:<32} {:<6} {:>28} {:>28} {:>20}",
         "what", "unit", "native", "second", "native / second"
     );
-    for mut bench in benches() {
+    for mut bench in benches(length).into_iter().filter(|bench| bench.name.contains(&only)) {
         if let Some(native) = &native {
             agree(&mut bench.work, [native, &Second]);
         }
         let mut times = [Vec::new(), Vec::new()];
-        for n in 0..ROUNDS + 2 {
+        for n in 0..rounds + 2 {
             // The first two rounds warm up; who comes first changes.
             let mut one = |which: usize| {
                 let program: &dyn Program = match (which, &native) {
@@ -216,7 +403,7 @@ fn main() -> ExitCode {
                     (0, None) => return,
                     _ => &Second,
                 };
-                let time = round(&mut bench, program);
+                let time = round(&mut bench, program, cleared);
                 if n >= 2 {
                     times[which].push(time);
                 }
