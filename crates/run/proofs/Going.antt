@@ -1,5 +1,5 @@
 -- What holds before each call of a run. Assumes nothing.
-use mathlib.Core.Path.{_≡_, refl, sym, _∙_, ap, ap₂, subst}
+use mathlib.Core.Path.{_≡_, sym, _∙_, ap, ap₂, subst}
 use native.Mathlib.Omega.{arith}
 use mathlib.Core.Bool.{Bool, true}
 use mathlib.Core.List.{List}
@@ -78,7 +78,7 @@ module _ (m : Lent) (p : Prices) (handed : ℕ) (calls : List ℕ) (n : ℕ) (st
         same = g .same ∙ run-turn m p handed calls n out o (benchOf r bank q b t) i s h (omega (arith, g .long)) (se ∙ ap (stepped m p (benchOf r bank q b t)) ce) w;
         ranged =
             g .ranged
-            ∙ sym (range-same m p r bank q b t c good (subst Narrow (sym ce) (narrow-at calls (12 * i))) bytes)
+            ∙ sym (range-same m p r bank q b c good (subst Narrow (sym ce) (narrow-at calls (12 * i))) bytes)
             ∙ sym (ap (λ (z : Done). partsOk (z .registers) (z .bank) (z .pending)) e);
         spanned = done .spanned;
       }

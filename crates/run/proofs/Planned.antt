@@ -18,7 +18,6 @@ use Rattle.registers.specs.declared.Registers.{Registers}
 use Rattle.registers.specs.Table.{commandOf}
 use Rattle.plan.specs.declared.Plan.{Plan}
 use Rattle.perform.specs.Performed.{Done, Fit, performed}
-use Rattle.unit.specs.Device.{inRange}
 use Rattle.unit.specs.Machine as M
 use Rattle.unit.specs.declared.Device.{Device}
 use Rattle.unit.proofs.Fitting.{request-fits, write-fits, read-fits, drop-fits, shift-fits}
@@ -31,7 +30,6 @@ use Rattle.forms.specs.declared.Call.the-variants as C
 use Rattle.kinds.specs.Kinds.{callBy, callFrom}
 use Rattle.calls.specs.Records.{callOf, callAt, isGood}
 use Rattle.session.specs.Bench.{stepped}
-use Rattle.session.specs.declared.Stepped.{Stepped}
 use Rattle.run.specs.Planned.{partsOk, planOf, benchOf, benchDone}
 
 -- a value of a register write has 16 bits
@@ -96,21 +94,18 @@ module _ (m : Lent) (p : Prices) (r : Registers) (k : Bank) (q : Pending) (b : B
   refused-kept (C.Shift va) false e = refl
   refused-kept C.Bad false e = refl
 
-  abbrev ranged-step : M.Call → Type 0
-  ranged-step c = inRange (M.step m device b c .device) ≡ true
-
-  ranged-kept : (t : Meters) (c : Call) → isGood c ≡ true → Narrow c → BytesFit m → partsOk r k q ≡ true → after-ok (left-by c) ≡ true
-  ranged-kept t (C.Write o v) g w f h = ap after-ok (write-done m p b device v o) ∙ range-kept m device b (M.write o v p) f w h
-  ranged-kept t (C.Read o) g w f h = ap after-ok (read-done m p b device o) ∙ range-kept m device b (M.read o) f tt h
-  ranged-kept t (C.Request va a) g w f h = ap after-ok (request-done m p b device va a) ∙ range-kept m device b (M.request va a p) f tt h
-  ranged-kept t C.Drop g w f h = ap after-ok (drop-done m p b device) ∙ range-kept m device b M.drop-fault f tt h
-  ranged-kept t (C.Shift va) g w f h = ap after-ok (shift-done m p b device va) ∙ range-kept m device b (M.shift va) f tt h
-  ranged-kept t C.Bad g w f h = absurd (false≢true g)
+  ranged-kept : (c : Call) → isGood c ≡ true → Narrow c → BytesFit m → partsOk r k q ≡ true → after-ok (left-by c) ≡ true
+  ranged-kept (C.Write o v) g w f h = ap after-ok (write-done m p b device v o) ∙ range-kept m device b (M.write o v p) f w h
+  ranged-kept (C.Read o) g w f h = ap after-ok (read-done m p b device o) ∙ range-kept m device b (M.read o) f tt h
+  ranged-kept (C.Request va a) g w f h = ap after-ok (request-done m p b device va a) ∙ range-kept m device b (M.request va a p) f tt h
+  ranged-kept C.Drop g w f h = ap after-ok (drop-done m p b device) ∙ range-kept m device b M.drop-fault f tt h
+  ranged-kept (C.Shift va) g w f h = ap after-ok (shift-done m p b device va) ∙ range-kept m device b (M.shift va) f tt h
+  ranged-kept C.Bad g w f h = absurd (false≢true g)
 
   -- so whether it is in range stays as it was
-  pub range-same : (t : Meters) (c : Call) → isGood c ≡ true → Narrow c → BytesFit m → after-ok (left-by c) ≡ partsOk r k q
-  range-same t c g w f = by (partsOk r k q) refl
+  pub range-same : (c : Call) → isGood c ≡ true → Narrow c → BytesFit m → after-ok (left-by c) ≡ partsOk r k q
+  range-same c g w f = by (partsOk r k q) refl
     where
       by : (ok : Bool) → partsOk r k q ≡ ok → after-ok (left-by c) ≡ partsOk r k q
-      by true e = ranged-kept t c g w f e ∙ sym e
+      by true e = ranged-kept c g w f e ∙ sym e
       by false e = refused-kept c (partsOk r k q) e

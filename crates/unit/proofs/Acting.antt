@@ -9,8 +9,7 @@ use Rattle.registers.specs.Table.{commandOf}
 use Rattle.plan.specs.Plans.{requestPlan, writePlan, readPlan, dropPlan, shiftPlan}
 use Rattle.plan.specs.declared.Plan.{Plan}
 use Rattle.perform.specs.Performed.{Done, performed}
-use Rattle.decision.specs.declared.Said.the-variants.{Reported}
-use Rattle.unit.specs.Types.{Access, VirtualAddress, Lent, lentOk, Bill, Prices, Device, Outcome, Told}
+use Rattle.unit.specs.Types.{Access, VirtualAddress, Lent, lentOk, Bill, Prices, Device}
 use Rattle.unit.specs.Device.{inRange}
 use Rattle.unit.specs.Acts.{Fitted, Alone, outcomeOf, toldOf}
 use Rattle.unit.specs.Calls.{requestOf, writeOf, readOf, dropOf, shiftOf}

@@ -1,9 +1,8 @@
 -- A device in range has what the plan of any call asks of its parts. Assumes nothing.
-use mathlib.Core.Path.{_≡_, refl}
+use mathlib.Core.Path.{_≡_}
 use mathlib.Core.Bool.{Bool, true}
 use Prim.Native.Nat.{ℕ, _<_}
 use native.Mathlib.Omega.{arith}
-use lib.Dec.{leb}
 use borrow.Author.Tests.{ltb-true, leb-false}
 use Rattle.page.specs.Words.{limit}
 use Rattle.page.proofs.Picks.{pick-by, and-left, and-right}

@@ -10,30 +10,27 @@ use Rattle.page.specs.Pick.{pick, _and_, _or_}
 use Rattle.page.specs.Words.{limit}
 use Rattle.page.specs.declared.Access.the-variants.{Read}
 use Rattle.page.proofs.Picks.{pick-yes, pick-no, pick-by, and-left, and-right, or-no}
-use Rattle.meters.specs.Posted.{noTally}
 use Rattle.bill.specs.Bill.{moneyOk}
 use Rattle.lanes.specs.Lanes.{slots}
-use Rattle.walk.specs.Walk.{walkWithin}
 use Rattle.registers.specs.Answers.{idle, isPrefetch}
 use Rattle.registers.specs.Fields.{isOn, isWalking, withPrefetch}
 use Rattle.registers.specs.Table.{listed, noRegister, controlCommand, lockCommand, loadCommand, whenBit, commandOf, valueAt}
 use Rattle.registers.specs.declared.Answer.the-variants as A
 use Rattle.registers.specs.declared.Command.the-variants as C
 use Rattle.registers.specs.declared.Pending.the-variants.{Nothing, Held}
-use Rattle.registers.specs.declared.Registers.{Registers}
 use Rattle.registers.specs.declared.Setting.the-variants.{Control}
 use Rattle.registers.specs.declared.Tending.the-variants.{Flush, FlushEntry}
 use Rattle.registers.proofs.Offsets.{by-offset, command-elsewhere, value-elsewhere}
 use Rattle.descriptors.specs.Statements.{isMissing}
 use Rattle.decision.specs.Prefetches.{pageAt, prefetchDecided, prefetchKept, shiftBy}
-use Rattle.decision.specs.declared.Said.the-variants.{Answered, Reported}
+use Rattle.decision.specs.declared.Said.the-variants.{Reported}
 use Rattle.decision.specs.declared.Shift.the-variants as H
 use Rattle.plan.specs.Plans.{settingAt, requestPlan, retryPlan, pendingPlan, commandPlan, writePlan, readPlan, dropPlan, shiftPlan}
 use Rattle.plan.specs.declared.Plan.{Plan}
 use Rattle.plan.specs.declared.Plan.the-variants as L
 use Rattle.plan.specs.declared.Reason.the-variants as E
 use Rattle.perform.specs.Performed.{Done, quietly, endedFor, decidedFor, performed}
-use Rattle.unit.specs.Types.{Access, VirtualAddress, Lent, lentOk, Walked, Bill, Prices, Fault, Pending, Answer, Tending, Command, Shift, Device, Outcome, Told}
+use Rattle.unit.specs.Types.{Access, VirtualAddress, Lent, lentOk, Walked, Bill, Prices, Fault, Pending, Answer, Tending, Command, Shift, Device, Outcome}
 use Rattle.unit.specs.Refusals.{Refusing, Refusals, refuses}
 use Rattle.unit.specs.Device.{inRange, cleared, told, toldRefused, doneWith, refusedWith, look, attemptOf}
 use Rattle.unit.specs.Acts.{doneBy, doneTold}

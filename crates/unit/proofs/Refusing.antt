@@ -3,8 +3,6 @@ use mathlib.Core.Path.{_≡_, refl, _∙_}
 use mathlib.Core.Bool.{Bool, true, false, not}
 use mathlib.Core.List.{[], _∷_}
 use Prim.Native.Nat.{ℕ}
-use lib.Dec.{eqb}
-use Rattle.page.specs.Pick.{pick}
 use Rattle.page.proofs.Picks.{pick-yes, pick-no, pick-by}
 use Rattle.unit.specs.Refusals.{Refusing, Refusals, refuses, Clear}
 

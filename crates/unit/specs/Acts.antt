@@ -1,5 +1,5 @@
 -- A plan, done to a device: what it hands back, in parts and as each call hands it back.
-use Rattle.page.specs.Ground.{ℕ, _≡_}
+use Rattle.page.specs.Ground.{_≡_}
 use Rattle.plan.specs.declared.Plan.{Plan}
 use Rattle.perform.specs.Performed.{Done, quietly, performed, Fit}
 use Rattle.registers.specs.declared.Answer.the-variants as A
@@ -9,8 +9,8 @@ use Rattle.decision.specs.declared.Shift.the-variants as H
 use Rattle.unit.specs.Types.{Lent, Bill, Prices, Answer, Shift, Device, Outcome, Told}
 use Rattle.unit.specs.declared.Acted.{Acted}
 
-abbrev pub doneOf : Acted → Done
-doneOf x = record {
+abbrev pub doneActed : Acted → Done
+doneActed x = record {
   registers = x .device .registers;
   bank = x .device .bank;
   pending = x .device .pending;

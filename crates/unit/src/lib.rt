@@ -16,7 +16,7 @@ ghost use mathlib.Core.Path.{_≡_};
 ghost use Rattle.memory.specs.Memory.{lent};
 ghost use Rattle.perform.specs.Performed.{performed};
 ghost use Rattle.unit.specs.Device.{freshDevice, inRange, reported};
-ghost use Rattle.unit.specs.Acts.{doneOf, answerOf, shiftIn, outcomeOf, toldOf, Fitted, Alone};
+ghost use Rattle.unit.specs.Acts.{doneActed, answerOf, shiftIn, outcomeOf, toldOf, Fitted, Alone};
 ghost use Rattle.unit.specs.Calls.{requestOf, writeOf, readOf, dropOf, shiftOf};
 
 // The registers, the slots, and perhaps one pending fault.
@@ -65,7 +65,7 @@ fn act<'a>(
     prices: Prices,
     bill: Bill,
 ) -> Acted
-    ensures { λ r. ⌜ (Fitted d plan → doneOf r ≡ performed (lent (now (on .entry)) onbase (now (ext .entry)) extbase) prices bill (d .registers) (d .bank) (d .pending) plan) ⌝ }
+    ensures { λ r. ⌜ (Fitted d plan → doneActed r ≡ performed (lent (now (on .entry)) onbase (now (ext .entry)) extbase) prices bill (d .registers) (d .bank) (d .pending) plan) ⌝ }
 {
     let r = d.registers;
     let b = d.bank;
@@ -115,7 +115,7 @@ fn act<'a>(
 
 // The same for a plan that reads no memory and charges nothing.
 fn act_alone(d: Device, plan: Plan) -> Acted
-    ensures { λ r. ⌜ (Fitted d plan → Alone d plan (doneOf r)) ⌝ }
+    ensures { λ r. ⌜ (Fitted d plan → Alone d plan (doneActed r)) ⌝ }
 {
     let none = [0u8; 1];
     let free = Prices {
@@ -147,7 +147,7 @@ fn shift_in(said: Said) -> Shift
 
 // What a call that may walk hands back.
 fn outcome_of(x: Acted) -> Outcome
-    ensures { λ r. ⌜ r ≡ outcomeOf (doneOf x) ⌝ }
+    ensures { λ r. ⌜ r ≡ outcomeOf (doneActed x) ⌝ }
 {
     let device = x.device;
     let bill = x.bill;
@@ -163,7 +163,7 @@ fn outcome_of(x: Acted) -> Outcome
 
 // What a call that never walks hands back.
 fn told_of(x: Acted) -> Told
-    ensures { λ r. ⌜ r ≡ toldOf (doneOf x) ⌝ }
+    ensures { λ r. ⌜ r ≡ toldOf (doneActed x) ⌝ }
 {
     let device = x.device;
     let said = x.said;

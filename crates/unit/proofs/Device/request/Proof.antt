@@ -1,4 +1,4 @@
-use mathlib.Core.Path.{_∙_, ap}
+use mathlib.Core.Path.{_∙_}
 use denote.Ref.{now}
 use Rattle.memory.specs.Memory.{lent}
 use Rattle.unit.proofs.Acting.{request-acts}
