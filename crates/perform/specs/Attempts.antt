@@ -32,24 +32,24 @@ use Rattle.slots.specs.Lanes.{Spanned}
 use Rattle.perform.specs.Performed.{tallyFor, Ready}
 use Rattle.perform.specs.declared.After.{After}
 
-abbrev pub isPrefetch : Reason → Bool
-isPrefetch Request = false
-isPrefetch Retry = false
-isPrefetch Prefetch = true
+abbrev pub fetchesAhead : Reason → Bool
+fetchesAhead Request = false
+fetchesAhead Retry = false
+fetchesAhead Prefetch = true
 
 -- what a matching slot's words come to
 abbrev pub matchedFor : Reason → ℕ → ℕ → VirtualAddress → Access → Decision
-matchedFor e cam ram va a = pick (isPrefetch e) (plainly A.Done S.Nothing) (byMatch cam ram va a)
+matchedFor e cam ram va a = pick (fetchesAhead e) (plainly A.Done S.Nothing) (byMatch cam ram va a)
 
 -- a prefetch is no attempt of the bill's figure, its fault has a kind of its own, and it asks for no access
 abbrev pub missedFor : Reason → Bill → Bill
-missedFor e b = pick (isPrefetch e) b (attemptPosted b true)
+missedFor e b = pick (fetchesAhead e) b (attemptPosted b true)
 
 abbrev pub faultFor : Reason → Fault
-faultFor e = pick (isPrefetch e) K.Prefetch K.Translation
+faultFor e = pick (fetchesAhead e) K.Prefetch K.Translation
 
 abbrev pub answerFor : Reason → ℕ → PhysicalAddress → Access → Answer
-answerFor e bits at a = pick (isPrefetch e) A.Done (byAccess bits at a)
+answerFor e bits at a = pick (fetchesAhead e) A.Done (byAccess bits at a)
 
 -- all that a decision leaves
 abbrev pub afterOf : Prices → Bill → Reason → Pending → VirtualAddress → Access → Decision → After

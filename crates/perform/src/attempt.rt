@@ -23,11 +23,11 @@ ghost use mathlib.Core.Path.{_≡_};
 ghost use Rattle.memory.specs.Memory.{lent};
 ghost use Rattle.walk.specs.Walk.{walkWithin};
 ghost use Rattle.perform.specs.Performed.{tallyFor, registersFor, decidedFor};
-ghost use Rattle.perform.specs.Attempts.{isPrefetch, Sought, Sighted, afterOf, wordlessOf, walkedOf, matchedFor, missedFor, faultFor, answerFor};
+ghost use Rattle.perform.specs.Attempts.{fetchesAhead, Sought, Sighted, afterOf, wordlessOf, walkedOf, matchedFor, missedFor, faultFor, answerFor};
 
 // Whether an attempt is a prefetch.
-fn is_prefetch(reason: Reason) -> bool
-    ensures { λ r. ⌜ r ≡ isPrefetch reason ⌝ }
+fn fetches_ahead(reason: Reason) -> bool
+    ensures { λ r. ⌜ r ≡ fetchesAhead reason ⌝ }
 {
     match reason {
         Reason::Request => false,
@@ -97,7 +97,7 @@ fn wordless(
 fn matched(reason: Reason, cam: u32, ram: u32, va: VirtualAddress, a: Access) -> Decision
     ensures { λ r. ⌜ r ≡ matchedFor reason cam ram va a ⌝ }
 {
-    if is_prefetch(reason) {
+    if fetches_ahead(reason) {
         return decision::plain(Answer::Done, Seen::Nothing);
     }
     decision::by_match(cam, ram, va, a)
@@ -107,7 +107,7 @@ fn matched(reason: Reason, cam: u32, ram: u32, va: VirtualAddress, a: Access) ->
 fn missed(reason: Reason, bill: Bill) -> Bill
     ensures { λ r. ⌜ r ≡ missedFor reason bill ⌝ }
 {
-    if is_prefetch(reason) {
+    if fetches_ahead(reason) {
         return bill;
     }
     bill.post_attempt(true)
@@ -117,7 +117,7 @@ fn missed(reason: Reason, bill: Bill) -> Bill
 fn fault(reason: Reason) -> Fault
     ensures { λ r. ⌜ r ≡ faultFor reason ⌝ }
 {
-    if is_prefetch(reason) {
+    if fetches_ahead(reason) {
         return Fault::Prefetch;
     }
     Fault::Translation
@@ -127,7 +127,7 @@ fn fault(reason: Reason) -> Fault
 fn answer(reason: Reason, bits: u32, at: PhysicalAddress, a: Access) -> Answer
     ensures { λ r. ⌜ r ≡ answerFor reason bits at a ⌝ }
 {
-    if is_prefetch(reason) {
+    if fetches_ahead(reason) {
         return Answer::Done;
     }
     decision::by_access(bits, at, a)

@@ -37,7 +37,8 @@ module _ (m : Lent) (p : Prices) (b : Bill) (d : Device) (x : Plan) where
     pub write-acts : (o v : ℕ) → x ≡ writePlan ok l (money and billOk b) (d .registers .control) (d .pending) (commandOf o v)
         → (y : Done) → (Fitted d x → y ≡ run x) → outcomeOf y ≡ writeOf m p b d o v
     write-acts o v e y h =
-        ap outcomeOf (acts _ (e ∙ tested (λ u i w. writePlan u i w (d .registers .control) (d .pending) (commandOf o v))) (write-fits d (lentOk m) (moneyOk p b) (commandOf o v)) y _ h (write-done m p b d v o))
+        ap outcomeOf (acts _ (e ∙ tested (λ u i w. writePlan u i w (d .registers .control) (d .pending) (commandOf o v)))
+        (write-fits d (lentOk m) (moneyOk p b) (commandOf o v)) y _ h (write-done m p b d v o))
 
   pub shift-acts : (va : VirtualAddress) (ok l : Bool) → ok ≡ inRange d → l ≡ lentOk m → x ≡ shiftPlan ok l va
       → (y : Done) → (Fitted d x → y ≡ run x) → y ≡ reporting m p b d (shiftOf m d va)
@@ -49,10 +50,12 @@ module _ (d : Device) (x : Plan) (ok : Bool) (oe : ok ≡ inRange d) (y : Done) 
   read-acts o e =
       let f = subst (Fitted d) (sym e) (read-fits d ok o) in
       let a = h f in
-      ap toldOf (acts (a .memories) (a .prices) (a .bill) d x _ (e ∙ ap (λ (u : Bool). readPlan u o) oe) (read-fits d (inRange d) o) y _ (λ _. a .is) (read-done (a .memories) (a .prices) (a .bill) d o))
+      ap toldOf (acts (a .memories) (a .prices) (a .bill) d x _ (e ∙ ap (λ (u : Bool). readPlan u o) oe) (read-fits d (inRange d) o)
+      y _ (λ _. a .is) (read-done (a .memories) (a .prices) (a .bill) d o))
 
   pub drop-acts : x ≡ dropPlan ok (d .pending) → toldOf y ≡ dropOf d
   drop-acts e =
       let f = subst (Fitted d) (sym e) (drop-fits d ok (d .pending)) in
       let a = h f in
-      ap toldOf (acts (a .memories) (a .prices) (a .bill) d x _ (e ∙ ap (λ (u : Bool). dropPlan u (d .pending)) oe) (drop-fits d (inRange d) (d .pending)) y _ (λ _. a .is) (drop-done (a .memories) (a .prices) (a .bill) d))
+      ap toldOf (acts (a .memories) (a .prices) (a .bill) d x _ (e ∙ ap (λ (u : Bool). dropPlan u (d .pending)) oe) (drop-fits d (inRange d) (d .pending))
+      y _ (λ _. a .is) (drop-done (a .memories) (a .prices) (a .bill) d))

@@ -28,13 +28,15 @@ use Rattle.decision.specs.declared.Shift.the-variants as H
 use Rattle.plan.specs.Plans.{settingAt, requestPlan, retryPlan, pendingPlan, commandPlan, writePlan, readPlan, dropPlan, shiftPlan}
 use Rattle.plan.specs.declared.Plan.{Plan}
 use Rattle.plan.specs.declared.Plan.the-variants as L
+use Rattle.plan.specs.declared.Reason.{Reason}
 use Rattle.plan.specs.declared.Reason.the-variants as E
 use Rattle.perform.specs.Performed.{Done, quietly, endedFor, decidedFor, performed}
 use Rattle.unit.specs.Types.{Access, VirtualAddress, Lent, lentOk, Walked, Bill, Prices, Fault, Pending, Answer, Tending, Command, Shift, Device, Outcome}
 use Rattle.unit.specs.Refusals.{Refusing, Refusals, refuses}
 use Rattle.unit.specs.Device.{inRange, cleared, told, toldRefused, doneWith, refusedWith, look, attemptOf}
 use Rattle.unit.specs.Acts.{doneBy, doneTold}
-use Rattle.unit.specs.Calls.{lacks, requestOf, isMalformed, isUntimely, retryLacks, writeLacks, writeRefusals, prefetched, heldRetried, retried, carried, writeOf, readRefusals, readOf, dropOf, shiftOf}
+use Rattle.unit.specs.Calls.{lacks, retryLacks, writeLacks, isMalformed, isUntimely, writeRefusals, readRefusals}
+use Rattle.unit.specs.Calls.{requestOf, writeOf, readOf, dropOf, shiftOf, prefetched, heldRetried, retried, carried}
 use Rattle.unit.proofs.Refusing.{refused-here, passed, last-same}
 use Rattle.unit.proofs.Attempts.{look-ok, lacks-attempt, lacks-retry, prefetchLacks, lacks-prefetch, shift-last}
 
@@ -119,11 +121,15 @@ module _ (m : Lent) (p : Prices) (b : Bill) (d : Device) where
   lastly : (t : Bool) (x : Done) (y : Outcome) → x ≡ doneBy y → (t ≡ true → y ≡ refusedWith d b 3) → x ≡ refuses ((t, 3) ∷ []) say (doneBy y)
   lastly t x y e h = last-same say (doneBy y) t 3 x e (λ q. ap doneBy (h q))
 
+  -- an attempt, where w is what the plain walk of its address gives
+  abbrev tried : Reason → VirtualAddress → Access → Walked → Done
+  tried e va a w = endedFor p b e (d .registers) (d .bank) (d .pending) va a (decidedFor e w (d .registers .control) (d .bank .cam) (d .bank .ram) va a)
+
   -- a request or a retry
   request-last : (va : VirtualAddress) (a : Access) → lentOk m ≡ true → run (L.Attempt a E.Request va) ≡ refuses ((lacks m d va, 3) ∷ []) say (doneBy (attemptOf m p b false d va a))
   request-last va a h =
       lastly _ _ (attemptOf m p b false d va a)
-      (ap (λ (w : Walked). endedFor p b E.Request (d .registers) (d .bank) (d .pending) va a (decidedFor E.Request w (d .registers .control) (d .bank .cam) (d .bank .ram) va a)) (look-ok m d va h))
+      (ap (tried E.Request va a) (look-ok m d va h))
       (lacks-attempt m p b false d va a)
 
   retry-ok : (k : Fault) (va : VirtualAddress) (a : Access) → lentOk m ≡ true → run (retryPlan k va a) ≡ doneBy (heldRetried m p b d k va a)
@@ -132,16 +138,23 @@ module _ (m : Lent) (p : Prices) (b : Bill) (d : Device) where
     where
       by : (t : Bool) → run (pick t L.Drop (L.Attempt a E.Retry va)) ≡ doneBy (pick t (doneWith b (cleared d)) (attemptOf m p b true d va a))
       by true = refl
-      by false = ap (λ (w : Walked). endedFor p b E.Retry (d .registers) (d .bank) (d .pending) va a (decidedFor E.Retry w (d .registers .control) (d .bank .cam) (d .bank .ram) va a)) (look-ok m d va h)
+      by false = ap (tried E.Retry va a) (look-ok m d va h)
 
   -- a prefetch
   prefetch-ok : (v : ℕ) → lentOk m ≡ true → run (L.Attempt Read E.Prefetch (pageAt v)) ≡ doneBy (prefetched m p b d v)
   prefetch-ok v h =
       let x = prefetchDecided (look m d (pageAt v)) (d .bank .cam) (pageAt v) in
-      let y = endedFor p b E.Prefetch (d .registers) (d .bank) (d .pending) (pageAt v) Read x in
+      let y = tried E.Prefetch (pageAt v) Read (look m d (pageAt v)) in
       let e : pageAt v .0 / 1024 % 16384 ≡ v % 2 ^ 14 = omega arith in
-      ap (λ (w : Walked). endedFor p b E.Prefetch (d .registers) (d .bank) (d .pending) (pageAt v) Read (decidedFor E.Prefetch w (d .registers .control) (d .bank .cam) (d .bank .ram) (pageAt v) Read)) (look-ok m d (pageAt v) h)
-      ∙ ap (λ (n : ℕ). record { registers = withPrefetch (d .registers) (prefetchKept n (d .registers .prefetch) (x .answer)); bank = y .bank; pending = y .pending; bill = y .bill; tally = y .tally; said = y .said }) e
+      ap (tried E.Prefetch (pageAt v) Read) (look-ok m d (pageAt v) h)
+      ∙ ap (λ (n : ℕ). record {
+        registers = withPrefetch (d .registers) (prefetchKept n (d .registers .prefetch) (x .answer));
+        bank = y .bank;
+        pending = y .pending;
+        bill = y .bill;
+        tally = y .tally;
+        said = y .said;
+      }) e
 
   -- a request: its list of refusals
   pub request-done : (va : VirtualAddress) (a : Access) → run (requestPlan (inRange d) (lentOk m) (moneyOk p b) (d .pending) va a) ≡ doneBy (requestOf m p b d va a)
@@ -190,7 +203,8 @@ module _ (m : Lent) (p : Prices) (b : Bill) (d : Device) where
   walking-pick true x = refl
   walking-pick false x = refl
 
-  load-same : (r : ℕ) → r < 4 → obeyed (loadBy r) ≡ refuses ((eqb r 3, 8) ∷ (((eqb r 1 or eqb r 2) and isWalking (d .registers .control)) or false, 7) ∷ []) say (doneBy (carried m p b d (loadBy r)))
+  load-same : (r : ℕ) → r < 4
+      → obeyed (loadBy r) ≡ refuses ((eqb r 3, 8) ∷ (((eqb r 1 or eqb r 2) and isWalking (d .registers .control)) or false, 7) ∷ []) say (doneBy (carried m p b d (loadBy r)))
   unfolding pick _and_ _or_ refuses
   load-same zero h = refl
   load-same (suc zero) h = walking-pick (isWalking (d .registers .control)) L.Load
@@ -223,7 +237,8 @@ module _ (m : Lent) (p : Prices) (b : Bill) (d : Device) where
   prefetch-same :
       (v : ℕ)
       → obeyed (C.Prefetch v)
-      ≡ refuses ((not (lentOk m), 4) ∷ (not (moneyOk p b), 9) ∷ (eqb (v / 2 ^ 14 % 2) 1 or false, 8) ∷ (not (idle (d .pending)), 2) ∷ (not both or false, 7) ∷ (prefetchLacks m p b d v or false, 3) ∷ [])
+      ≡ refuses ((not (lentOk m), 4) ∷ (not (moneyOk p b), 9) ∷ (eqb (v / 2 ^ 14 % 2) 1 or false, 8)
+      ∷ (not (idle (d .pending)), 2) ∷ (not both or false, 7) ∷ (prefetchLacks m p b d v or false, 3) ∷ [])
       say (doneBy (carried m p b d (C.Prefetch v)))
   prefetch-same v =
       rw (or-none (eqb (v / 2 ^ 14 % 2) 1), or-none (not both), or-none (prefetchLacks m p b d v))

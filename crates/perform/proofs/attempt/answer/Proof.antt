@@ -4,17 +4,17 @@ use borrow.Author.Needs.{needs}
 use Rattle.perform.proofs.attempt.answer.Statement.{statement}
 use Rattle.perform.proofs.attempt.answer.Tie as tie
 
-is-prefetch-requires : tie.Need-is-prefetch-requires
-is-prefetch-requires c κs = search needs
+fetches-ahead-requires : tie.Need-fetches-ahead-requires
+fetches-ahead-requires c κs = search needs
 
 returns : tie.Need-returns
-returns c = sym (pick-yes _ _ _ (sym (c .before .is-prefetch .ensures) ∙ c .if1 .taken))
+returns c = sym (pick-yes _ _ _ (sym (c .before .fetches-ahead .ensures) ∙ c .if1 .taken))
 
 by-access-requires : tie.Need-by-access-requires
 by-access-requires c κs = search needs
 
 returns-2 : tie.Need-returns-2
-returns-2 c = c .by-access .ensures ∙ sym (pick-no _ _ _ (sym (c .before .before .is-prefetch .ensures) ∙ c .before .if1 .left))
+returns-2 c = c .by-access .ensures ∙ sym (pick-no _ _ _ (sym (c .before .before .fetches-ahead .ensures) ∙ c .before .if1 .left))
 
 pub answer-spec : {M : Type 1} → statement M
-answer-spec = tie.close (tie.spec is-prefetch-requires returns by-access-requires returns-2)
+answer-spec = tie.close (tie.spec fetches-ahead-requires returns by-access-requires returns-2)

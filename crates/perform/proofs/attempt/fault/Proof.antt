@@ -4,14 +4,14 @@ use borrow.Author.Needs.{needs}
 use Rattle.perform.proofs.attempt.fault.Statement.{statement}
 use Rattle.perform.proofs.attempt.fault.Tie as tie
 
-is-prefetch-requires : tie.Need-is-prefetch-requires
-is-prefetch-requires c κs = search needs
+fetches-ahead-requires : tie.Need-fetches-ahead-requires
+fetches-ahead-requires c κs = search needs
 
 returns : tie.Need-returns
-returns c = sym (pick-yes _ _ _ (sym (c .before .is-prefetch .ensures) ∙ c .if1 .taken))
+returns c = sym (pick-yes _ _ _ (sym (c .before .fetches-ahead .ensures) ∙ c .if1 .taken))
 
 returns-2 : tie.Need-returns-2
-returns-2 c = sym (pick-no _ _ _ (sym (c .before .is-prefetch .ensures) ∙ c .if1 .left))
+returns-2 c = sym (pick-no _ _ _ (sym (c .before .fetches-ahead .ensures) ∙ c .if1 .left))
 
 pub fault-spec : {M : Type 1} → statement M
-fault-spec = tie.close (tie.spec is-prefetch-requires returns returns-2)
+fault-spec = tie.close (tie.spec fetches-ahead-requires returns returns-2)

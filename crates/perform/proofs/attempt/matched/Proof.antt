@@ -4,21 +4,21 @@ use borrow.Author.Needs.{needs}
 use Rattle.perform.proofs.attempt.matched.Statement.{statement}
 use Rattle.perform.proofs.attempt.matched.Tie as tie
 
-is-prefetch-requires : tie.Need-is-prefetch-requires
-is-prefetch-requires c κs = search needs
+fetches-ahead-requires : tie.Need-fetches-ahead-requires
+fetches-ahead-requires c κs = search needs
 
 plain-requires : tie.Need-plain-requires
 plain-requires c κs = search needs
 
 returns : tie.Need-returns
-returns c = c .plain .ensures ∙ sym (pick-yes _ _ _ (sym (c .before .before .is-prefetch .ensures) ∙ c .before .if1 .taken))
+returns c = c .plain .ensures ∙ sym (pick-yes _ _ _ (sym (c .before .before .fetches-ahead .ensures) ∙ c .before .if1 .taken))
 
 by-match-requires : tie.Need-by-match-requires
 by-match-requires c κs = search needs
 
 returns-2 : tie.Need-returns-2
-returns-2 c = c .by-match .ensures ∙ sym (pick-no _ _ _ (sym (c .before .before .is-prefetch .ensures) ∙ c .before .if1 .left))
+returns-2 c = c .by-match .ensures ∙ sym (pick-no _ _ _ (sym (c .before .before .fetches-ahead .ensures) ∙ c .before .if1 .left))
 
 pub matched-spec : {M : Type 1} → statement M
 matched-spec =
-    tie.close (tie.spec is-prefetch-requires plain-requires returns by-match-requires returns-2)
+    tie.close (tie.spec fetches-ahead-requires plain-requires returns by-match-requires returns-2)

@@ -4,17 +4,17 @@ use borrow.Author.Needs.{needs}
 use Rattle.perform.proofs.attempt.missed.Statement.{statement}
 use Rattle.perform.proofs.attempt.missed.Tie as tie
 
-is-prefetch-requires : tie.Need-is-prefetch-requires
-is-prefetch-requires c κs = search needs
+fetches-ahead-requires : tie.Need-fetches-ahead-requires
+fetches-ahead-requires c κs = search needs
 
 returns : tie.Need-returns
-returns c = sym (pick-yes _ _ _ (sym (c .before .is-prefetch .ensures) ∙ c .if1 .taken))
+returns c = sym (pick-yes _ _ _ (sym (c .before .fetches-ahead .ensures) ∙ c .if1 .taken))
 
 post-attempt-requires : tie.Need-post-attempt-requires
 post-attempt-requires c κs = search needs
 
 returns-2 : tie.Need-returns-2
-returns-2 c = c .post-attempt .ensures ∙ sym (pick-no _ _ _ (sym (c .before .before .is-prefetch .ensures) ∙ c .before .if1 .left))
+returns-2 c = c .post-attempt .ensures ∙ sym (pick-no _ _ _ (sym (c .before .before .fetches-ahead .ensures) ∙ c .before .if1 .left))
 
 pub missed-spec : {M : Type 1} → statement M
-missed-spec = tie.close (tie.spec is-prefetch-requires returns post-attempt-requires returns-2)
+missed-spec = tie.close (tie.spec fetches-ahead-requires returns post-attempt-requires returns-2)
