@@ -1,7 +1,7 @@
 -- Banks in range, and what keeps them there. Assumes nothing.
 use mathlib.Core.Path.{_≡_, _∙_, ap₂}
 use mathlib.Core.Bool.{Bool, true, _&&_}
-use Prim.Native.Nat.{ℕ, _+_, _<_, _≤_}
+use Prim.Native.Nat.{ℕ, _+_, _<_}
 use native.Mathlib.Omega.{arith}
 use lib.Dec.{ltb}
 use borrow.Author.Tests.{lt-ltb, ltb-true}
@@ -14,7 +14,6 @@ use Rattle.lanes.specs.Lanes.{slots, camLimit, camOk, ramOk, camsOk, ramsOk, fl
 use Rattle.lanes.proofs.Ranges.{all-each, all-set, all-map, flushed-ok, flushedAt-ok}
 use Rattle.bank.specs.declared.Bank.{Bank}
 use Rattle.bank.specs.declared.Fill.{Fill}
-use Rattle.bank.specs.declared.Fill.the-variants.{Nothing, Slot}
 use Rattle.bank.specs.Slots.{bankOk}
 use Rattle.bank.specs.Changes.{nextSlot, nextVictim, storedAt, lockedAt, filled, entryFilled, copied, bankFlushed, bankFlushedAt}
 
@@ -60,8 +59,8 @@ abbrev pub wordsOk : Words → Bool
 wordsOk w = camOk camLimit (w .cam) and ramOk (w .ram)
 
 abbrev pub fillOk : Fill → Type 0
-fillOk Nothing = Unit {0}
-fillOk (Slot w) = wordsOk w ≡ true
+fillOk Fill.Nothing = Unit {0}
+fillOk (Fill.Slot w) = wordsOk w ≡ true
 
 -- every change of a bank in range by words in range leaves it in range
 module _ (b : Bank) (h : bankOk b ≡ true) where
@@ -117,5 +116,5 @@ filled-ok b h w g =
     locked-ok (storedAt b i w) (stored-ok b h i w g) (b .lock) (nextVictim i (b .lock)) (r .lock) (nextVictim-lt i (b .lock) (r .lock))
 
 pub entry-ok : (b : Bank) → bankOk b ≡ true → (f : Fill) → fillOk f → bankOk (entryFilled b f) ≡ true
-entry-ok b h Nothing g = h
-entry-ok b h (Slot w) g = filled-ok b h w g
+entry-ok b h Fill.Nothing g = h
+entry-ok b h (Fill.Slot w) g = filled-ok b h w g

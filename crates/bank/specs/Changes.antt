@@ -3,10 +3,9 @@ use Rattle.page.specs.Ground.{ℕ, List, getD, set}
 use Rattle.page.specs.declared.VirtualAddress.{VirtualAddress}
 use Rattle.page.specs.declared.Words.{Words}
 use Rattle.lanes.specs.Lanes.{flushedAll, flushedEntry}
-unfoldable pub use Rattle.victim.specs.Victim.{nextSlot, nextVictim}
+unfoldable pub use Rattle.bank.specs.Victim.{nextSlot, nextVictim}
 use Rattle.bank.specs.declared.Bank.{Bank}
 use Rattle.bank.specs.declared.Fill.{Fill}
-use Rattle.bank.specs.declared.Fill.the-variants.{Nothing, Slot}
 
 -- the words in slot i
 abbrev pub storedAt : Bank → ℕ → Words → Bank
@@ -27,8 +26,8 @@ unfoldable pub filled : Bank → Words → Bank
 filled b w = filledAt b w (nextSlot (b .victim) (b .lock))
 
 abbrev pub entryFilled : Bank → Fill → Bank
-entryFilled b Nothing = b
-entryFilled b (Slot w) = filled b w
+entryFilled b Fill.Nothing = b
+entryFilled b (Fill.Slot w) = filled b w
 
 -- load stores in the victim slot and copy reads it; the victim stays
 abbrev pub loaded : Bank → Words → Bank

@@ -1,2 +1,5 @@
 pub mod Slots
 pub mod Changes
+pub mod Victim
+pub mod Spans
+pub mod InPlace

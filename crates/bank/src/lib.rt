@@ -1,9 +1,12 @@
 // The slots as two lanes of register words, with the lock base and the victim.
+pub mod slots;
+
 use lanes::CAM_LIMIT;
 use lanes::SLOTS;
 use page::Words;
 ghost use mathlib.Core.Path.{_≡_};
 ghost use Rattle.bank.specs.Slots.{bankOk, freshBank};
+ghost use Rattle.bank.specs.Victim.{nextSlot, nextVictim};
 
 pub struct Bank {
     pub cam: [u32; SLOTS],
@@ -40,4 +43,24 @@ impl Bank {
         ok = ok & lanes::cams_ok(&self.cam, CAM_LIMIT);
         ok & lanes::rams_ok(&self.ram)
     }
+}
+
+// The slot that the next fill takes.
+pub(crate) fn next_slot(victim: u8, lock: u8) -> u8
+    ensures { λ r. ⌜ r ≡ nextSlot victim lock ⌝ }
+{
+    if victim < lock {
+        return lock;
+    }
+    victim
+}
+
+// The victim after a fill of a slot.
+pub(crate) fn next_victim(at: u8, lock: u8) -> u8
+    ensures { λ r. ⌜ r ≡ nextVictim at lock ⌝ }
+{
+    if at as usize + 1 < SLOTS {
+        return at + 1;
+    }
+    lock
 }

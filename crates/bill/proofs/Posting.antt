@@ -4,7 +4,9 @@ use mathlib.Core.Bool.{Bool}
 use mathlib.Core.List.{List, [], _∷_, _++_}
 use Prim.Native.Nat.{ℕ}
 use lib.Ieee.{Float, binary64, add}
-use Rattle.bill.specs.Types.{Place, OnChip, External, Nowhere, Source, Row, Prices, At, Bill}
+use Rattle.bill.specs.Types.{Place, Source, Prices, Bill}
+use Rattle.prices.specs.declared.Price.{Price}
+use Rattle.prices.specs.declared.LastRow.{LastRow}
 use Rattle.prices.specs.Prices.{rowOf, wordPrice}
 use Rattle.prices.proofs.Rows.{first-row}
 use Rattle.bill.specs.Bill.{placePosted, wordPosted, wordsPosted, attemptPosted, freshBill}
@@ -19,37 +21,37 @@ module _ (p : Prices) (b : Bill) (s : Source) (k : ℕ) where
   abbrev with : Place → Bill
   with place = placePosted p b place (rowOf (s .at))
 
-  pub onchip-row : s .place ≡ OnChip k → wordPosted p b s .onchip .last ≡ At (rowOf (s .at))
+  pub onchip-row : s .place ≡ Place.OnChip k → wordPosted p b s .onchip .last ≡ LastRow.At (rowOf (s .at))
   unfolding placePosted
   onchip-row e = ap (λ (q : Place). with q .onchip .last) e
 
-  pub onchip-total : s .place ≡ OnChip k → wordPosted p b s .total ≡ add binary64 (b .total) (wordPrice (p .onchip) (b .onchip) (rowOf (s .at)))
+  pub onchip-total : s .place ≡ Place.OnChip k → wordPosted p b s .total ≡ add binary64 (b .total) (wordPrice (p .onchip) (b .onchip) (rowOf (s .at)))
   unfolding placePosted
   onchip-total e = ap (λ (q : Place). with q .total) e
 
-  pub external-row : s .place ≡ External k → wordPosted p b s .external .last ≡ At (rowOf (s .at))
+  pub external-row : s .place ≡ Place.External k → wordPosted p b s .external .last ≡ LastRow.At (rowOf (s .at))
   unfolding placePosted
   external-row e = ap (λ (q : Place). with q .external .last) e
 
-  pub external-total : s .place ≡ External k → wordPosted p b s .total ≡ add binary64 (b .total) (wordPrice (p .external) (b .external) (rowOf (s .at)))
+  pub external-total : s .place ≡ Place.External k → wordPosted p b s .total ≡ add binary64 (b .total) (wordPrice (p .external) (b .external) (rowOf (s .at)))
   unfolding placePosted
   external-total e = ap (λ (q : Place). with q .total) e
 
   -- it leaves the other memory's side alone
-  pub onchip-leaves : s .place ≡ OnChip k → wordPosted p b s .external ≡ b .external
+  pub onchip-leaves : s .place ≡ Place.OnChip k → wordPosted p b s .external ≡ b .external
   unfolding placePosted
   onchip-leaves e = ap (λ (q : Place). with q .external) e
 
-  pub external-leaves : s .place ≡ External k → wordPosted p b s .onchip ≡ b .onchip
+  pub external-leaves : s .place ≡ Place.External k → wordPosted p b s .onchip ≡ b .onchip
   unfolding placePosted
   external-leaves e = ap (λ (q : Place). with q .onchip) e
 
 -- and the miss figure
 place-misses : (p : Prices) (b : Bill) (place : Place) (row : ℕ) → placePosted p b place row .misses ≡ b .misses
 unfolding placePosted
-place-misses p b (OnChip k) row = refl
-place-misses p b (External k) row = refl
-place-misses p b Nowhere row = refl
+place-misses p b (Place.OnChip k) row = refl
+place-misses p b (Place.External k) row = refl
+place-misses p b Place.Nowhere row = refl
 
 pub word-misses : (p : Prices) (b : Bill) (s : Source) → wordPosted p b s .misses ≡ b .misses
 word-misses p b s = place-misses p b (s .place) (rowOf (s .at))
@@ -59,7 +61,7 @@ words-misses p b [] = refl
 words-misses p b (s ∷ ss) = words-misses p (wordPosted p b s) ss ∙ word-misses p b s
 
 -- a word in neither memory posts nothing
-pub nowhere-posts : (p : Prices) (b : Bill) (s : Source) → s .place ≡ Nowhere → wordPosted p b s ≡ b
+pub nowhere-posts : (p : Prices) (b : Bill) (s : Source) → s .place ≡ Place.Nowhere → wordPosted p b s ≡ b
 unfolding placePosted
 nowhere-posts p b s e = ap (λ (q : Place). placePosted p b q (rowOf (s .at))) e
 
@@ -69,8 +71,8 @@ unfolding attemptPosted
 attempt-leaves b missed = (refl, (refl, refl))
 
 -- the first read of either memory is a new row
-pub first-onchip : (same fresh : Float) (row : ℕ) → wordPrice (Row same fresh) (freshBill .onchip) row ≡ fresh
+pub first-onchip : (same fresh : Float) (row : ℕ) → wordPrice (Price.Row same fresh) (freshBill .onchip) row ≡ fresh
 first-onchip = first-row
 
-pub first-external : (same fresh : Float) (row : ℕ) → wordPrice (Row same fresh) (freshBill .external) row ≡ fresh
+pub first-external : (same fresh : Float) (row : ℕ) → wordPrice (Price.Row same fresh) (freshBill .external) row ≡ fresh
 first-external = first-row

@@ -10,15 +10,15 @@ use lib.Ieee.Bits.{ofBits-fits, is-true}
 use lib.Ieee.Scale.{finite}
 use Rattle.page.specs.Pick.{_and_}
 use Rattle.page.proofs.Picks.{and-yes, and-left, and-right}
-use Rattle.bill.specs.Types.{Place, OnChip, External, Nowhere, Source, Reads, Price, Prices, Side, Seen, Nothing, Match, NoMatch, Bill}
+use Rattle.bill.specs.Types.{Place, Source, Reads, Price, Prices, Side, Seen, Bill}
 use Rattle.memory.specs.Reads.{sources}
 use Rattle.prices.specs.Prices.{figureOk, priceOk, pricesOk, rowOf, wordPrice}
 use Rattle.prices.proofs.Values.{zero-is}
 use Rattle.prices.proofs.Range.{in-range}
 use Rattle.prices.proofs.Figure.{charged-figure}
 use Rattle.bill.specs.Bill.{billOk, moneyOk, placePosted, wordPosted, wordsPosted, readsPosted, attemptPosted, seenPosted, freshBill, Good}
-use Rattle.figures.proofs.Largest.{word-finite}
-use Rattle.figures.proofs.Smoothing.{smoothed-finite, smoothed-fits}
+use Rattle.bill.proofs.Largest.{word-finite}
+use Rattle.bill.proofs.Smoothing.{smoothed-finite, smoothed-fits}
 
 holds : {t : Bool} → t ≡ true → T t
 holds e = subst T (sym e) tt
@@ -38,17 +38,17 @@ charged-fits b p side row = is-true _ (add-fits binary64 (b .total) (wordPrice p
 
 stays-place : (p : Prices) (b : Bill) (place : Place) (row : ℕ) → Good b → pricesOk p ≡ true → Good (placePosted p b place row)
 unfolding placePosted
-stays-place p b (OnChip k) row g ok = record {
+stays-place p b (Place.OnChip k) row g ok = record {
   total-fits = charged-fits b (p .onchip) (b .onchip) row;
   misses-fits = g .misses-fits;
   finite-both = both (charged-finite b (p .onchip) (b .onchip) row g (and-left _ _ ok)) (and-right _ _ (g .finite-both));
 }
-stays-place p b (External k) row g ok = record {
+stays-place p b (Place.External k) row g ok = record {
   total-fits = charged-fits b (p .external) (b .external) row;
   misses-fits = g .misses-fits;
   finite-both = both (charged-finite b (p .external) (b .external) row g (and-right _ _ ok)) (and-right _ _ (g .finite-both));
 }
-stays-place p b Nowhere row g ok = g
+stays-place p b Place.Nowhere row g ok = g
 
 pub stays-word : (p : Prices) (b : Bill) (s : Source) → Good b → pricesOk p ≡ true → Good (wordPosted p b s)
 stays-word p b s = stays-place p b (s .place) (rowOf (s .at))
@@ -69,9 +69,9 @@ stays-attempt b missed g = record {
 }
 
 pub stays-seen : (b : Bill) (seen : Seen) → Good b → Good (seenPosted b seen)
-stays-seen b Nothing g = g
-stays-seen b Match g = stays-attempt b false g
-stays-seen b NoMatch g = stays-attempt b true g
+stays-seen b Seen.Nothing g = g
+stays-seen b Seen.Match g = stays-attempt b false g
+stays-seen b Seen.NoMatch g = stays-attempt b true g
 
 -- the fresh bill is good
 pub fresh-good : Good freshBill

@@ -2,12 +2,12 @@
 -- IEEE 754, in the order written here.
 use Rattle.page.specs.Ground.{ℕ, _≡_, Bool, true, false, List, [], _∷_}
 use Rattle.page.specs.Pick.{_and_}
-use Rattle.bill.specs.Types.{binary64, Place, OnChip, External, Nowhere, Source, Reads, Prices, Seen, Nothing, Match, NoMatch, Bill}
+use Rattle.bill.specs.Types.{binary64, Place, Source, Reads, Prices, Seen, Bill}
 use Rattle.memory.specs.Reads.{sources}
 use Rattle.prices.specs.Prices.{f0, pricesOk, rowOf, wordPrice, sideRead, freshSide}
 use lib.Ieee.{add, fits}
-pub use Rattle.figures.specs.Figures.{finite, f1, f⅛, outcomeOf}
-unfoldable pub use Rattle.figures.specs.Figures.{smoothed}
+pub use Rattle.bill.specs.Figures.{finite, f1, f⅛, outcomeOf}
+unfoldable pub use Rattle.bill.specs.Figures.{smoothed}
 
 -- neither figure is infinite or NaN
 abbrev pub billOk : Bill → Bool
@@ -19,19 +19,19 @@ moneyOk p b = pricesOk p and billOk b
 
 -- a word of a row at its place: that memory's price on the total, and that memory's side read
 unfoldable pub placePosted : Prices → Bill → Place → ℕ → Bill
-placePosted p b (OnChip k) row = record {
+placePosted p b (Place.OnChip k) row = record {
   total = add binary64 (b .total) (wordPrice (p .onchip) (b .onchip) row);
   misses = b .misses;
   onchip = sideRead (b .onchip) row;
   external = b .external;
 }
-placePosted p b (External k) row = record {
+placePosted p b (Place.External k) row = record {
   total = add binary64 (b .total) (wordPrice (p .external) (b .external) row);
   misses = b .misses;
   onchip = b .onchip;
   external = sideRead (b .external) row;
 }
-placePosted p b Nowhere row = b
+placePosted p b Place.Nowhere row = b
 
 abbrev pub wordPosted : Prices → Bill → Source → Bill
 wordPosted p b s = placePosted p b (s .place) (rowOf (s .at))
@@ -51,9 +51,9 @@ attemptPosted b missed = record { total = b .total; misses = smoothed (b .misses
 
 -- an attempt by what it did with the slots
 abbrev pub seenPosted : Bill → Seen → Bill
-seenPosted b Nothing = b
-seenPosted b Match = attemptPosted b false
-seenPosted b NoMatch = attemptPosted b true
+seenPosted b Seen.Nothing = b
+seenPosted b Seen.Match = attemptPosted b false
+seenPosted b Seen.NoMatch = attemptPosted b true
 
 -- all zero with no rows
 abbrev pub freshBill : Bill

@@ -1,4 +1,6 @@
 // The walk bill: a running total and a smoothed miss figure in f64, and what it keeps of each memory.
+mod figures;
+
 use memory::Place;
 use memory::Source;
 use prices::Prices;

@@ -9,15 +9,13 @@ use lib.Dec.{ltb}
 use lib.ListN.{length}
 use Rattle.page.proofs.Picks.{pick-yes, pick-no, pick-by, and-left, and-right}
 use Rattle.memory.proofs.Places.{ok-ends}
-use Rattle.lists.specs.declared.Checked.{Checked}
-use Rattle.lists.specs.declared.Checked.the-variants as C
+use Rattle.records.specs.declared.Checked.{Checked}
 use Rattle.records.specs.Mappings.{mappings}
 use Rattle.page.specs.Words.{megabytes}
-use Rattle.lists.specs.Refusals.{checked}
+use Rattle.records.specs.Refusals.{checked}
 use Rattle.tables.specs.Tables.{imageLength}
-use Rattle.image.specs.Image.{image}
+use Rattle.builder.specs.Image.{image}
 use Rattle.builder.specs.declared.Built.{Built}
-use Rattle.builder.specs.declared.Built.the-variants.{Length, BadMemory, BadRecord, Overlap, TooLong}
 use Rattle.builder.specs.Build.{roomOk, afterCheck, lengthOr, answerOf, leaves, Outcome, outcome, buildOf}
 
 -- a room that is not refused: its base is a multiple of 4,096, and it ends at 2^32 at the latest
@@ -30,7 +28,7 @@ unfolding roomOk
 room-memory base room h = ok-ends base room (and-right _ _ h)
 
 module _ (rs : List ℕ) (base room : ℕ) where
-  pub answer-memory : roomOk base room ≡ false → answerOf rs base room ≡ BadMemory
+  pub answer-memory : roomOk base room ≡ false → answerOf rs base room ≡ Built.BadMemory
   unfolding answerOf
   answer-memory h = pick-yes _ _ _ (ap not h)
 
@@ -38,17 +36,17 @@ module _ (rs : List ℕ) (base room : ℕ) where
   unfolding answerOf
   after h r c b e = pick-no _ _ _ (ap not h) ∙ ap (λ (x : Checked). afterCheck x (lengthOr (mappings rs) room)) c ∙ e
 
-  pub answer-record : roomOk base room ≡ true → (i : ℕ) → checked megabytes rs ≡ C.BadRecord i → answerOf rs base room ≡ BadRecord i
-  answer-record h i c = after h (C.BadRecord i) c (BadRecord i) refl
+  pub answer-record : roomOk base room ≡ true → (i : ℕ) → checked megabytes rs ≡ Checked.BadRecord i → answerOf rs base room ≡ Built.BadRecord i
+  answer-record h i c = after h (Checked.BadRecord i) c (Built.BadRecord i) refl
 
-  pub answer-overlap : roomOk base room ≡ true → (i : ℕ) → checked megabytes rs ≡ C.Overlap i → answerOf rs base room ≡ Overlap i
-  answer-overlap h i c = after h (C.Overlap i) c (Overlap i) refl
+  pub answer-overlap : roomOk base room ≡ true → (i : ℕ) → checked megabytes rs ≡ Checked.Overlap i → answerOf rs base room ≡ Built.Overlap i
+  answer-overlap h i c = after h (Checked.Overlap i) c (Built.Overlap i) refl
 
-  pub answer-long : roomOk base room ≡ true → checked megabytes rs ≡ C.Fine → room < imageLength megabytes (mappings rs) → answerOf rs base room ≡ TooLong (length (mappings rs))
-  answer-long h c l = after h C.Fine c _ (pick-yes _ _ _ (lt-ltb _ _ l))
+  pub answer-long : roomOk base room ≡ true → checked megabytes rs ≡ Checked.Fine → room < imageLength megabytes (mappings rs) → answerOf rs base room ≡ Built.TooLong (length (mappings rs))
+  answer-long h c l = after h Checked.Fine c _ (pick-yes _ _ _ (lt-ltb _ _ l))
 
-  pub answer-length : roomOk base room ≡ true → checked megabytes rs ≡ C.Fine → imageLength megabytes (mappings rs) ≤ room → answerOf rs base room ≡ Length (imageLength megabytes (mappings rs))
-  answer-length h c l = after h C.Fine c _ (pick-no _ _ _ (le-ltb _ _ l))
+  pub answer-length : roomOk base room ≡ true → checked megabytes rs ≡ Checked.Fine → imageLength megabytes (mappings rs) ≤ room → answerOf rs base room ≡ Built.Length (imageLength megabytes (mappings rs))
+  answer-length h c l = after h Checked.Fine c _ (pick-no _ _ _ (le-ltb _ _ l))
 
 -- what is left follows from the answer
 pub outcome-is : (rs : List ℕ) (base : ℕ) (l o : List ℕ) (b : Built) → answerOf rs base (length l) ≡ b → o ≡ leaves b (image megabytes (mappings rs) base) l → outcome b o ≡ buildOf rs base l
@@ -59,30 +57,30 @@ outcome-is rs base l o b e h =
 -- what an accepted list is: no refusal's condition holds, and the answer is the image's length
 pub record Accepted (rs : List ℕ) (base room len : ℕ) : Type 0 where
   pub memory : roomOk base room ≡ true
-  pub records : checked megabytes rs ≡ C.Fine
+  pub records : checked megabytes rs ≡ Checked.Fine
   pub fits : imageLength megabytes (mappings rs) ≤ room
   pub length-is : len ≡ imageLength megabytes (mappings rs)
 
-pub accepted : (rs : List ℕ) (base room len : ℕ) → answerOf rs base room ≡ Length len → Accepted rs base room len
+pub accepted : (rs : List ℕ) (base room len : ℕ) → answerOf rs base room ≡ Built.Length len → Accepted rs base room len
 unfolding answerOf
 accepted rs base room len =
-    pick-by (λ (b : Built). b ≡ Length len → Accepted rs base room len) (not (roomOk base room)) BadMemory _
+    pick-by (λ (b : Built). b ≡ Built.Length len → Accepted rs base room len) (not (roomOk base room)) Built.BadMemory _
     (λ _ e. never e)
     (λ h. by-check (not-false _ h) (checked megabytes rs) refl)
   where
-    never : {X : Type 0} → BadMemory ≡ Length len → X
+    never : {X : Type 0} → Built.BadMemory ≡ Built.Length len → X
     never e = let z : _≡_ {A = ℕ} 0 1 = cc in absurd (omega arith)
 
-    sized : roomOk base room ≡ true → checked megabytes rs ≡ C.Fine → lengthOr (mappings rs) room ≡ Length len → Accepted rs base room len
+    sized : roomOk base room ≡ true → checked megabytes rs ≡ Checked.Fine → lengthOr (mappings rs) room ≡ Built.Length len → Accepted rs base room len
     sized h c =
-        pick-by (λ (b : Built). b ≡ Length len → Accepted rs base room len) (ltb room (imageLength megabytes (mappings rs))) _ _
+        pick-by (λ (b : Built). b ≡ Built.Length len → Accepted rs base room len) (ltb room (imageLength megabytes (mappings rs))) _ _
         (λ _ e. let z : _≡_ {A = ℕ} 0 1 = cc in absurd (omega arith))
         (λ f e. record { memory = h; records = c; fits = ltb-false _ _ f; length-is = (let z : len ≡ imageLength megabytes (mappings rs) = cc in z) })
 
-    by-check : roomOk base room ≡ true → (r : Checked) → checked megabytes rs ≡ r → afterCheck r (lengthOr (mappings rs) room) ≡ Length len → Accepted rs base room len
-    by-check h C.Fine c e = sized h c e
-    by-check h (C.BadRecord i) c e = let z : _≡_ {A = ℕ} 0 1 = cc in absurd (omega arith)
-    by-check h (C.Overlap i) c e = let z : _≡_ {A = ℕ} 0 1 = cc in absurd (omega arith)
+    by-check : roomOk base room ≡ true → (r : Checked) → checked megabytes rs ≡ r → afterCheck r (lengthOr (mappings rs) room) ≡ Built.Length len → Accepted rs base room len
+    by-check h Checked.Fine c e = sized h c e
+    by-check h (Checked.BadRecord i) c e = let z : _≡_ {A = ℕ} 0 1 = cc in absurd (omega arith)
+    by-check h (Checked.Overlap i) c e = let z : _≡_ {A = ℕ} 0 1 = cc in absurd (omega arith)
 
 -- what a build answers and leaves
 pub build-answer : (rs : List ℕ) (base : ℕ) (l o : List ℕ) (b : Built) → outcome b o ≡ buildOf rs base l → (b ≡ answerOf rs base (length l)) × (o ≡ leaves b (image megabytes (mappings rs) base) l)

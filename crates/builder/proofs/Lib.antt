@@ -1,1 +1,6 @@
 pub mod Answers
+pub mod Whole
+pub mod Parts
+pub mod Runs
+pub mod Nothing
+pub mod Levels

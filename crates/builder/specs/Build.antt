@@ -3,15 +3,13 @@ use Rattle.page.specs.Ground.{ℕ, _%_, Bool, not, List, _++_, eqb, ltb, length
 use Rattle.page.specs.Pick.{pick, _and_}
 use Rattle.memory.specs.Memory.{memoryOk}
 use Rattle.records.specs.declared.Mapping.{Mapping}
-use Rattle.lists.specs.declared.Checked.{Checked}
-use Rattle.lists.specs.declared.Checked.the-variants as C
+use Rattle.records.specs.declared.Checked.{Checked}
 use Rattle.records.specs.Mappings.{mappings}
 use Rattle.page.specs.Words.{megabytes}
-use Rattle.lists.specs.Refusals.{checked}
+use Rattle.records.specs.Refusals.{checked}
 use Rattle.tables.specs.Tables.{imageLength}
-use Rattle.image.specs.Image.{image}
+use Rattle.builder.specs.Image.{image}
 use Rattle.builder.specs.declared.Built.{Built}
-use Rattle.builder.specs.declared.Built.the-variants.{Length, BadMemory, BadRecord, Overlap, TooLong}
 
 -- the tables need a base that is a multiple of this
 abbrev pub baseUnit : ℕ
@@ -23,26 +21,26 @@ roomOk base room = eqb (base % baseUnit) 0 and memoryOk base room
 
 -- a check's refusal, or what follows it
 abbrev pub afterCheck : Checked → Built → Built
-afterCheck C.Fine b = b
-afterCheck (C.BadRecord i) b = BadRecord i
-afterCheck (C.Overlap i) b = Overlap i
+afterCheck Checked.Fine b = b
+afterCheck (Checked.BadRecord i) b = Built.BadRecord i
+afterCheck (Checked.Overlap i) b = Built.Overlap i
 
 -- 12 with the count, or the image's length
 abbrev pub lengthOr : List Mapping → ℕ → Built
-lengthOr ms room = pick (ltb room (imageLength megabytes ms)) (TooLong (length ms)) (Length (imageLength megabytes ms))
+lengthOr ms room = pick (ltb room (imageLength megabytes ms)) (Built.TooLong (length ms)) (Built.Length (imageLength megabytes ms))
 
 -- 4; then record by record 10 and 11; then 12
 unfoldable pub answerOf : List ℕ → ℕ → ℕ → Built
 answerOf rs base room =
-    pick (not (roomOk base room)) BadMemory (afterCheck (checked megabytes rs) (lengthOr (mappings rs) room))
+    pick (not (roomOk base room)) Built.BadMemory (afterCheck (checked megabytes rs) (lengthOr (mappings rs) room))
 
 -- the memory after an answer: the image and every later byte as it was, or all as it was
 abbrev pub leaves : Built → List ℕ → List ℕ → List ℕ
-leaves (Length n) img before = img ++ drop n before
-leaves BadMemory img before = before
-leaves (BadRecord i) img before = before
-leaves (Overlap i) img before = before
-leaves (TooLong c) img before = before
+leaves (Built.Length n) img before = img ++ drop n before
+leaves Built.BadMemory img before = before
+leaves (Built.BadRecord i) img before = before
+leaves (Built.Overlap i) img before = before
+leaves (Built.TooLong c) img before = before
 
 -- an answer and the memory beside it
 pub record Outcome : Type 0 where
@@ -58,15 +56,15 @@ buildOf rs base before =
 
 -- the paper's number of an answer, 0 where nothing is refused, and the value beside it
 abbrev pub builtNumber : Built → ℕ
-builtNumber (Length n) = 0
-builtNumber BadMemory = 4
-builtNumber (BadRecord i) = 10
-builtNumber (Overlap i) = 11
-builtNumber (TooLong c) = 12
+builtNumber (Built.Length n) = 0
+builtNumber Built.BadMemory = 4
+builtNumber (Built.BadRecord i) = 10
+builtNumber (Built.Overlap i) = 11
+builtNumber (Built.TooLong c) = 12
 
 abbrev pub builtValue : Built → ℕ
-builtValue (Length n) = n
-builtValue BadMemory = 0
-builtValue (BadRecord i) = i
-builtValue (Overlap i) = i
-builtValue (TooLong c) = c
+builtValue (Built.Length n) = n
+builtValue Built.BadMemory = 0
+builtValue (Built.BadRecord i) = i
+builtValue (Built.Overlap i) = i
+builtValue (Built.TooLong c) = c

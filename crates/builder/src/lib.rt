@@ -1,5 +1,8 @@
 // The builder: the tables of a list of records, in a lent memory, or why not.
-use lists::Checked;
+mod image;
+mod places;
+
+use records::Checked;
 ghost use mathlib.Core.Path.{_≡_};
 ghost use Rattle.builder.specs.Build.{roomOk, outcome, buildOf};
 
@@ -31,7 +34,7 @@ pub fn build(records: &[u8], base: u32, memory: &mut [u8]) -> Built
         return Built::BadMemory;
     }
     let mut seen: [bool; 64] = [false; 64];
-    let found = lists::check(records, &mut seen);
+    let found = records::lists::check(records, &mut seen);
     match found {
         Checked::BadRecord(i) => Built::BadRecord(i),
         Checked::Overlap(i) => Built::Overlap(i),

@@ -1,12 +1,10 @@
 -- The calls that are left from record i on. Assumes nothing.
-use mathlib.Core.Path.{_≡_, refl, sym, _∙_, ap}
-use mathlib.Core.Bool.{Bool, true, false}
+use mathlib.Core.Path.{_≡_, _∙_, ap}
+use mathlib.Core.Bool.{true, false}
 use mathlib.Core.List.{List, [], _∷_}
 use Prim.Native.Nat.{ℕ, zero, suc, _+_, _*_, _-_, _<_, _≤_}
 use native.Mathlib.Omega.{arith}
-use Rattle.page.specs.Pick.{_and_}
 use Rattle.page.proofs.Picks.{and-yes, and-no, and-left, and-right}
-use Rattle.forms.specs.declared.Call.{Call}
 use Rattle.calls.specs.Records.{callSize, callAt, callCount, callsFrom, isGood, goodCalls, allGood}
 
 -- record i, then those behind it

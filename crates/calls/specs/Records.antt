@@ -1,11 +1,10 @@
 -- Calls as records of 12 bytes (02, P1): kind, offset or access, two zero bytes, address word, value word.
 use Rattle.page.specs.Ground.{ℕ, zero, suc, _+_, _*_, _/_, _%_, Bool, true, List, [], _∷_, eqb, leb, length, getD, take, drop}
 use Rattle.page.specs.Pick.{pick, _and_}
-use Rattle.memory.specs.Memory.{wordOf}
-use Rattle.forms.specs.declared.Call.{Call}
-use Rattle.forms.specs.declared.Call.the-variants.{Bad}
-use Rattle.kinds.specs.Kinds.{callFrom}
-pub use Rattle.kinds.specs.Kinds.{isGood}
+use Rattle.wire.specs.Words.{wordOf}
+use Rattle.calls.specs.declared.Call.{Call}
+use Rattle.calls.specs.Kinds.{callFrom}
+pub use Rattle.calls.specs.Kinds.{isGood}
 
 -- the bytes of a record
 abbrev pub callSize : ℕ
@@ -18,7 +17,7 @@ callOf r =
 
 -- the call of the record at an offset, bad where its bytes are not all there
 unfoldable pub callAt : List ℕ → ℕ → Call
-callAt l at = pick (leb (at + callSize) (length l)) (callOf (take callSize (drop at l))) Bad
+callAt l at = pick (leb (at + callSize) (length l)) (callOf (take callSize (drop at l))) Call.Bad
 
 -- how many whole records there are
 abbrev pub callCount : List ℕ → ℕ

@@ -1,5 +1,8 @@
 // A call as a record of 12 bytes.
-use forms::Call;
+pub mod forms;
+
+use page::Access;
+use page::VirtualAddress;
 ghost use mathlib.Core.Path.{_≡_};
 ghost use mathlib.Core.Bool.{true};
 ghost use Prim.Native.Nat.{_≤_};
@@ -9,18 +12,28 @@ ghost use Rattle.calls.specs.Records.{callSize, callOf, callAt, callCoun
 // The bytes of a record.
 const SIZE: usize = 12;
 
+// A call, or a record that is none.
+pub enum Call {
+    Write(u32, u16),
+    Read(u32),
+    Request(VirtualAddress, Access),
+    Drop,
+    Shift(VirtualAddress),
+    Bad,
+}
+
 // The call that a record's bytes say.
 fn call_of(r: &[u8]) -> Call
     requires { ⌜ callSize ≤ length (now r) ⌝ }
     ensures { λ c. ⌜ c ≡ callOf (now (r .entry)) ⌝ }
 {
-    kinds::call_from(
+    forms::call_from(
         r[0],
         r[1],
         r[2],
         r[3],
-        memory::word_of(&r[4..8]),
-        memory::word_of(&r[8..12]),
+        wire::word_of(&r[4..8]),
+        wire::word_of(&r[8..12]),
     )
 }
 
@@ -43,11 +56,11 @@ fn known_of(r: &[u8]) -> Call
     requires { ⌜ callSize ≤ length (now r) ⌝ }
     ensures { λ c. ⌜ (isGood (callOf (now (r .entry))) ≡ true → c ≡ callOf (now (r .entry))) ⌝ }
 {
-    kinds::known(
+    forms::known(
         r[0],
         r[1],
-        memory::word_of(&r[4..8]),
-        memory::word_of(&r[8..12]),
+        wire::word_of(&r[4..8]),
+        wire::word_of(&r[8..12]),
     )
 }
 

@@ -9,8 +9,8 @@ use Rattle.page.specs.Pick.{pick}
 use Rattle.page.proofs.Picks.{and-yes}
 use Rattle.memory.specs.Memory.{Lent}
 use Rattle.prices.specs.declared.Prices.{Prices}
-use Rattle.handed.specs.Handed.{isState, benchIn, lockIn}
-use Rattle.asked.specs.Asked.{mayRun}
+use Rattle.state.specs.Handed.{isState, benchIn, lockIn}
+use Rattle.run.specs.Asked.{mayRun}
 use Rattle.run.specs.Run.{ran, ranFrom, runWith}
 use Rattle.capi.specs.Boundary.{fromOf}
 

@@ -2,7 +2,7 @@
 use mathlib.Core.Path.{_≡_, refl, sym, _∙_, ap, ap₂, subst}
 use mathlib.Core.Bool.{false, not, true≢false}
 use mathlib.Core.List.{List}
-use Prim.Native.Nat.{ℕ, zero, suc, _+_, _%_, _^_, _<_, _≤_}
+use Prim.Native.Nat.{ℕ, zero, suc, _%_, _^_, _<_, _≤_}
 use native.Mathlib.Omega.{arith}
 use native.Mathlib.Decide.{decLe}
 use lib.Dec.{ltb}
@@ -10,17 +10,15 @@ use lib.ListN.{length}
 use Rattle.page.specs.Words.{megabytes}
 use Rattle.page.proofs.Picks.{pick-by}
 use Rattle.records.specs.Mappings.{mappings}
-use Rattle.records.proofs.Lists.{mappings-length}
-use Rattle.lists.specs.declared.Checked.{Checked}
-use Rattle.lists.specs.declared.Checked.the-variants as C
-use Rattle.lists.specs.Refusals.{most, bad, overlapping, checkedFrom, begun, checked, checkedIndex}
-use Rattle.lists.proofs.Refusals.{bad-past}
-use Rattle.lists.proofs.Accepted.{fine-clean}
+use Rattle.records.proofs.Listed.{mappings-length}
+use Rattle.records.specs.declared.Checked.{Checked}
+use Rattle.records.specs.Refusals.{most, bad, overlapping, checkedFrom, begun, checked, checkedIndex}
+use Rattle.records.proofs.Refusals.{bad-past}
+use Rattle.records.proofs.Accepted.{fine-clean}
 use Rattle.tables.specs.Tables.{imageLength}
 use Rattle.builder.specs.Build.{roomOk, afterCheck, lengthOr, answerOf, Outcome, outcome, buildOf}
 use Rattle.builder.specs.declared.Built.{Built}
-use Rattle.builder.specs.declared.Built.the-variants.{BadMemory, BadRecord, Overlap, TooLong}
-use Rattle.numbers.specs.Numbers.{builtWord, cutBuilt}
+use Rattle.capi.specs.Numbers.{builtWord, cutBuilt}
 use Rattle.run.specs.Run.{ran}
 use Rattle.capi.specs.Boundary.{buildRan}
 
@@ -43,7 +41,7 @@ index-most : (n : ℕ) (rs : List ℕ) → checkedIndex (checked n rs) ≤ most
 unfolding checked
 index-most n rs = index-from n rs (begun rs) 0 (omega arith)
 
-count-most : (n : ℕ) (rs : List ℕ) → checked n rs ≡ C.Fine → length (mappings rs) ≤ most
+count-most : (n : ℕ) (rs : List ℕ) → checked n rs ≡ Checked.Fine → length (mappings rs) ≤ most
 count-most n rs e =
     let l = mappings-length rs in
     elim (decLe (begun rs) most) [
@@ -56,14 +54,14 @@ short i h = omega arith
 
 module _ (rs : List ℕ) (room : ℕ) where
   after : (c : Checked) → checked megabytes rs ≡ c → cutBuilt (afterCheck c (lengthOr (mappings rs) room)) ≡ afterCheck c (lengthOr (mappings rs) room)
-  after C.Fine e = pick-by (λ (b : Built). cutBuilt b ≡ b) (ltb room (imageLength megabytes (mappings rs))) _ _ (λ _. ap TooLong (short _ (count-most megabytes rs e))) (λ _. refl)
-  after (C.BadRecord i) e = ap BadRecord (short i (subst (λ (c : Checked). checkedIndex c ≤ most) e (index-most megabytes rs)))
-  after (C.Overlap i) e = ap Overlap (short i (subst (λ (c : Checked). checkedIndex c ≤ most) e (index-most megabytes rs)))
+  after Checked.Fine e = pick-by (λ (b : Built). cutBuilt b ≡ b) (ltb room (imageLength megabytes (mappings rs))) _ _ (λ _. ap Built.TooLong (short _ (count-most megabytes rs e))) (λ _. refl)
+  after (Checked.BadRecord i) e = ap Built.BadRecord (short i (subst (λ (c : Checked). checkedIndex c ≤ most) e (index-most megabytes rs)))
+  after (Checked.Overlap i) e = ap Built.Overlap (short i (subst (λ (c : Checked). checkedIndex c ≤ most) e (index-most megabytes rs)))
 
 built-whole : (rs : List ℕ) (base : ℕ) (l : List ℕ) → cutBuilt (buildOf rs base l .answer) ≡ buildOf rs base l .answer
 unfolding buildOf answerOf
 built-whole rs base l =
-    pick-by (λ (b : Built). cutBuilt b ≡ b) (not (roomOk base (length l))) BadMemory _ (λ _. refl) (λ _. after rs (length l) (checked megabytes rs) refl)
+    pick-by (λ (b : Built). cutBuilt b ≡ b) (not (roomOk base (length l))) Built.BadMemory _ (λ _. refl) (λ _. after rs (length l) (checked megabytes rs) refl)
 
 pub built-ran : (rs : List ℕ) (base : ℕ) (l o : List ℕ) (b : Built) (r : ℕ) → r ≡ builtWord (cutBuilt b) → outcome b o ≡ buildOf rs base l → ran r o ≡ buildRan rs base l
 unfolding buildRan

@@ -4,11 +4,11 @@ use mathlib.Core.Bool.{Bool, true, false}
 use Prim.Native.Nat.{ℕ, _%_, _^_, _≤_}
 use native.Mathlib.Omega.{arith}
 use lib.ListN.{length}
-use Rattle.memory.specs.Memory.{Lent, longest, lentOk, placeIn, fetchedIn, wordOf, Inside}
+use Rattle.memory.specs.Memory.{Lent, longest, lentOk, placeIn, fetchedIn, Inside}
+use Rattle.wire.specs.Words.{wordOf}
 use Rattle.memory.specs.declared.Place.{Place}
-use Rattle.memory.specs.declared.Place.the-variants.{OnChip, External, Nowhere}
 use Rattle.memory.proofs.Places.{ok-short, on-ok, ext-ok, place-refused, inside}
-use Rattle.numbers.specs.Numbers.{placeNumber, cutPlace}
+use Rattle.capi.specs.Numbers.{placeNumber, cutPlace}
 use Rattle.capi.specs.Boundary.{fetchOf}
 
 short : (k : ℕ) → k ≤ longest → k % 2 ^ 28 ≡ k
@@ -16,9 +16,9 @@ short k h = omega arith
 
 module _ (m : Lent) (a : ℕ) where
   within : (p : Place) → Inside m a p → length (m .on) ≤ longest → length (m .ext) ≤ longest → cutPlace p ≡ p
-  within (OnChip k) i u v = ap OnChip (short k (omega (arith, i .0)))
-  within (External k) i u v = ap External (short k (omega (arith, i .0)))
-  within Nowhere i u v = refl
+  within (Place.OnChip k) i u v = ap Place.OnChip (short k (omega (arith, i .0)))
+  within (Place.External k) i u v = ap Place.External (short k (omega (arith, i .0)))
+  within Place.Nowhere i u v = refl
 
   by-refusal : (t : Bool) → lentOk m ≡ t → cutPlace (placeIn m a) ≡ placeIn m a
   by-refusal true e = within (placeIn m a) (inside m a) (ok-short _ _ (on-ok m e)) (ok-short _ _ (ext-ok m e))

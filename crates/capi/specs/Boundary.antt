@@ -1,14 +1,15 @@
 -- What each function of the boundary answers and leaves in the lent bytes.
 use Rattle.page.specs.Ground.{ℕ, List, length}
 use Rattle.page.specs.Pick.{pick, _and_}
-use Rattle.memory.specs.Memory.{Lent, placeIn, fetchedIn, wordOf}
+use Rattle.memory.specs.Memory.{Lent, placeIn, fetchedIn}
+use Rattle.wire.specs.Words.{wordOf}
 use Rattle.prices.specs.declared.Prices.{Prices}
 use Rattle.builder.specs.Build.{buildOf}
-use Rattle.numbers.specs.Numbers.{placeNumber, builtWord}
+use Rattle.capi.specs.Numbers.{placeNumber, builtWord}
 use Rattle.session.specs.Bench.{freshBench}
 use lib.Ieee.{Float}
-use Rattle.handed.specs.Handed.{isState, benchIn, lockIn}
-use Rattle.asked.specs.Asked.{mayRun}
+use Rattle.state.specs.Handed.{isState, benchIn, lockIn}
+use Rattle.run.specs.Asked.{mayRun}
 use Rattle.run.specs.Run.{Ran, ran, ranFrom}
 
 -- a run from a fresh bench

@@ -1,9 +1,11 @@
 // The byte boundary: the builder, sessions and the fetch for callers that speak C, over numbers and bytes alone.
+mod numbers;
+
 use page::PhysicalAddress;
 use session::Bench;
 ghost use mathlib.Core.Path.{_≡_};
 ghost use Rattle.memory.specs.Memory.{lent};
-ghost use Rattle.handed.specs.Handed.{pricesOf};
+ghost use Rattle.state.specs.Handed.{pricesOf};
 ghost use Rattle.run.specs.Run.{ran};
 ghost use Rattle.capi.specs.Boundary.{runOf, fromOf, fetchOf, buildRan};
 
@@ -33,7 +35,7 @@ pub extern "C" fn nx_run<'a>(
 ) -> u64
     ensures { λ r. ⌜ ran r (now (out .exit)) ≡ runOf (lent (now (on .entry)) onbase (now (ext .entry)) extbase) (pricesOf onkind ona onb extkind exta extb) onkind extkind (now (calls .entry)) (now (out .entry)) ⌝ }
 {
-    let prices = handed::prices_of(onkind, ona, onb, extkind, exta, extb);
+    let prices = state::read::prices_of(onkind, ona, onb, extkind, exta, extb);
     run::run_from(
         Bench::fresh(),
         0,
@@ -70,14 +72,14 @@ pub extern "C" fn nx_from<'a>(
 ) -> u64
     ensures { λ r. ⌜ ran r (now (out .exit)) ≡ fromOf (lent (now (on .entry)) onbase (now (ext .entry)) extbase) (pricesOf onkind ona onb extkind exta extb) onkind extkind (now (state .entry)) total misses (now (calls .entry)) (now (out .entry)) ⌝ }
 {
-    if !handed::state_ok(state) {
+    if !state::read::state_ok(state) {
         return 0;
     }
-    let prices = handed::prices_of(onkind, ona, onb, extkind, exta, extb);
-    let start = handed::bench_at(state, total, misses);
+    let prices = state::read::prices_of(onkind, ona, onb, extkind, exta, extb);
+    let start = state::read::bench_at(state, total, misses);
     run::run_from(
         start,
-        handed::lock_at(state),
+        state::read::lock_at(state),
         calls,
         on,
         onbase,
@@ -105,6 +107,6 @@ pub extern "C" fn nx_fetch<'a>(
     let part = memory::fetch(on, onbase, ext, extbase, at);
     numbers::place_number(
         memory::locate(on, onbase, ext, extbase, at),
-        memory::word_of(part),
+        wire::word_of(part),
     )
 }

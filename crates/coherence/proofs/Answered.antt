@@ -6,11 +6,9 @@ use lib.Dec.{eqb}
 use borrow.Author.Tests.{eq-eqb, lt-leb}
 use Rattle.page.specs.Pick.{pick, _and_, _or_}
 use Rattle.page.proofs.Picks.{pick-yes, pick-no, pick-by, and-rest}
-use Rattle.descriptors.specs.Statements.{isMissing}
-use Rattle.descriptors.specs.declared.Found.the-variants as D
+use Rattle.walk.specs.Distances.{isMissing}
 use Rattle.registers.specs.Answers.{idle, isPrefetch, isRefusal}
 use Rattle.registers.specs.Table.{noRegister, listed, commandOf}
-use Rattle.registers.specs.declared.Pending.the-variants.{Held}
 use Rattle.decision.specs.Decisions.{byAccess, byFound}
 use Rattle.decision.specs.Types.{Access, VirtualAddress, PhysicalAddress, Lent, Reads, Found, Walked, Bill, Prices, Fault, Pending, Answer}
 use Rattle.unit.specs.declared.Device.{Device}
@@ -33,9 +31,9 @@ access-answers bits at a = pick-by (λ (r : Answer). isRefusal r ≡ false) _ _ 
 -- the plain walk refuses exactly where a descriptor is missing
 pub plain-refuses : (va : VirtualAddress) (a : Access) (r : Reads) (f : Found) → isRefusal (byFound va a r f .answer) ≡ isMissing f
 unfolding byFound
-plain-refuses va a r D.Missing = refl
-plain-refuses va a r D.NoPage = refl
-plain-refuses va a r (D.Page p) = access-answers (p .access) _ a
+plain-refuses va a r Found.Missing = refl
+plain-refuses va a r Found.NoPage = refl
+plain-refuses va a r (Found.Page p) = access-answers (p .access) _ a
 
 module _ (m : Lent) (base : ℕ) where
   abbrev walked : Look
@@ -61,7 +59,7 @@ module _ (m : Lent) (base : ℕ) where
       (ap not (g .range), (lt-leb _ _ l, (ap not (g .memories), (ap not (g .money), (ap (λ (x : Pending). not (idle x)) q, (lacks-nothing d h va t, tt))))))))
       (attempt-answered d h va t p b false a)
 
-  retry-clear : (p : Prices) (b : Bill) (d : Device) (v : ℕ) (k : Fault) (va : VirtualAddress) (a : Access) → Ready m p b d → d .pending ≡ Held k va a → lacks m d va ≡ false → Clear (writeRefusals m p b d acknowledgeAt v)
+  retry-clear : (p : Prices) (b : Bill) (d : Device) (v : ℕ) (k : Fault) (va : VirtualAddress) (a : Access) → Ready m p b d → d .pending ≡ Pending.Held k va a → lacks m d va ≡ false → Clear (writeRefusals m p b d acknowledgeAt v)
   unfolding noRegister isMalformed isUntimely writeLacks _and_ _or_
   retry-clear p b d v k va a g q n =
       (ap not (g .range), (refl, (refl, (ap not (g .memories), (ap not (g .money), (refl, (refl, (and-rest (eqb (v % 2) 1) _ (ap idle q), (and-rest (eqb (v % 2) 1) _ (ap (retryLacks m d) q ∙ and-rest (not (isPrefetch k)) _ n), tt)))))))))

@@ -4,18 +4,14 @@ use native.Mathlib.Omega.{arith}
 use mathlib.Core.Path.{_≡_, refl, sym, _∙_, ap, subst}
 use mathlib.Core.Bool.{Bool}
 use Rattle.page.specs.Words.{madeWords, limit}
-use Rattle.page.specs.declared.Access.the-variants.{Read}
 use Rattle.page.proofs.Picks.{pick-yes}
-use Rattle.descriptors.specs.Statements.{Proper}
+use Rattle.walk.specs.Distances.{Proper}
 use Rattle.walk.specs.Walk.{readIn}
-use Rattle.descriptors.specs.declared.Found.the-variants as D
 use Rattle.walk.proofs.Walks.{walk-proper}
 use Rattle.lanes.specs.Lanes.{slots, lookedUp}
 use Rattle.bank.specs.Changes.{filled, entryFilled}
-use Rattle.lanes.specs.declared.Matched.the-variants as M
 use Rattle.bank.proofs.Ranges.{InRange}
 use Rattle.lanes.proofs.Searches.{Lowest, lowest}
-use Rattle.registers.specs.declared.Answer.the-variants as A
 use Rattle.decision.specs.Decisions.{byFound, byWalk, byMatched, settled}
 use Rattle.decision.specs.Prefetches.{pageAt, prefetchFound, prefetchMatched, prefetchDecided}
 use Rattle.decision.proofs.Joins.{decided-on}
@@ -31,11 +27,11 @@ use Rattle.coherence.proofs.Slots.{Held, made-agrees, fill-agrees}
 
 -- a fault is pending anew only at the address that was asked for
 settled-below : (va : VirtualAddress) (a : Access) (q : Pending) (r : Answer) → va .0 < limit → Below q → Below (settled va a q r)
-settled-below va a q (A.Address x) l h = tt
-settled-below va a q (A.Fault k) l h = l
-settled-below va a q (A.Value x) l h = h
-settled-below va a q A.Done l h = h
-settled-below va a q (A.Refused k) l h = h
+settled-below va a q (Answer.Address x) l h = tt
+settled-below va a q (Answer.Fault k) l h = l
+settled-below va a q (Answer.Value x) l h = h
+settled-below va a q Answer.Done l h = h
+settled-below va a q (Answer.Refused k) l h = h
 
 module _ (m : Lent) (base : ℕ) where
   abbrev walked : Look
@@ -50,8 +46,8 @@ module _ (m : Lent) (base : ℕ) where
     Walks x = x .answer ≡ plain walked va a
 
     matched-answers : (x : Matched) → Lowest (d .bank .cam) va slots 0 x → Walks (byMatched (look m d va) (d .registers .control) (d .bank .cam) (d .bank .ram) va a x)
-    matched-answers (M.At i) s = h .lanes .agree i va (s .1 .0) a
-    matched-answers M.Nothing s =
+    matched-answers (Matched.At i) s = h .lanes .agree i va (s .1 .0) a
+    matched-answers Matched.Nothing s =
         ap (λ (x : Decision). x .answer) (pick-yes _ _ _ (h .walking)) ∙ ap (λ (w : Walked). byWalk va a w .answer) (same-walk d h va)
 
     abbrev decision : Decision
@@ -69,20 +65,20 @@ module _ (m : Lent) (base : ℕ) where
     Fits x = Held walked (entryFilled (d .bank) (x .fill))
 
     -- what a walk fills agrees
-    page-fits : (p : Page) → walked va .found ≡ D.Page p → Proper (D.Page p) → Held walked (filled (d .bank) (madeWords (p .kind) (p .frame) (p .access) va))
+    page-fits : (p : Page) → walked va .found ≡ Found.Page p → Proper (Found.Page p) → Held walked (filled (d .bank) (madeWords (p .kind) (p .frame) (p .access) va))
     page-fits p e n = fill-agrees walked (d .bank) _ r (made-agrees walked u va p l e (n .0)) (h .lanes)
 
     found-fits : (a : Access) (s : Reads) (f : Found) → walked va .found ≡ f → Proper f → Fits (byFound va a s f)
     unfolding byFound
-    found-fits a s D.Missing e n = h .lanes
-    found-fits a s D.NoPage e n = h .lanes
-    found-fits a s (D.Page p) e n = page-fits p e n
+    found-fits a s Found.Missing e n = h .lanes
+    found-fits a s Found.NoPage e n = h .lanes
+    found-fits a s (Found.Page p) e n = page-fits p e n
 
     prefetch-found-fits : (s : Reads) (f : Found) → walked va .found ≡ f → Proper f → Fits (prefetchFound va s f)
     unfolding prefetchFound
-    prefetch-found-fits s D.Missing e n = h .lanes
-    prefetch-found-fits s D.NoPage e n = h .lanes
-    prefetch-found-fits s (D.Page p) e n = page-fits p e n
+    prefetch-found-fits s Found.Missing e n = h .lanes
+    prefetch-found-fits s Found.NoPage e n = h .lanes
+    prefetch-found-fits s (Found.Page p) e n = page-fits p e n
 
     walk-is : walked va .found ≡ look m d va .found
     walk-is = ap (λ (w : Walked). w .found) (sym (same-walk d h va))
@@ -91,12 +87,12 @@ module _ (m : Lent) (base : ℕ) where
     proper = walk-proper (readIn m) (va .0) (d .registers .base .0)
 
     matched-fits : (a : Access) (x : Matched) → Fits (byMatched (look m d va) (d .registers .control) (d .bank .cam) (d .bank .ram) va a x)
-    matched-fits a (M.At i) = h .lanes
-    matched-fits a M.Nothing = subst Fits (sym (pick-yes _ _ _ (h .walking))) (found-fits a (look m d va .reads) (look m d va .found) walk-is proper)
+    matched-fits a (Matched.At i) = h .lanes
+    matched-fits a Matched.Nothing = subst Fits (sym (pick-yes _ _ _ (h .walking))) (found-fits a (look m d va .reads) (look m d va .found) walk-is proper)
 
     prefetch-matched-fits : (x : Matched) → Fits (prefetchMatched (look m d va) va x)
-    prefetch-matched-fits (M.At i) = h .lanes
-    prefetch-matched-fits M.Nothing = prefetch-found-fits (look m d va .reads) (look m d va .found) walk-is proper
+    prefetch-matched-fits (Matched.At i) = h .lanes
+    prefetch-matched-fits Matched.Nothing = prefetch-found-fits (look m d va .reads) (look m d va .found) walk-is proper
 
     -- a decision whose fill agrees keeps every slot in agreement
     applied-keeps : (a : Access) (x : Decision) → Fits x → Coherent walked base (applied d (x .fill) (x .answer) va a)
@@ -120,4 +116,4 @@ module _ (m : Lent) (base : ℕ) where
   prefetch-keeps u d h r p b v =
       let at = pageAt v in
       let l : v % 2 ^ 14 * 2 ^ 10 < limit = omega arith in
-      applied-keeps u d h r at l Read (prefetchDecided (look m d at) (d .bank .cam) at) (prefetch-fits u d h r at l)
+      applied-keeps u d h r at l Access.Read (prefetchDecided (look m d at) (d .bank .cam) at) (prefetch-fits u d h r at l)

@@ -13,9 +13,7 @@ use Rattle.registers.specs.Answers.{isPrefetch, isRefusal}
 use Rattle.page.specs.Words.{limit}
 use Rattle.registers.specs.Fields.{isOn, isWalking, registersOk, pendingOk}
 use Rattle.registers.specs.Table.{listed, commandOf}
-use Rattle.registers.specs.declared.Pending.the-variants.{Nothing, Held}
 use Rattle.registers.specs.declared.Command.{Command}
-use Rattle.registers.specs.declared.Command.the-variants.{Acknowledge}
 use Rattle.registers.proofs.Offsets.{command-at}
 use Rattle.decision.specs.Types.{Access, VirtualAddress, Lent, Bill, Prices, Pending, Answer}
 use Rattle.unit.specs.declared.Device.{Device}
@@ -88,14 +86,14 @@ module _ (m : Lent) (base : ℕ) where
       subst (Plain r va) q (subst (λ (x : VirtualAddress). Plain r x w) p h)
 
   -- only an acknowledgement asks again
-  asked-again : (o v : ℕ) (q : Pending) (va : VirtualAddress) (a : Access) → pick (eqb o acknowledgeAt and eqb (v % 2) 1) (retriedOf q) nothing ≡ asks va a → (commandOf o v ≡ Acknowledge true) × (retriedOf q ≡ asks va a)
+  asked-again : (o v : ℕ) (q : Pending) (va : VirtualAddress) (a : Access) → pick (eqb o acknowledgeAt and eqb (v % 2) 1) (retriedOf q) nothing ≡ asks va a → (commandOf o v ≡ Command.Acknowledge true) × (retriedOf q ≡ asks va a)
   unfolding pick
   asked-again o v q va a = by (eqb o acknowledgeAt and eqb (v % 2) 1) refl
     where
-      commands : (t : Bool) → eqb (v % 2) 1 ≡ t → commandOf 0x18 v ≡ Acknowledge t
-      commands t e = unfold commandOf in unfold listed in unfold pick in ap Acknowledge e
+      commands : (t : Bool) → eqb (v % 2) 1 ≡ t → commandOf 0x18 v ≡ Command.Acknowledge t
+      commands t e = unfold commandOf in unfold listed in unfold pick in ap Command.Acknowledge e
 
-      by : (t : Bool) → (eqb o acknowledgeAt and eqb (v % 2) 1) ≡ t → pick t (retriedOf q) nothing ≡ asks va a → (commandOf o v ≡ Acknowledge true) × (retriedOf q ≡ asks va a)
+      by : (t : Bool) → (eqb o acknowledgeAt and eqb (v % 2) 1) ≡ t → pick t (retriedOf q) nothing ≡ asks va a → (commandOf o v ≡ Command.Acknowledge true) × (retriedOf q ≡ asks va a)
       by true e h =
           (sym (command-at o 0x18 v (eqb-true _ _ (and-left _ _ e))) ∙ commands true (and-right (eqb o acknowledgeAt) _ e), h)
       by false e h = none-asked h
@@ -113,8 +111,8 @@ module _ (m : Lent) (base : ℕ) where
     held-right false at w l e = λ n. same-asked _ at va w a e (l, attempt-answers m base d h at w)
 
     retry-right : (q : Pending) → Below q → retriedOf q ≡ asks va a → RightOut (retried m p b d q)
-    retry-right Nothing l e = none-asked e
-    retry-right (Held k at w) l e = held-right (isPrefetch k) at w l e
+    retry-right Pending.Nothing l e = none-asked e
+    retry-right (Pending.Held k at w) l e = held-right (isPrefetch k) at w l e
 
   -- a request or a retry that is not refused answers what the plain walk answers
   pub step-right : (d : Device) (b : Bill) (c : Call) (va : VirtualAddress) (a : Access) → Coherent walked base d → asked d c ≡ asks va a → RightSaid va a (step m d b c .said)

@@ -12,8 +12,8 @@ use Rattle.lanes.specs.Lanes.{allFrom}
 use Rattle.bank.specs.Slots.{bankOk, freshBank}
 use Rattle.registers.specs.Fields.{isOn, isWalking, entryOk, noEntry}
 use Rattle.registers.specs.Table.{noRegister, listed, controlCommand, commandOf}
-use Rattle.registers.specs.declared.Setting.the-variants.{Control, BaseHigh, BaseLow}
-use Rattle.registers.specs.declared.Command.the-variants.{Set}
+use Rattle.registers.specs.declared.Setting.{Setting}
+use Rattle.registers.specs.declared.Command.{Command}
 use Rattle.registers.proofs.Ranges.{registers-ranged}
 use Rattle.decision.specs.Types.{Lent, Bill, Prices}
 use Rattle.unit.specs.declared.Device.{Device}
@@ -63,11 +63,11 @@ module _ (m : Lent) (p : Prices) (b : Bill) (d : Device) (h : inRange d ≡ true
   unfolding writeOf
   goes-on o v c = clear-goes-on (refusedWith d b) (carried m p b d (commandOf o v)) (writeRefusals m p b d o v) c
 
-  high-set : (v : ℕ) → writeOf m p b d baseHighAt v ≡ carried m p b d (Set (BaseHigh v))
+  high-set : (v : ℕ) → writeOf m p b d baseHighAt v ≡ carried m p b d (Command.Set (Setting.BaseHigh v))
   unfolding noRegister isMalformed isUntimely writeLacks _and_ _or_ commandOf listed pick
   high-set v = goes-on baseHighAt v range-clear
 
-  low-set : (v : ℕ) → writeOf m p b d baseLowAt v ≡ carried m p b d (Set (BaseLow (v / 128 * 128)))
+  low-set : (v : ℕ) → writeOf m p b d baseLowAt v ≡ carried m p b d (Command.Set (Setting.BaseLow (v / 128 * 128)))
   unfolding noRegister isMalformed isUntimely writeLacks _and_ _or_ commandOf listed pick
   low-set v = goes-on baseLowAt v range-clear
 
@@ -75,11 +75,11 @@ module _ (m : Lent) (p : Prices) (b : Bill) (d : Device) (h : inRange d ≡ true
   unfolding noRegister isMalformed isUntimely writeLacks _and_ _or_ commandOf listed pick
   control-set v = goes-on controlAt v range-clear
 
-control-is : (v : ℕ) → TurnsOn v → controlCommand v ≡ Set (Control (startControl v))
+control-is : (v : ℕ) → TurnsOn v → controlCommand v ≡ Command.Set (Setting.Control (startControl v))
 unfolding controlCommand
 control-is v bits =
     let odd : v % 2 ≡ 1 = omega (arith, bits) in
-    pick-yes _ _ _ (eq-eqb _ _ odd) ∙ ap (λ (n : ℕ). Set (Control (v / 32 % 2 * 32 + n))) bits
+    pick-yes _ _ _ (eq-eqb _ _ odd) ∙ ap (λ (n : ℕ). Command.Set (Setting.Control (v / 32 % 2 * 32 + n))) bits
 
 -- a fresh device but for its control and base, both in range
 record Stands (d : Device) (control base : ℕ) : Type 0 where

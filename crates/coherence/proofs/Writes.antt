@@ -10,13 +10,9 @@ use Rattle.bank.proofs.Ranges.{InRange}
 use Rattle.page.specs.Words.{limit}
 use Rattle.registers.specs.Fields.{isWalking, camAddress, setting}
 use Rattle.registers.specs.Table.{listed, lockCommand, loadCommand, whenBit, commandOf, tended}
-use Rattle.registers.specs.declared.Pending.the-variants.{Nothing, Held}
 use Rattle.registers.specs.declared.Setting.{Setting}
-use Rattle.registers.specs.declared.Setting.the-variants as S
 use Rattle.registers.specs.declared.Tending.{Tending}
-use Rattle.registers.specs.declared.Tending.the-variants as T
 use Rattle.registers.specs.declared.Command.{Command}
-use Rattle.registers.specs.declared.Command.the-variants as C
 use Rattle.registers.proofs.Offsets.{by-offset, command-elsewhere}
 use Rattle.decision.specs.Types.{Lent, Bill, Prices, Pending}
 use Rattle.unit.specs.declared.Device.{Device}
@@ -31,25 +27,25 @@ use Rattle.coherence.proofs.Attempts.{attempt-keeps, prefetch-keeps}
 
 -- a setting that leaves control and base alone
 abbrev Leaves : Setting → Type 0
-Leaves (S.Control v) = ⊥
-Leaves (S.BaseHigh v) = ⊥
-Leaves (S.BaseLow v) = ⊥
-Leaves (S.CamHigh v) = Unit {0}
-Leaves (S.CamLow v) = Unit {0}
-Leaves (S.RamHigh v) = Unit {0}
-Leaves (S.RamLow v) = Unit {0}
+Leaves (Setting.Control v) = ⊥
+Leaves (Setting.BaseHigh v) = ⊥
+Leaves (Setting.BaseLow v) = ⊥
+Leaves (Setting.CamHigh v) = Unit {0}
+Leaves (Setting.CamLow v) = Unit {0}
+Leaves (Setting.RamHigh v) = Unit {0}
+Leaves (Setting.RamLow v) = Unit {0}
 
 -- a command that does, and that stores in no slot what the host chose
 abbrev pub Tame : Command → Type 0
-Tame (C.Refused k) = Unit {0}
-Tame C.Nothing = Unit {0}
-Tame C.Reset = ⊥
-Tame (C.Set s) = Leaves s
-Tame (C.Tend t) = Unit {0}
-Tame C.Load = ⊥
-Tame C.Copy = Unit {0}
-Tame (C.Prefetch v) = Unit {0}
-Tame (C.Acknowledge go) = Unit {0}
+Tame (Command.Refused k) = Unit {0}
+Tame Command.Nothing = Unit {0}
+Tame Command.Reset = ⊥
+Tame (Command.Set s) = Leaves s
+Tame (Command.Tend t) = Unit {0}
+Tame Command.Load = ⊥
+Tame Command.Copy = Unit {0}
+Tame (Command.Prefetch v) = Unit {0}
+Tame (Command.Acknowledge go) = Unit {0}
 
 module _ (v : ℕ) where
   lock-tame : Tame (lockCommand v)
@@ -88,8 +84,8 @@ module _ (v : ℕ) where
         (λ _ _. tt)
         (λ _ _. tt)
         (λ _ _. tt)
-        (λ _ _. bit-tame T.Flush)
-        (λ _ _. bit-tame T.FlushEntry)
+        (λ _ _. bit-tame Tending.Flush)
+        (λ _ _. bit-tame Tending.FlushEntry)
         (λ _ _. tt)
         (λ _ _. tt)
         (λ _ _. tt)
@@ -104,32 +100,32 @@ module _ (m : Lent) (base : ℕ) (u : Uniform limit (lookFrom m base)) (d : Devi
   cleared-keeps = record { on = h .on; walking = h .walking; base-is = h .base-is; lanes = h .lanes; below = tt }
 
   setting-keeps : (s : Setting) → Leaves s → Keeps (setRegisters d (setting (d .registers) s))
-  setting-keeps (S.CamHigh v) e = h
-  setting-keeps (S.CamLow v) e = h
-  setting-keeps (S.RamHigh v) e = h
-  setting-keeps (S.RamLow v) e = h
+  setting-keeps (Setting.CamHigh v) e = h
+  setting-keeps (Setting.CamLow v) e = h
+  setting-keeps (Setting.RamHigh v) e = h
+  setting-keeps (Setting.RamLow v) e = h
 
   with-cams : (cam : List ℕ) → Lanes (lookFrom m base) cam (d .bank .ram) → Keeps (setBank d (withCams (d .bank) cam))
   with-cams cam l = record { on = h .on; walking = h .walking; base-is = h .base-is; lanes = l; below = h .below }
 
   tended-keeps : (t : Tending) → Keeps (setBank d (tended (d .bank) (d .registers .staged) t))
-  tended-keeps (T.Lock l v) = h
-  tended-keeps T.Flush = with-cams _ (flush-agrees _ (d .bank .cam) (d .bank .ram) (h .lanes))
-  tended-keeps T.FlushEntry = with-cams _ (flushAt-agrees _ (d .bank .cam) (d .bank .ram) (h .lanes) (camAddress (d .registers .staged)))
+  tended-keeps (Tending.Lock l v) = h
+  tended-keeps Tending.Flush = with-cams _ (flush-agrees _ (d .bank .cam) (d .bank .ram) (h .lanes))
+  tended-keeps Tending.FlushEntry = with-cams _ (flushAt-agrees _ (d .bank .cam) (d .bank .ram) (h .lanes) (camAddress (d .registers .staged)))
 
   module _ (r : InRange (d .bank)) (p : Prices) (b : Bill) where
     abbrev Ends : Outcome → Type 0
     Ends x = Keeps (x .device)
 
     retry-keeps : (q : Pending) → Below q → Ends (retried m p b d q)
-    retry-keeps Nothing l = h
-    retry-keeps (Held k va a) l = pick-by Ends _ _ _ (λ _. cleared-keeps) (λ _. attempt-keeps m base u d h r va l p b true a)
+    retry-keeps Pending.Nothing l = h
+    retry-keeps (Pending.Held k va a) l = pick-by Ends _ _ _ (λ _. cleared-keeps) (λ _. attempt-keeps m base u d h r va l p b true a)
 
     pub carried-keeps : (c : Command) → Tame c → Ends (carried m p b d c)
-    carried-keeps (C.Refused k) e = h
-    carried-keeps C.Nothing e = h
-    carried-keeps (C.Set s) e = setting-keeps s e
-    carried-keeps (C.Tend t) e = tended-keeps t
-    carried-keeps C.Copy e = h
-    carried-keeps (C.Prefetch v) e = prefetch-keeps m base u d h r p b v
-    carried-keeps (C.Acknowledge go) e = pick-by Ends _ _ _ (λ _. retry-keeps (d .pending) (h .below)) (λ _. h)
+    carried-keeps (Command.Refused k) e = h
+    carried-keeps Command.Nothing e = h
+    carried-keeps (Command.Set s) e = setting-keeps s e
+    carried-keeps (Command.Tend t) e = tended-keeps t
+    carried-keeps Command.Copy e = h
+    carried-keeps (Command.Prefetch v) e = prefetch-keeps m base u d h r p b v
+    carried-keeps (Command.Acknowledge go) e = pick-by Ends _ _ _ (λ _. retry-keeps (d .pending) (h .below)) (λ _. h)

@@ -4,7 +4,6 @@ use Rattle.page.specs.Words.{wordMatches, wordAccess, wordAddress, limit}
 use Rattle.lanes.specs.Lanes.{slots}
 use Rattle.registers.specs.Fields.{isOn, isWalking}
 use Rattle.registers.specs.declared.Pending.{Pending}
-use Rattle.registers.specs.declared.Pending.the-variants.{Nothing, Held}
 use Rattle.walk.specs.Uniform.{Look}
 use Rattle.decision.specs.Types.{Access, VirtualAddress, Answer}
 use Rattle.decision.specs.Decisions.{byAccess, byWalk}
@@ -27,8 +26,8 @@ pub record Lanes (look : Look) (cam ram : List ℕ) : Type 0 where
 
 -- a pending fault is at an address below 2^24: refusal 1 lets no other by, and a prefetch names no other
 abbrev pub Below : Pending → Type 0
-Below Nothing = Unit {0}
-Below (Held k va a) = va .0 < limit
+Below Pending.Nothing = Unit {0}
+Below (Pending.Held k va a) = va .0 < limit
 
 -- what a session keeps, part by part: on, walking, the base fixed, every slot in agreement
 pub record Kept (look : Look) (base control at : ℕ) (cam ram : List ℕ) (pending : Pending) : Type 0 where

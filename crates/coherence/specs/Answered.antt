@@ -1,10 +1,10 @@
 -- What keeps the promise from being hollow: a request or a retry that the paper does not refuse is answered (01, "When the unit says no").
 use Rattle.page.specs.Ground.{ℕ, _%_, _<_, _≡_, true, false}
-use Rattle.descriptors.specs.Statements.{isMissing}
+use Rattle.walk.specs.Distances.{isMissing}
 use Rattle.bill.specs.Bill.{moneyOk}
 use Rattle.registers.specs.Answers.{isPrefetch, isRefusal}
 use Rattle.page.specs.Words.{limit}
-use Rattle.registers.specs.declared.Pending.the-variants.{Nothing, Held}
+use Rattle.registers.specs.declared.Pending.{Pending}
 use Rattle.decision.specs.Types.{Access, VirtualAddress, Lent, lentOk, Bill, Prices, Fault, Answer}
 use Rattle.unit.specs.declared.Device.{Device}
 use Rattle.unit.specs.Device.{inRange}
@@ -31,7 +31,7 @@ RequestAnswered m base =
     (p : Prices) (b : Bill) (d : Device) (va : VirtualAddress) (a : Access) →
     Coherent (lookFrom m base) base d →
     Ready m p b d →
-    d .pending ≡ Nothing →
+    d .pending ≡ Pending.Nothing →
     va .0 < limit →
     isMissing (lookFrom m base va .found) ≡ false →
     Answered (lookFrom m base) va a (requestOf m p b d va a .answer)
@@ -42,7 +42,7 @@ RetryAnswered m base =
     (p : Prices) (b : Bill) (d : Device) (v : ℕ) (k : Fault) (va : VirtualAddress) (a : Access) →
     Coherent (lookFrom m base) base d →
     Ready m p b d →
-    d .pending ≡ Held k va a →
+    d .pending ≡ Pending.Held k va a →
     isPrefetch k ≡ false →
     v % 2 ≡ 1 →
     isMissing (lookFrom m base va .found) ≡ false →

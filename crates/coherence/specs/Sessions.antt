@@ -9,7 +9,6 @@ use Rattle.bank.specs.Slots.{freshBank}
 use Rattle.registers.specs.Answers.{isPrefetch, isRefusal}
 use Rattle.registers.specs.Fields.{noEntry}
 use Rattle.registers.specs.declared.Pending.{Pending}
-use Rattle.registers.specs.declared.Pending.the-variants.{Nothing, Held}
 use Rattle.decision.specs.Types.{Access, VirtualAddress, Answer}
 use Rattle.unit.specs.declared.Device.{Device}
 use Rattle.unit.specs.Offsets.{controlAt, acknowledgeAt, baseHighAt, baseLowAt}
@@ -51,8 +50,8 @@ pub data Asked : Type 0 where
 
 -- what an acknowledgement asks: a pending prefetch is only dropped
 abbrev pub retriedOf : Pending → Asked
-retriedOf Nothing = nothing
-retriedOf (Held k va a) = pick (isPrefetch k) nothing (asks va a)
+retriedOf Pending.Nothing = nothing
+retriedOf (Pending.Held k va a) = pick (isPrefetch k) nothing (asks va a)
 
 -- what a call asks of a device
 abbrev pub asked : Device → Call → Asked
@@ -67,7 +66,7 @@ abbrev pub started : ℕ → ℕ → Device
 started control base = record {
   registers = record { control = control; base = physical base; prefetch = 0; staged = noEntry; copied = noEntry };
   bank = freshBank;
-  pending = Nothing;
+  pending = Pending.Nothing;
 }
 
 -- the plain walk from a base

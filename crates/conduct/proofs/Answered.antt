@@ -8,14 +8,13 @@ use borrow.Author.Tests.{eq-eqb}
 use Rattle.page.specs.Pick.{pick}
 use Rattle.page.specs.Words.{physical, permits, wordAccess, wordAddress}
 use Rattle.page.proofs.Picks.{pick-yes, pick-no}
-use Rattle.bill.specs.declared.Seen.the-variants as S
-use Rattle.lanes.specs.declared.Matched.the-variants as M
+use Rattle.bill.specs.declared.Seen.{Seen}
+use Rattle.lanes.specs.declared.Matched.{Matched}
 use Rattle.lanes.proofs.Searches.{found}
 use Rattle.registers.specs.Answers.{isPrefetch}
 use Rattle.registers.specs.Fields.{isOn}
 use Rattle.registers.specs.Table.{listed, commandOf}
-use Rattle.registers.specs.declared.Pending.the-variants as P
-use Rattle.registers.specs.declared.Answer.the-variants as A
+use Rattle.registers.specs.declared.Pending.{Pending}
 use Rattle.decision.specs.Decisions.{plainly, byAccess, meteredOnce}
 use Rattle.decision.proofs.Joins.{decided-off, decided-on}
 use Rattle.unit.specs.Device.{look, decidedBy, concluded, attemptOf}
@@ -32,14 +31,14 @@ module _ (m : Lent) (d : Device) (b : Bill) (p : Prices) where
   -- an attempt that a slot matches and permits
   attempt-permitted : (again : Bool) (va : VirtualAddress) (a : Access) (i : ℕ)
       → isOn (d .registers .control) ≡ true → LowestMatch d va i → permits (wordAccess (getD (d .bank .ram) i 0)) a ≡ true
-      → decidedBy (look m d va) d va a ≡ plainly (A.Address (wordAddress (getD (d .bank .cam) i 0) (getD (d .bank .ram) i 0) va)) S.Match
+      → decidedBy (look m d va) d va a ≡ plainly (Answer.Address (wordAddress (getD (d .bank .cam) i 0) (getD (d .bank .ram) i 0) va)) Seen.Match
   unfolding byAccess
   attempt-permitted again va a i on l h =
-      decided-on (look m d va) (d .registers .control) (d .bank .cam) (d .bank .ram) va a (M.At i) on (found (d .bank .cam) va i (l .slot) (l .matches) (l .below))
-      ∙ ap (λ (r : Answer). plainly r S.Match) (pick-yes _ _ _ h)
+      decided-on (look m d va) (d .registers .control) (d .bank .cam) (d .bank .ram) va a (Matched.At i) on (found (d .bank .cam) va i (l .slot) (l .matches) (l .below))
+      ∙ ap (λ (r : Answer). plainly r Seen.Match) (pick-yes _ _ _ h)
 
   -- an acknowledgement with bit 0 of a fault that is no prefetch retries it
-  acknowledged : (v : ℕ) (k : Fault) (va : VirtualAddress) (a : Access) → d .pending ≡ P.Held k va a → isPrefetch k ≡ false → v % 2 ≡ 1
+  acknowledged : (v : ℕ) (k : Fault) (va : VirtualAddress) (a : Access) → d .pending ≡ Pending.Held k va a → isPrefetch k ≡ false → v % 2 ≡ 1
       → carried m p b d (commandOf acknowledgeAt v) ≡ attemptOf m p b true d va a
   unfolding commandOf listed pick
   acknowledged v k va a e n h =
@@ -52,12 +51,12 @@ one-acknowledgement m d b p v k va a i on e n l h g =
   where
     Answers : Outcome → Type 0
     Answers x =
-        (answered (x .answer) ≡ answered (A.Address (wordAddress (getD (d .bank .cam) i 0) (getD (d .bank .ram) i 0) va))) × (x .device .pending ≡ P.Nothing)
+        (answered (x .answer) ≡ answered (Answer.Address (wordAddress (getD (d .bank .cam) i 0) (getD (d .bank .ram) i 0) va))) × (x .device .pending ≡ Pending.Nothing)
 
 -- off
 module _ (b : Bill) (again : Bool) (va : VirtualAddress) (a : Access) where
   abbrev Virtual : Outcome → Type 0
-  Virtual x = (answered (x .answer) ≡ answered (A.Address (physical (va .0)))) × (x .tally .words ≡ 0) × (x .bill ≡ b) × (x .device .pending ≡ P.Nothing)
+  Virtual x = (answered (x .answer) ≡ answered (Answer.Address (physical (va .0)))) × (x .tally .words ≡ 0) × (x .bill ≡ b) × (x .device .pending ≡ Pending.Nothing)
 
   abbrev Off : Asked → Outcome → Type 0
   Off q x = q ≡ attempt again va a → Virtual x

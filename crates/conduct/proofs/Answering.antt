@@ -7,20 +7,18 @@ use borrow.Author.Tests.{lt-leb}
 use Rattle.page.specs.Pick.{pick}
 use Rattle.page.specs.Words.{limit, permits, wordAccess, wordAddress}
 use Rattle.page.proofs.Picks.{pick-yes, pick-no}
-use Rattle.descriptors.specs.Descriptors.{physicalOf}
-use Rattle.descriptors.specs.Statements.{isMissing}
-use Rattle.descriptors.specs.declared.Found.the-variants as D
+use Rattle.walk.specs.Descriptors.{physicalOf}
+use Rattle.walk.specs.Distances.{isMissing}
 use Rattle.lanes.specs.Lanes.{slots, lookedUp}
-use Rattle.lanes.specs.declared.Matched.the-variants as M
 use Rattle.lanes.proofs.Searches.{found, lowest, Lowest}
 use Rattle.registers.specs.Answers.{isRefusal}
 use Rattle.registers.specs.Fields.{isOn, isWalking}
 use Rattle.registers.specs.Table.{listed, commandOf}
-use Rattle.registers.specs.declared.Fault.the-variants as K
-use Rattle.registers.specs.declared.Answer.the-variants as A
+use Rattle.registers.specs.declared.Fault.{Fault}
+use Rattle.registers.specs.declared.Answer.{Answer}
 use Rattle.decision.specs.Decisions.{byAccess, byFound}
 use Rattle.decision.specs.Prefetches.{pageAt, prefetchFound, prefetchMatched, prefetchDecided, shiftBy}
-use Rattle.decision.specs.declared.Shift.the-variants as H
+use Rattle.decision.specs.declared.Shift.{Shift}
 use Rattle.decision.proofs.Joins.{decided-on, decided-miss, decided-walk}
 use Rattle.unit.specs.Refusals.{refuses}
 use Rattle.unit.specs.Device.{inRange, look, cleared, told, toldRefused, decidedBy, attemptOf}
@@ -37,20 +35,20 @@ use Rattle.conduct.proofs.Writes.{write-by}
 use Rattle.conduct.proofs.Calls.{accepted-request, accepted-write}
 
 -- a search that no slot answers finds nothing
-no-slot : (d : Device) (va : VirtualAddress) → NoSlot d va → lookedUp (d .bank .cam) va ≡ M.Nothing
+no-slot : (d : Device) (va : VirtualAddress) → NoSlot d va → lookedUp (d .bank .cam) va ≡ Matched.Nothing
 no-slot d va n = by (lookedUp (d .bank .cam) va) (lowest (d .bank .cam) va)
   where
-    by : (x : Matched) → Lowest (d .bank .cam) va slots 0 x → x ≡ M.Nothing
-    by (M.At k) h = absurd (true≢false (sym (h .1 .0) ∙ n k (h .0)))
-    by M.Nothing h = refl
+    by : (x : Matched) → Lowest (d .bank .cam) va slots 0 x → x ≡ Matched.Nothing
+    by (Matched.At k) h = absurd (true≢false (sym (h .1 .0) ∙ n k (h .0)))
+    by Matched.Nothing h = refl
 
 -- an access that is permitted answers the byte, one that is not 23
 module _ (bits : ℕ) (at : PhysicalAddress) (a : Access) where
-  access-yes : permits bits a ≡ true → byAccess bits at a ≡ A.Address at
+  access-yes : permits bits a ≡ true → byAccess bits at a ≡ Answer.Address at
   unfolding byAccess
   access-yes h = pick-yes _ _ _ h
 
-  access-no : permits bits a ≡ false → byAccess bits at a ≡ A.Fault K.Permission
+  access-no : permits bits a ≡ false → byAccess bits at a ≡ Answer.Fault Fault.Permission
   unfolding byAccess
   access-no h = pick-no _ _ _ h
 
@@ -58,10 +56,10 @@ module _ (bits : ℕ) (at : PhysicalAddress) (a : Access) where
 module _ (va : VirtualAddress) (a : Access) (r : Reads) where
   found-answers : (f : Found) → isMissing f ≡ false → WalkAnswers f va a (answered (byFound va a r f .answer))
   unfolding byFound
-  found-answers D.Missing h = absurd (true≢false h)
-  found-answers D.NoPage h = record { byte = λ g e t. cc; refused = λ g e t. cc; none = λ _. refl; there = λ e. absurd (false≢true (ap isMissing e)) }
-  found-answers (D.Page p) h = record {
-    byte = λ g e t. let q : p ≡ g = cc in ap answered (access-yes _ _ a (ap (λ (x : Page). permits (x .access) a) q ∙ t) ∙ ap (λ (x : Page). A.Address (physicalOf x va)) q);
+  found-answers Found.Missing h = absurd (true≢false h)
+  found-answers Found.NoPage h = record { byte = λ g e t. cc; refused = λ g e t. cc; none = λ _. refl; there = λ e. absurd (false≢true (ap isMissing e)) }
+  found-answers (Found.Page p) h = record {
+    byte = λ g e t. let q : p ≡ g = cc in ap answered (access-yes _ _ a (ap (λ (x : Page). permits (x .access) a) q ∙ t) ∙ ap (λ (x : Page). Answer.Address (physicalOf x va)) q);
     refused = λ g e t. let q : p ≡ g = cc in ap answered (access-no _ _ a (ap (λ (x : Page). permits (x .access) a) q ∙ t));
     none = λ e. cc;
     there = λ e. absurd (false≢true (ap isMissing e));
@@ -74,7 +72,7 @@ module _ (m : Lent) (d : Device) (va : VirtualAddress) (a : Access) (on : isOn (
   at-slot : (i : ℕ) → LowestMatch d va i → x .answer ≡ byAccess (wordAccess (getD (d .bank .ram) i 0)) (wordAddress (getD (d .bank .cam) i 0) (getD (d .bank .ram) i 0) va) a
   at-slot i l =
       ap (λ (y : Decision). y .answer)
-      (decided-on (look m d va) (d .registers .control) (d .bank .cam) (d .bank .ram) va a (M.At i) on (found (d .bank .cam) va i (l .slot) (l .matches) (l .below)))
+      (decided-on (look m d va) (d .registers .control) (d .bank .cam) (d .bank .ram) va a (Matched.At i) on (found (d .bank .cam) va i (l .slot) (l .matches) (l .below)))
 
   is-there : NoSlot d va → isWalking (d .registers .control) ≡ true → isMissing (look m d va .found) ≡ false
   unfolding lacks
@@ -134,14 +132,14 @@ module _ (m : Lent) (d : Device) (va : VirtualAddress) where
   matched-answers x e = ap (λ (y : Matched). prefetchMatched (look m d va) va y .answer) e
 
   walk-answers : NoSlot d va → (f : Found) → look m d va .found ≡ f → prefetchDecided (look m d va) (d .bank .cam) va .answer ≡ prefetchFound va (look m d va .reads) f .answer
-  walk-answers n f e = matched-answers M.Nothing (no-slot d va n) ∙ ap (λ (y : Found). prefetchFound va (look m d va .reads) y .answer) e
+  walk-answers n f e = matched-answers Matched.Nothing (no-slot d va n) ∙ ap (λ (y : Found). prefetchFound va (look m d va .reads) y .answer) e
 
   fetch-answers : PrefetchAnswers m d va (answered (prefetchDecided (look m d va) (d .bank .cam) va .answer))
   unfolding prefetchFound
   fetch-answers = record {
-    match = λ i l. ap answered (matched-answers (M.At i) (found (d .bank .cam) va i (l .slot) (l .matches) (l .below)));
-    page = λ g n e. ap answered (walk-answers n (D.Page g) e);
-    none = λ n e. ap answered (walk-answers n D.NoPage e);
+    match = λ i l. ap answered (matched-answers (Matched.At i) (found (d .bank .cam) va i (l .slot) (l .matches) (l .below)));
+    page = λ g n e. ap answered (walk-answers n (Found.Page g) e);
+    none = λ n e. ap answered (walk-answers n Found.NoPage e);
   }
 
 pub prefetch-answered : PrefetchAnswered
@@ -150,15 +148,15 @@ prefetch-answered m d b v p =
     accepted-write m p b d (λ (x : Outcome). PrefetchAnswers m d (pageAt v) (answered (x .answer))) prefetchAt v (λ _. fetch-answers m d (pageAt v))
 
 -- a shift report
-found-tells : (va : VirtualAddress) (f : Found) → ShiftTells va f (pick (isMissing f) (H.Refused 3) (shiftBy va f))
+found-tells : (va : VirtualAddress) (f : Found) → ShiftTells va f (pick (isMissing f) (Shift.Refused 3) (shiftBy va f))
 unfolding pick
-found-tells va (D.Page g) = record { number = refl; values = refl }
-found-tells va D.NoPage = record { number = refl; values = refl }
-found-tells va D.Missing = record { number = refl; values = refl }
+found-tells va (Found.Page g) = record { number = refl; values = refl }
+found-tells va Found.NoPage = record { number = refl; values = refl }
+found-tells va Found.Missing = record { number = refl; values = refl }
 
 shift-is :
     (m : Lent) (d : Device) (va : VirtualAddress) → inRange d ≡ true → va .0 < limit → lentOk m ≡ true
-    → shiftOf m d va ≡ pick (isMissing (look m d va .found)) (H.Refused 3) (shiftBy va (look m d va .found))
+    → shiftOf m d va ≡ pick (isMissing (look m d va .found)) (Shift.Refused 3) (shiftBy va (look m d va .found))
 unfolding shiftOf refuses
 shift-is m d va r l o = pick-no _ _ _ (ap not r) ∙ pick-no _ _ _ (lt-leb limit (va .0) l) ∙ pick-no _ _ _ (ap not o)
 
@@ -190,6 +188,6 @@ unfolding dropOf
 nothing-said m d b = record {
   write = λ o v p. write-says m d b p o v;
   dropped =
-      refuses-by (toldRefused d) (told (cleared d) A.Done) (λ (t : Told). isRefusal (t .answer) ≡ false → answered (t .answer) ≡ done) (dropRefusals d)
+      refuses-by (toldRefused d) (told (cleared d) Answer.Done) (λ (t : Told). isRefusal (t .answer) ≡ false → answered (t .answer) ≡ done) (dropRefusals d)
       (λ k h. absurd (true≢false h)) (λ _ _. refl);
 }

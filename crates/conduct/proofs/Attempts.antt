@@ -7,16 +7,11 @@ use lib.ListN.{getD}
 use Rattle.page.specs.Pick.{pick, _and_}
 use Rattle.page.specs.Words.{wordAccess}
 use Rattle.page.proofs.Picks.{pick-yes, pick-no, pick-by, and-left, and-right}
-use Rattle.memory.specs.declared.Reads.the-variants as R
-use Rattle.descriptors.specs.Statements.{isMissing}
-use Rattle.descriptors.specs.declared.Found.the-variants as D
-use Rattle.bill.specs.declared.Seen.the-variants as S
+use Rattle.walk.specs.Distances.{isMissing}
 use Rattle.lanes.specs.Lanes.{lookedUp}
-use Rattle.bank.specs.declared.Fill.the-variants as F
-use Rattle.lanes.specs.declared.Matched.the-variants as M
+use Rattle.bank.specs.declared.Fill.{Fill}
 use Rattle.registers.specs.Answers.{isRefusal}
 use Rattle.registers.specs.Fields.{isOn, isWalking}
-use Rattle.registers.specs.declared.Answer.the-variants as A
 use Rattle.decision.specs.Decisions.{byAccess, byFound, byWalk, byMatched, decided, meteredOnce, tallyOf}
 use Rattle.decision.proofs.Joins.{decided-on}
 use Rattle.unit.specs.Device.{look, decidedBy}
@@ -29,32 +24,32 @@ use Rattle.conduct.proofs.Tests.{rest, pick-both}
 
 -- an address or a fault: what the meters count
 abbrev pub isMet : Answer → Bool
-isMet (A.Address x) = true
-isMet (A.Fault k) = true
-isMet (A.Value x) = false
-isMet A.Done = false
-isMet (A.Refused k) = false
+isMet (Answer.Address x) = true
+isMet (Answer.Fault k) = true
+isMet (Answer.Value x) = false
+isMet Answer.Done = false
+isMet (Answer.Refused k) = false
 
 pub met-no-refusal : (r : Answer) → isMet r ≡ true → isRefusal r ≡ false
-met-no-refusal (A.Address x) h = refl
-met-no-refusal (A.Fault k) h = refl
-met-no-refusal (A.Value x) h = refl
-met-no-refusal A.Done h = refl
-met-no-refusal (A.Refused k) h = sym h
+met-no-refusal (Answer.Address x) h = refl
+met-no-refusal (Answer.Fault k) h = refl
+met-no-refusal (Answer.Value x) h = refl
+met-no-refusal Answer.Done h = refl
+met-no-refusal (Answer.Refused k) h = sym h
 
 pub met-tally : (again : Bool) (n : ℕ) (r : Answer) → isMet r ≡ true → tallyOf again n r ≡ meteredOnce again n
-met-tally again n (A.Address x) h = refl
-met-tally again n (A.Fault k) h = refl
-met-tally again n (A.Value x) h = absurd (false≢true h)
-met-tally again n A.Done h = absurd (false≢true h)
-met-tally again n (A.Refused k) h = absurd (false≢true h)
+met-tally again n (Answer.Address x) h = refl
+met-tally again n (Answer.Fault k) h = refl
+met-tally again n (Answer.Value x) h = absurd (false≢true h)
+met-tally again n Answer.Done h = absurd (false≢true h)
+met-tally again n (Answer.Refused k) h = absurd (false≢true h)
 
 -- a page, or none, is a decision that fills, reads and is seen so
 found-fill : (va : VirtualAddress) (a : Access) (r : Reads) (f : Found) → byFound va a r f .fill ≡ pageFill va f
 unfolding byFound
-found-fill va a r D.Missing = refl
-found-fill va a r D.NoPage = refl
-found-fill va a r (D.Page p) = refl
+found-fill va a r Found.Missing = refl
+found-fill va a r Found.NoPage = refl
+found-fill va a r (Found.Page p) = refl
 
 access-met : (bits : ℕ) (at : PhysicalAddress) (a : Access) → isMet (byAccess bits at a) ≡ true
 unfolding byAccess
@@ -63,50 +58,50 @@ access-met bits at a = pick-by (λ (r : Answer). isMet r ≡ true) _ _ _ (λ _. 
 module _ (va : VirtualAddress) (a : Access) (r : Reads) where
   found-met : (f : Found) → isMissing f ≡ false → isMet (byFound va a r f .answer) ≡ true
   unfolding byFound
-  found-met D.Missing h = absurd (true≢false h)
-  found-met D.NoPage h = refl
-  found-met (D.Page p) h = access-met (p .access) _ a
+  found-met Found.Missing h = absurd (true≢false h)
+  found-met Found.NoPage h = refl
+  found-met (Found.Page p) h = access-met (p .access) _ a
 
   found-reads : (f : Found) → isMissing f ≡ false → byFound va a r f .reads ≡ r
   unfolding byFound
-  found-reads D.Missing h = absurd (true≢false h)
-  found-reads D.NoPage h = refl
-  found-reads (D.Page p) h = refl
+  found-reads Found.Missing h = absurd (true≢false h)
+  found-reads Found.NoPage h = refl
+  found-reads (Found.Page p) h = refl
 
-  found-seen : (f : Found) → isMissing f ≡ false → byFound va a r f .seen ≡ S.NoMatch
+  found-seen : (f : Found) → isMissing f ≡ false → byFound va a r f .seen ≡ Seen.NoMatch
   unfolding byFound
-  found-seen D.Missing h = absurd (true≢false h)
-  found-seen D.NoPage h = refl
-  found-seen (D.Page p) h = refl
+  found-seen Found.Missing h = absurd (true≢false h)
+  found-seen Found.NoPage h = refl
+  found-seen (Found.Page p) h = refl
 
 -- a decision that neither fills nor reads
 abbrev pub Still : Decision → Type 0
-Still x = (x .fill ≡ F.Nothing) × (x .reads ≡ R.Nothing)
+Still x = (x .fill ≡ Fill.Nothing) × (x .reads ≡ Reads.Nothing)
 
 module _ (w : Walked) (c : ℕ) (cam ram : List ℕ) (va : VirtualAddress) (a : Access) where
   abbrev by : Matched → Decision
   by x = byMatched w c cam ram va a x
 
   matched-met : (x : Matched) → (noMatch x and isWalking c and isMissing (w .found)) ≡ false → isMet (by x .answer) ≡ true
-  matched-met (M.At i) h = access-met (wordAccess (getD ram i 0)) _ a
-  matched-met M.Nothing h =
+  matched-met (Matched.At i) h = access-met (wordAccess (getD ram i 0)) _ a
+  matched-met Matched.Nothing h =
       pick-by (λ (x : Decision). isMet (x .answer) ≡ true) _ _ _
       (λ e. found-met va a (w .reads) (w .found) (rest _ _ e (rest true _ refl h))) (λ _. refl)
 
-  matched-seen : (x : Matched) → (noMatch x and isWalking c and isMissing (w .found)) ≡ false → by x .seen ≡ pick (noMatch x) S.NoMatch S.Match
-  matched-seen (M.At i) h = sym (pick-no _ _ _ refl)
-  matched-seen M.Nothing h =
-      pick-by (λ (x : Decision). x .seen ≡ S.NoMatch) _ _ _
+  matched-seen : (x : Matched) → (noMatch x and isWalking c and isMissing (w .found)) ≡ false → by x .seen ≡ pick (noMatch x) Seen.NoMatch Seen.Match
+  matched-seen (Matched.At i) h = sym (pick-no _ _ _ refl)
+  matched-seen Matched.Nothing h =
+      pick-by (λ (x : Decision). x .seen ≡ Seen.NoMatch) _ _ _
       (λ e. found-seen va a (w .reads) (w .found) (rest _ _ e (rest true _ refl h))) (λ _. refl)
       ∙ sym (pick-yes _ _ _ refl)
 
   matched-still : (x : Matched) → (noMatch x and isWalking c) ≡ false → Still (by x)
-  matched-still (M.At i) h = (refl, refl)
-  matched-still M.Nothing h = pick-by Still _ _ _ (λ e. absurd (true≢false (sym e ∙ rest true _ refl h))) (λ _. (refl, refl))
+  matched-still (Matched.At i) h = (refl, refl)
+  matched-still Matched.Nothing h = pick-by Still _ _ _ (λ e. absurd (true≢false (sym e ∙ rest true _ refl h))) (λ _. (refl, refl))
 
   matched-walks : (x : Matched) → (noMatch x and isWalking c) ≡ true → by x ≡ byWalk va a w
-  matched-walks (M.At i) h = absurd (false≢true (and-left false _ h))
-  matched-walks M.Nothing h = pick-yes _ _ _ (and-right true _ h)
+  matched-walks (Matched.At i) h = absurd (false≢true (and-left false _ h))
+  matched-walks Matched.Nothing h = pick-yes _ _ _ (and-right true _ h)
 
 module _ (m : Lent) (d : Device) (va : VirtualAddress) where
   -- a decision fills what the walk for the address finds and reads its words

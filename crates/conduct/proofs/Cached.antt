@@ -4,14 +4,10 @@ use mathlib.Core.Bool.{Bool, true, false, false≢true}
 use mathlib.Core.List.{List}
 use Prim.Native.Nat.{ℕ}
 use Rattle.page.proofs.Picks.{pick-by}
-use Rattle.descriptors.specs.declared.Found.the-variants as D
 use Rattle.lanes.specs.Lanes.{lookedUp}
 use Rattle.bank.specs.Changes.{entryFilled}
-use Rattle.bank.specs.declared.Fill.the-variants as F
-use Rattle.lanes.specs.declared.Matched.the-variants as M
+use Rattle.bank.specs.declared.Fill.{Fill}
 use Rattle.registers.specs.Table.{commandOf, valueAt}
-use Rattle.registers.specs.declared.Answer.the-variants as A
-use Rattle.registers.specs.declared.Fault.the-variants as K
 use Rattle.decision.specs.Decisions.{byAccess, byFound}
 use Rattle.decision.specs.Prefetches.{pageAt, prefetchFound, prefetchMatched, prefetchDecided}
 use Rattle.unit.specs.Device.{look, cleared, told, toldRefused, refusedWith, decidedBy, attemptOf}
@@ -25,21 +21,21 @@ use Rattle.conduct.proofs.Attempts.{decided-still, decided-walks}
 use Rattle.conduct.proofs.Writes.{write-by}
 
 abbrev isTranslation : Fault → Bool
-isTranslation K.Translation = true
-isTranslation K.Miss = false
-isTranslation K.Permission = false
-isTranslation K.Prefetch = false
+isTranslation Fault.Translation = true
+isTranslation Fault.Miss = false
+isTranslation Fault.Permission = false
+isTranslation Fault.Prefetch = false
 
 abbrev isUnmapped : Answer → Bool
-isUnmapped (A.Address x) = false
-isUnmapped (A.Fault k) = isTranslation k
-isUnmapped (A.Value x) = false
-isUnmapped A.Done = false
-isUnmapped (A.Refused k) = false
+isUnmapped (Answer.Address x) = false
+isUnmapped (Answer.Fault k) = isTranslation k
+isUnmapped (Answer.Value x) = false
+isUnmapped Answer.Done = false
+isUnmapped (Answer.Refused k) = false
 
 -- a decision that answers a translation fault fills nothing
 abbrev Uncached : Decision → Type 0
-Uncached x = isUnmapped (x .answer) ≡ true → x .fill ≡ F.Nothing
+Uncached x = isUnmapped (x .answer) ≡ true → x .fill ≡ Fill.Nothing
 
 access-mapped : (bits : ℕ) (at : PhysicalAddress) (a : Access) → isUnmapped (byAccess bits at a) ≡ false
 unfolding byAccess
@@ -47,9 +43,9 @@ access-mapped bits at a = pick-by (λ (r : Answer). isUnmapped r ≡ false) _ _ 
 
 found-uncached : (va : VirtualAddress) (a : Access) (r : Reads) (f : Found) → Uncached (byFound va a r f)
 unfolding byFound
-found-uncached va a r D.Missing = λ _. refl
-found-uncached va a r D.NoPage = λ _. refl
-found-uncached va a r (D.Page p) = λ e. absurd (false≢true (sym (access-mapped (p .access) _ a) ∙ e))
+found-uncached va a r Found.Missing = λ _. refl
+found-uncached va a r Found.NoPage = λ _. refl
+found-uncached va a r (Found.Page p) = λ e. absurd (false≢true (sym (access-mapped (p .access) _ a) ∙ e))
 
 attempt-uncached : (m : Lent) (d : Device) (va : VirtualAddress) (a : Access) → Uncached (decidedBy (look m d va) d va a)
 attempt-uncached m d va a = by (walksFor d va) refl
@@ -60,13 +56,13 @@ attempt-uncached m d va a = by (walksFor d va) refl
 
 prefetch-found-uncached : (va : VirtualAddress) (r : Reads) (f : Found) → Uncached (prefetchFound va r f)
 unfolding prefetchFound
-prefetch-found-uncached va r D.Missing = λ _. refl
-prefetch-found-uncached va r D.NoPage = λ _. refl
-prefetch-found-uncached va r (D.Page p) = λ e. absurd (false≢true e)
+prefetch-found-uncached va r Found.Missing = λ _. refl
+prefetch-found-uncached va r Found.NoPage = λ _. refl
+prefetch-found-uncached va r (Found.Page p) = λ e. absurd (false≢true e)
 
 prefetch-matched-uncached : (w : Walked) (va : VirtualAddress) (x : Matched) → Uncached (prefetchMatched w va x)
-prefetch-matched-uncached w va (M.At i) = λ _. refl
-prefetch-matched-uncached w va M.Nothing = prefetch-found-uncached va (w .reads) (w .found)
+prefetch-matched-uncached w va (Matched.At i) = λ _. refl
+prefetch-matched-uncached w va Matched.Nothing = prefetch-found-uncached va (w .reads) (w .found)
 
 prefetch-uncached : (w : Walked) (cam : List ℕ) (va : VirtualAddress) → Uncached (prefetchDecided w cam va)
 unfolding prefetchDecided
@@ -97,7 +93,7 @@ uncached m d b (write o v p) =
 uncached m d b (read o) =
     λ _. refuses-by (toldRefused d) (told d (valueAt o (d .registers) (d .bank .lock) (d .bank .victim) (d .pending))) (Same d) (readRefusals d o) (λ k. refl) (λ _. refl)
 uncached m d b drop-fault =
-    λ _. refuses-by (toldRefused d) (told (cleared d) A.Done) (Same d) (dropRefusals d) (λ k. refl) (λ _. refl)
+    λ _. refuses-by (toldRefused d) (told (cleared d) Answer.Done) (Same d) (dropRefusals d) (λ k. refl) (λ _. refl)
 uncached m d b (shift va) = λ _. refl
 
 pub fault-not-cached : FaultNotCached

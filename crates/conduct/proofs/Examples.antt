@@ -8,21 +8,21 @@ use lib.ListN.{take}
 use Rattle.page.specs.Low.{upper, joined}
 use Rattle.page.specs.Pick.{pick, _and_, _or_}
 use Rattle.page.specs.Words.{virtual, physical, kindOf, wordMatches, wordAddress, wordDropped, wordFlushed, wordFlushedAt, madeCam, madeRam}
-use Rattle.page.specs.declared.Access.the-variants.{Read, Write}
-use Rattle.memory.specs.Memory.{lent, memoryOk, apart, memoriesOk, holds, placeWithin, placeIn, wordOf}
+use Rattle.memory.specs.Memory.{lent, memoryOk, apart, memoriesOk, holds, placeWithin, placeIn}
+use Rattle.wire.specs.Words.{wordOf}
 use Rattle.walk.specs.Walk.{firstAt, readIn, walkFrom}
 use Rattle.prices.specs.Prices.{f0, figureOk, every}
 use Rattle.bill.specs.Bill.{freshBill, moneyOk}
-use Rattle.prices.specs.declared.Price.the-variants.{Flat}
+use Rattle.prices.specs.declared.Price.{Price}
 use Rattle.bank.specs.Slots.{bankOk, freshBank, slotAt}
 use Rattle.bank.specs.Changes.{nextSlot, nextVictim, storedAt, lockedAt, filled}
-use Rattle.descriptors.specs.Descriptors.{firstOf}
+use Rattle.walk.specs.Descriptors.{firstOf}
 use Rattle.lanes.specs.Lanes.{lookedFrom, allFrom, flushedAll, flushedEntry}
 use Rattle.registers.specs.Fields.{entryOk, registersOk, freshRegisters, withControl, withStaged, camAddress}
 use Rattle.registers.specs.Table.{listed, noRegister, whenBit, commandOf}
-use Rattle.registers.specs.declared.Pending.the-variants as P
-use Rattle.registers.specs.declared.Answer.the-variants as A
-use Rattle.registers.specs.declared.Fault.the-variants as K
+use Rattle.registers.specs.declared.Pending.{Pending}
+use Rattle.registers.specs.declared.Answer.{Answer}
+use Rattle.registers.specs.declared.Fault.{Fault}
 use Rattle.decision.specs.Decisions.{byAccess, byFound, decided}
 use Rattle.unit.specs.Refusals.{refuses}
 use Rattle.unit.specs.Device.{freshDevice, inRange, setRegisters, setBank}
@@ -33,7 +33,7 @@ use Rattle.conduct.specs.Types.{Access, Words, Lent, Prices, Device}
 use Rattle.conduct.specs.Metered.{oneFresh, oneRetry}
 
 abbrev free : Prices
-free = record { onchip = Flat f0; external = Flat f0 }
+free = record { onchip = Price.Flat f0; external = Price.Flat f0 }
 
 -- two first-level words: 11200802, a section at 11200000 for reading, and a fault
 abbrev twoWords : Lent
@@ -51,28 +51,28 @@ asking d va a = step twoWords d freshBill (request (virtual va) a free)
 
 -- a fresh device is off: physical is virtual; 2^24 is refused 1
 fresh-answers :
-    (asking freshDevice 0x012345 Write .said ≡ answered (A.Address (physical 0x012345)))
-    × (asking freshDevice 0x012345 Write .tally ≡ oneFresh 0)
-    × (asking freshDevice 0x1000000 Read .said ≡ answered (A.Refused 1))
+    (asking freshDevice 0x012345 Access.Write .said ≡ answered (Answer.Address (physical 0x012345)))
+    × (asking freshDevice 0x012345 Access.Write .tally ≡ oneFresh 0)
+    × (asking freshDevice 0x1000000 Access.Read .said ≡ answered (Answer.Refused 1))
 unfolding requestOf refuses pick _and_ _or_ inRange registersOk entryOk bankOk allFrom memoriesOk memoryOk apart moneyOk every figureOk le lt eq ofBits ofFields odd trailingZeros lacks decided
 fresh-answers = (refl, refl, refl)
 
 -- a walk that finds a page fills slot 5 and moves the victim on, also where access is then refused
 walk-fills :
-    (asking running 0x012345 Read .said ≡ answered (A.Address (physical 0x11212345)))
-    × (asking running 0x012345 Read .tally ≡ oneFresh 1)
-    × (asking running 0x012345 Write .said ≡ answered (A.Fault K.Permission))
-    × (slotAt (asking running 0x012345 Write .device .bank) 5 ≡ section)
-    × (asking running 0x012345 Write .device .bank .victim ≡ 6)
+    (asking running 0x012345 Access.Read .said ≡ answered (Answer.Address (physical 0x11212345)))
+    × (asking running 0x012345 Access.Read .tally ≡ oneFresh 1)
+    × (asking running 0x012345 Access.Write .said ≡ answered (Answer.Fault Fault.Permission))
+    × (slotAt (asking running 0x012345 Access.Write .device .bank) 5 ≡ section)
+    × (asking running 0x012345 Access.Write .device .bank .victim ≡ 6)
 unfolding requestOf refuses pick _and_ _or_ inRange registersOk entryOk bankOk allFrom memoriesOk memoryOk apart moneyOk every figureOk le lt eq ofBits ofFields odd trailingZeros lacks decided lookedFrom wordMatches kindOf walkFrom firstAt upper joined readIn placeIn placeWithin holds wordOf firstOf byFound byAccess filled nextSlot nextVictim madeCam madeRam
 walk-fills = (refl, refl, refl, refl, refl)
 
 -- one that finds none fills nothing, and one that lacks its word is refused 3
 walk-faults :
-    (asking running 0x112345 Read .said ≡ answered (A.Fault K.Translation))
-    × (asking running 0x112345 Read .tally ≡ oneFresh 1)
-    × (asking running 0x112345 Read .device .bank ≡ running .bank)
-    × (asking running 0x212345 Read .said ≡ answered (A.Refused 3))
+    (asking running 0x112345 Access.Read .said ≡ answered (Answer.Fault Fault.Translation))
+    × (asking running 0x112345 Access.Read .tally ≡ oneFresh 1)
+    × (asking running 0x112345 Access.Read .device .bank ≡ running .bank)
+    × (asking running 0x212345 Access.Read .said ≡ answered (Answer.Refused 3))
 unfolding requestOf refuses pick _and_ _or_ inRange registersOk entryOk bankOk allFrom memoriesOk memoryOk apart moneyOk every figureOk le lt eq ofBits ofFields odd trailingZeros lacks decided lookedFrom wordMatches kindOf walkFrom firstAt upper readIn placeIn placeWithin holds wordOf firstOf byFound
 walk-faults = (refl, refl, refl, refl)
 
@@ -81,13 +81,13 @@ abbrev waiting : Device
 waiting = record {
   registers = withControl freshRegisters 3;
   bank = storedAt freshBank 0 section;
-  pending = P.Held K.Miss (virtual 0x012345) Read;
+  pending = Pending.Held Fault.Miss (virtual 0x012345) Access.Read;
 }
 
 acknowledged :
-    (step twoWords waiting freshBill (write acknowledgeAt 1 free) .said ≡ answered (A.Address (physical 0x11212345)))
+    (step twoWords waiting freshBill (write acknowledgeAt 1 free) .said ≡ answered (Answer.Address (physical 0x11212345)))
     × (step twoWords waiting freshBill (write acknowledgeAt 1 free) .tally ≡ oneRetry 0)
-    × (step twoWords waiting freshBill (write acknowledgeAt 1 free) .device .pending ≡ P.Nothing)
+    × (step twoWords waiting freshBill (write acknowledgeAt 1 free) .device .pending ≡ Pending.Nothing)
 unfolding writeOf refuses pick _and_ _or_ inRange registersOk entryOk bankOk allFrom memoriesOk memoryOk apart moneyOk every figureOk le lt eq ofBits ofFields odd trailingZeros noRegister isMalformed isUntimely writeLacks lacks commandOf listed decided lookedFrom wordMatches kindOf byAccess wordAddress upper joined
 acknowledged = (refl, refl, refl)
 
@@ -96,7 +96,7 @@ abbrev loaded : Device
 loaded = record {
   registers = withStaged freshRegisters (record { camhi = 0; camlo = 0x4000; ramhi = 0; ramlo = 0 });
   bank = storedAt (storedAt freshBank 0 section) 1 (record { cam = 0x400c; ram = 0x11300200 });
-  pending = P.Nothing;
+  pending = Pending.Nothing;
 }
 
 -- a global flush leaves slot 1, an entry flush clears its V, preserved or not

@@ -3,11 +3,10 @@ use mathlib.Core.Path.{_≡_, refl, sym, _∙_, ap, subst}
 use mathlib.Core.Bool.{Bool, true, false, true≢false, false≢true}
 use Prim.Native.Nat.{ℕ, _<_}
 use Rattle.page.proofs.Picks.{pick-by, and-left, and-right, or-yes, or-no}
-use Rattle.descriptors.specs.declared.Found.the-variants as D
+use Rattle.walk.specs.declared.Found.{Found}
 use Rattle.lanes.specs.Lanes.{slots}
 use Rattle.bank.specs.Slots.{slotAt}
 use Rattle.bank.specs.Changes.{nextSlot, entryFilled}
-use Rattle.bank.specs.declared.Fill.the-variants as F
 use Rattle.bank.proofs.Fills.{fill-keeps, fill-has, fill-keeps-locked, fill-lock, fill-victim}
 use Rattle.bank.proofs.Ranges.{in-range, nextSlot-lt}
 use Rattle.registers.specs.Fields.{registersOk, pendingOk}
@@ -27,8 +26,8 @@ use Rattle.conduct.proofs.Calls.{attempt-bank, prefetch-bank, accepted-
 
 -- no fill touches a slot below the lock base
 fill-locked : (b : Bank) (f : Fill) (j : ℕ) → j < b .lock → slotAt (entryFilled b f) j ≡ slotAt b j
-fill-locked b F.Nothing j h = refl
-fill-locked b (F.Slot w) j h = fill-keeps-locked b w j h
+fill-locked b Fill.Nothing j h = refl
+fill-locked b (Fill.Slot w) j h = fill-keeps-locked b w j h
 
 pub locked-kept : LockedKept
 unfolding requestOf writeOf
@@ -60,8 +59,8 @@ bank-after m d b drop-fault e = absurd (false≢true e)
 bank-after m d b (shift va) e = λ _. refl
 
 filled-by : (b : Bank) (f : Fill) → LanesFit b → nextSlot (b .victim) (b .lock) < slots → FilledBy f b (entryFilled b f)
-filled-by b F.Nothing l h = refl
-filled-by b (F.Slot w) l h = record {
+filled-by b Fill.Nothing l h = refl
+filled-by b (Fill.Slot w) l h = record {
   has = fill-has b w (subst (λ (n : ℕ). nextSlot (b .victim) (b .lock) < n) (sym (l .0)) h) (subst (λ (n : ℕ). nextSlot (b .victim) (b .lock) < n) (sym (l .1)) h);
   others = fill-keeps b w;
   lock = fill-lock b w;
@@ -76,11 +75,11 @@ one-slot-filled m d b c l e h =
     (filled-by (d .bank) (fillAsked m d (asked d c)) l (nextSlot-lt slots (d .bank .victim) (d .bank .lock) (r .victim) (r .lock)))
 
 -- where no page is found nothing is filled
-none-found : (m : Lent) (d : Device) (va : VirtualAddress) → look m d va .found ≡ D.NoPage → fillFor m d va ≡ F.Nothing
+none-found : (m : Lent) (d : Device) (va : VirtualAddress) → look m d va .found ≡ Found.NoPage → fillFor m d va ≡ Fill.Nothing
 unfolding fillFor
-none-found m d va e = pick-by (λ (f : Fill). f ≡ F.Nothing) _ _ _ (λ _. ap (pageFill va) e) (λ _. refl)
+none-found m d va e = pick-by (λ (f : Fill). f ≡ Fill.Nothing) _ _ _ (λ _. ap (pageFill va) e) (λ _. refl)
 
-none-asked : (m : Lent) (d : Device) (q : Asked) (va : VirtualAddress) → AsksFor va q → look m d va .found ≡ D.NoPage → fillAsked m d q ≡ F.Nothing
+none-asked : (m : Lent) (d : Device) (q : Asked) (va : VirtualAddress) → AsksFor va q → look m d va .found ≡ Found.NoPage → fillAsked m d q ≡ Fill.Nothing
 none-asked m d nothing va e h = absurd e
 none-asked m d (attempt again x a) va e h = none-found m d x (ap (λ (y : VirtualAddress). look m d y .found) e ∙ h)
 none-asked m d (prefetch x) va e h = none-found m d x (ap (λ (y : VirtualAddress). look m d y .found) e ∙ h)

@@ -12,8 +12,6 @@ use Rattle.bank.specs.Changes.{bankFlushed, bankFlushedAt}
 use Rattle.lanes.proofs.Flushes.{flush-word, flush-exact as word-exact, entry-word}
 use Rattle.registers.specs.Fields.{camAddress}
 use Rattle.registers.specs.Table.{listed, noRegister, whenBit, commandOf}
-use Rattle.registers.specs.declared.Command.the-variants as C
-use Rattle.registers.specs.declared.Tending.the-variants.{Flush, FlushEntry}
 use Rattle.unit.specs.Refusals.{Clear}
 use Rattle.unit.specs.Device.{inRange, setBank, refusedWith}
 use Rattle.unit.specs.Calls.{isMalformed, isUntimely, writeLacks, writeRefusals, carried, writeOf}
@@ -80,7 +78,7 @@ module _ (m : Lent) (d : Device) (b : Bill) (p : Prices) (v : ℕ) where
   unfolding noRegister isMalformed isUntimely writeLacks _and_ _or_
   entry-clear h = (ap not h, (refl, (refl, (refl, (refl, (refl, (refl, (refl, (refl, tt)))))))))
 
-  goes : (o : ℕ) (t : Tending) → commandOf o v ≡ whenBit v t → Clear (writeRefusals m p b d o v) → v % 2 ≡ 1 → writeOf m p b d o v ≡ carried m p b d (C.Tend t)
+  goes : (o : ℕ) (t : Tending) → commandOf o v ≡ whenBit v t → Clear (writeRefusals m p b d o v) → v % 2 ≡ 1 → writeOf m p b d o v ≡ carried m p b d (Command.Tend t)
   unfolding writeOf whenBit
   goes o t e c h =
       clear-goes-on (refusedWith d b) (carried m p b d (commandOf o v)) (writeRefusals m p b d o v) c
@@ -92,19 +90,19 @@ module _ (m : Lent) (d : Device) (b : Bill) (p : Prices) (v : ℕ) where
       refuses-by (refusedWith d b) (carried m p b d (commandOf o v)) (λ (x : Outcome). x .device ≡ d) (writeRefusals m p b d o v) (λ k. refl)
       (λ _. ap (λ (c : Command). carried m p b d c .device) (e ∙ pick-no _ _ _ (ne-eqb (v % 2) 1 (λ q. omega (arith, q, h)))))
 
-  at-flush : commandOf flushAt v ≡ whenBit v Flush
+  at-flush : commandOf flushAt v ≡ whenBit v Tending.Flush
   unfolding commandOf listed pick
   at-flush = refl
 
-  at-entry : commandOf entryFlushAt v ≡ whenBit v FlushEntry
+  at-entry : commandOf entryFlushAt v ≡ whenBit v Tending.FlushEntry
   unfolding commandOf listed pick
   at-entry = refl
 
   flushes : Flushes m d b p v
   flushes = record {
-    all = λ r h. subst (λ (x : Outcome). ValidWhere flushKeeps d (x .device)) (sym (goes flushAt Flush at-flush (flush-clear r) h)) (all-exact d);
-    entry = λ r h. subst (λ (x : Outcome). ValidWhere (entryFlushKeeps d) d (x .device)) (sym (goes entryFlushAt FlushEntry at-entry (entry-clear r) h)) (entry-exact d);
-    none = λ h. (stays flushAt Flush at-flush h, stays entryFlushAt FlushEntry at-entry h);
+    all = λ r h. subst (λ (x : Outcome). ValidWhere flushKeeps d (x .device)) (sym (goes flushAt Tending.Flush at-flush (flush-clear r) h)) (all-exact d);
+    entry = λ r h. subst (λ (x : Outcome). ValidWhere (entryFlushKeeps d) d (x .device)) (sym (goes entryFlushAt Tending.FlushEntry at-entry (entry-clear r) h)) (entry-exact d);
+    none = λ h. (stays flushAt Tending.Flush at-flush h, stays entryFlushAt Tending.FlushEntry at-entry h);
   }
 
 pub flush-exact : FlushExact

@@ -7,22 +7,18 @@ use native.Mathlib.Omega.{arith}
 use lib.ListN.{getD, take, drop}
 use lib.Seq.{getD-take, getD-drop}
 use Rattle.page.specs.Words.{lowBits}
-use Rattle.page.specs.declared.Kind.the-variants.{Large, Small, Tiny}
+use Rattle.page.specs.declared.Kind.{Kind}
 use Rattle.page.proofs.Picks.{pick-by}
 use Rattle.page.proofs.Lower.{upper-le}
-use Rattle.memory.specs.Memory.{placeIn, partAt, fetchedIn, littleEndian, wordOf}
+use Rattle.memory.specs.Memory.{placeIn, partAt, fetchedIn}
+use Rattle.wire.specs.Words.{littleEndian, wordOf}
 use Rattle.memory.specs.declared.Place.{Place}
-use Rattle.memory.specs.declared.Place.the-variants.{OnChip, External, Nowhere}
 use Rattle.memory.specs.declared.Source.{Source}
-use Rattle.descriptors.specs.Descriptors.{firstOf, secondOf}
+use Rattle.walk.specs.Descriptors.{firstOf, secondOf}
 use Rattle.walk.specs.Walk.{coarseAt, fineAt, readAt, readIn, sourceAt, afterSecond, byFirst, afterFirst, walkFrom, walkIn}
-use Rattle.descriptors.specs.declared.First.{First}
-use Rattle.descriptors.specs.declared.First.the-variants as F
-use Rattle.descriptors.specs.declared.Table.{Table}
-use Rattle.descriptors.specs.declared.Table.the-variants as T
+use Rattle.walk.specs.declared.First.{First}
+use Rattle.walk.specs.declared.Table.{Table}
 use Rattle.walk.specs.declared.Read.{Read}
-use Rattle.walk.specs.declared.Read.the-variants as R
-use Rattle.descriptors.specs.declared.Found.the-variants as D
 use Rattle.conduct.specs.Types.{Lent, Found}
 use Rattle.conduct.specs.Refused.{BytesFit}
 
@@ -44,18 +40,18 @@ part-fits : (l : List ℕ) → ((i : ℕ) → getD l i 0 < 256) → (k : ℕ) �
 part-fits l f k i h = subst (λ (x : ℕ). x < 256) (sym (getD-take 4 (drop k l) i 0 h ∙ getD-drop k l i 0)) (f (k + i))
 
 place-fits : (m : Lent) → BytesFit m → (p : Place) → Bytes (partAt m p)
-place-fits m f (OnChip k) = part-fits (m .on) (f .0) k
-place-fits m f (External k) = part-fits (m .ext) (f .1) k
-place-fits m f Nowhere = λ i h. omega arith
+place-fits m f (Place.OnChip k) = part-fits (m .on) (f .0) k
+place-fits m f (Place.External k) = part-fits (m .ext) (f .1) k
+place-fits m f Place.Nowhere = λ i h. omega arith
 
 abbrev ReadFits : Read → Type 0
-ReadFits (R.Word w p) = w < 2 ^ 32
-ReadFits R.Missing = Unit {0}
+ReadFits (Read.Word w p) = w < 2 ^ 32
+ReadFits Read.Missing = Unit {0}
 
 read-at-fits : (w : ℕ) → w < 2 ^ 32 → (p : Place) → ReadFits (readAt w p)
-read-at-fits w h (OnChip k) = h
-read-at-fits w h (External k) = h
-read-at-fits w h Nowhere = tt
+read-at-fits w h (Place.OnChip k) = h
+read-at-fits w h (Place.External k) = h
+read-at-fits w h Place.Nowhere = tt
 
 read-fits : (m : Lent) → BytesFit m → (a : ℕ) → ReadFits (readIn m a)
 unfolding readIn
@@ -63,15 +59,15 @@ read-fits m f a = read-at-fits (wordOf (fetchedIn m a)) (word-fits (fetchedIn m 
 
 -- a page starts no later than its word
 abbrev pub FrameFits : Found → Type 0
-FrameFits (D.Page p) = p .frame .0 < 2 ^ 32
-FrameFits D.NoPage = Unit {0}
-FrameFits D.Missing = Unit {0}
+FrameFits (Found.Page p) = p .frame .0 < 2 ^ 32
+FrameFits Found.NoPage = Unit {0}
+FrameFits Found.Missing = Unit {0}
 
 abbrev FirstFits : First → Type 0
-FirstFits F.Fault = Unit {0}
-FirstFits (F.Whole p) = p .frame .0 < 2 ^ 32
-FirstFits (F.Coarse t) = Unit {0}
-FirstFits (F.Fine t) = Unit {0}
+FirstFits First.Fault = Unit {0}
+FirstFits (First.Whole p) = p .frame .0 < 2 ^ 32
+FirstFits (First.Coarse t) = Unit {0}
+FirstFits (First.Fine t) = Unit {0}
 
 module _ (w : ℕ) (h : w < 2 ^ 32) where
   first-fits : FirstFits (firstOf w)
@@ -83,25 +79,25 @@ module _ (w : ℕ) (h : w < 2 ^ 32) where
 
   second-fits : (t : Table) → FrameFits (secondOf t w)
   unfolding secondOf
-  second-fits T.Coarse =
-      pick-by FrameFits _ _ _ (λ _. lt-of-le-of-lt (upper-le (lowBits Large) w) h)
-      (λ _. pick-by FrameFits _ _ _ (λ _. lt-of-le-of-lt (upper-le (lowBits Small) w) h) (λ _. tt))
-  second-fits T.Fine = pick-by FrameFits _ _ _ (λ _. lt-of-le-of-lt (upper-le (lowBits Tiny) w) h) (λ _. tt)
+  second-fits Table.Coarse =
+      pick-by FrameFits _ _ _ (λ _. lt-of-le-of-lt (upper-le (lowBits Kind.Large) w) h)
+      (λ _. pick-by FrameFits _ _ _ (λ _. lt-of-le-of-lt (upper-le (lowBits Kind.Small) w) h) (λ _. tt))
+  second-fits Table.Fine = pick-by FrameFits _ _ _ (λ _. lt-of-le-of-lt (upper-le (lowBits Kind.Tiny) w) h) (λ _. tt)
 
 module _ (rd : ℕ → Read) (f : (a : ℕ) → ReadFits (rd a)) (va : ℕ) where
   after-second : (t : Table) (s : Source) (b : ℕ) (r : Read) → ReadFits r → FrameFits (afterSecond t s b r .found)
-  after-second t s b R.Missing h = tt
-  after-second t s b (R.Word w p) h = second-fits w h t
+  after-second t s b Read.Missing h = tt
+  after-second t s b (Read.Word w p) h = second-fits w h t
 
   by-first : (s : Source) (x : First) → FirstFits x → FrameFits (byFirst rd va s x .found)
-  by-first s F.Fault h = tt
-  by-first s (F.Whole p) h = h
-  by-first s (F.Coarse t) h = after-second T.Coarse s (coarseAt t va) (rd (coarseAt t va)) (f (coarseAt t va))
-  by-first s (F.Fine t) h = after-second T.Fine s (fineAt t va) (rd (fineAt t va)) (f (fineAt t va))
+  by-first s First.Fault h = tt
+  by-first s (First.Whole p) h = h
+  by-first s (First.Coarse t) h = after-second Table.Coarse s (coarseAt t va) (rd (coarseAt t va)) (f (coarseAt t va))
+  by-first s (First.Fine t) h = after-second Table.Fine s (fineAt t va) (rd (fineAt t va)) (f (fineAt t va))
 
   after-first : (a : ℕ) (r : Read) → ReadFits r → FrameFits (afterFirst rd firstOf va a r .found)
-  after-first a R.Missing h = tt
-  after-first a (R.Word w p) h = by-first (sourceAt a p) (firstOf w) (first-fits w h)
+  after-first a Read.Missing h = tt
+  after-first a (Read.Word w p) h = by-first (sourceAt a p) (firstOf w) (first-fits w h)
 
   walk-from-fits : (a : ℕ) → FrameFits (walkFrom rd firstOf va a .found)
   unfolding walkFrom

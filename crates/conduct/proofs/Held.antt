@@ -6,15 +6,9 @@ use Prim.Native.Nat.{ℕ, _%_}
 use native.Mathlib.Omega.{arith}
 use lib.Dec.{eqb}
 use borrow.Author.Tests.{eq-eqb, ne-eqb}
-use Rattle.page.specs.declared.Access.the-variants.{Read}
-use Rattle.descriptors.specs.declared.Found.the-variants as D
 use Rattle.lanes.specs.Lanes.{lookedUp}
-use Rattle.lanes.specs.declared.Matched.the-variants as M
 use Rattle.registers.specs.Answers.{isRefusal, isPrefetch}
 use Rattle.registers.specs.Table.{listed, commandOf, valueAt}
-use Rattle.registers.specs.declared.Fault.the-variants as K
-use Rattle.registers.specs.declared.Pending.the-variants as P
-use Rattle.registers.specs.declared.Answer.the-variants as A
 use Rattle.registers.proofs.Offsets.{by-offset}
 use Rattle.decision.specs.Decisions.{settled}
 use Rattle.decision.specs.Prefetches.{pageAt, prefetchFound, prefetchMatched, prefetchDecided}
@@ -46,71 +40,71 @@ module _ (q : Asked) (s : Said) (n : saidMet s ≡ false) where
   -- where such an answer leaves what is pending, that is as said
   still : (before : Pending) → HeldBy q before before s
   still before = record {
-    fault = λ again va a k _ e. unmet (A.Fault k) refl e;
-    prefetched = λ va k _ e. unmet (A.Fault k) refl e;
-    address = λ x e. unmet (A.Address x) refl e;
+    fault = λ again va a k _ e. unmet (Answer.Fault k) refl e;
+    prefetched = λ va k _ e. unmet (Answer.Fault k) refl e;
+    address = λ x e. unmet (Answer.Address x) refl e;
     refused = λ _. refl;
   }
 
   -- and where it is no refusal, whatever it leaves
   quiet : saidRefused s ≡ false → (before after : Pending) → HeldBy q before after s
   quiet f before after = record {
-    fault = λ again va a k _ e. unmet (A.Fault k) refl e;
-    prefetched = λ va k _ e. unmet (A.Fault k) refl e;
-    address = λ x e. unmet (A.Address x) refl e;
+    fault = λ again va a k _ e. unmet (Answer.Fault k) refl e;
+    prefetched = λ va k _ e. unmet (Answer.Fault k) refl e;
+    address = λ x e. unmet (Answer.Address x) refl e;
     refused = λ h. absurd (true≢false (sym h ∙ f));
   }
 
 module _ (va : VirtualAddress) (a : Access) (q : Pending) where
-  settled-fault : (r : Answer) (k : Fault) → r ≡ A.Fault k → settled va a q r ≡ P.Held k va a
+  settled-fault : (r : Answer) (k : Fault) → r ≡ Answer.Fault k → settled va a q r ≡ Pending.Held k va a
   settled-fault r k e = ap (settled va a q) e
 
   settled-refused : (r : Answer) → isRefusal r ≡ true → settled va a q r ≡ q
-  settled-refused (A.Address x) h = absurd (false≢true h)
-  settled-refused (A.Fault k) h = absurd (false≢true h)
-  settled-refused (A.Value x) h = refl
-  settled-refused A.Done h = refl
-  settled-refused (A.Refused k) h = refl
+  settled-refused (Answer.Address x) h = absurd (false≢true h)
+  settled-refused (Answer.Fault k) h = absurd (false≢true h)
+  settled-refused (Answer.Value x) h = refl
+  settled-refused Answer.Done h = refl
+  settled-refused (Answer.Refused k) h = refl
 
   attempt-held : (again : Bool) (r : Answer) → HeldBy (attempt again va a) q (settled va a q r) (answered r)
   attempt-held again r = record {
-    fault = λ t x y k g e. by t x y k g (let z : r ≡ A.Fault k = cc in z);
+    fault = λ t x y k g e. by t x y k g (let z : r ≡ Answer.Fault k = cc in z);
     prefetched = λ x k g e. (cc, cc);
-    address = λ x e. ap (settled va a q) (let z : r ≡ A.Address x = cc in z);
+    address = λ x e. ap (settled va a q) (let z : r ≡ Answer.Address x = cc in z);
     refused = settled-refused r;
   }
     where
-      by : (t : Bool) (x : VirtualAddress) (y : Access) (k : Fault) → attempt again va a ≡ attempt t x y → r ≡ A.Fault k → settled va a q r ≡ P.Held k x y
+      by : (t : Bool) (x : VirtualAddress) (y : Access) (k : Fault) → attempt again va a ≡ attempt t x y → r ≡ Answer.Fault k → settled va a q r ≡ Pending.Held k x y
       by t x y k g e = settled-fault r k e ∙ (let u : va ≡ x = cc in let w : a ≡ y = cc in cc)
 
 -- a prefetch answers 24, or nothing
 abbrev Fetches : Answer → Type 0
-Fetches (A.Address x) = ⊥
-Fetches (A.Fault k) = k ≡ K.Prefetch
-Fetches (A.Value x) = Unit {0}
-Fetches A.Done = Unit {0}
-Fetches (A.Refused k) = Unit {0}
+Fetches (Answer.Address x) = ⊥
+Fetches (Answer.Fault k) = k ≡ Fault.Prefetch
+Fetches (Answer.Value x) = Unit {0}
+Fetches Answer.Done = Unit {0}
+Fetches (Answer.Refused k) = Unit {0}
 
 found-fetches : (va : VirtualAddress) (r : Reads) (f : Found) → Fetches (prefetchFound va r f .answer)
 unfolding prefetchFound
-found-fetches va r D.Missing = tt
-found-fetches va r D.NoPage = refl
-found-fetches va r (D.Page p) = tt
+found-fetches va r Found.Missing = tt
+found-fetches va r Found.NoPage = refl
+found-fetches va r (Found.Page p) = tt
 
 matched-fetches : (w : Walked) (va : VirtualAddress) (x : Matched) → Fetches (prefetchMatched w va x .answer)
-matched-fetches w va (M.At i) = tt
-matched-fetches w va M.Nothing = found-fetches va (w .reads) (w .found)
+matched-fetches w va (Matched.At i) = tt
+matched-fetches w va Matched.Nothing = found-fetches va (w .reads) (w .found)
 
 fetches : (w : Walked) (cam : List ℕ) (va : VirtualAddress) → Fetches (prefetchDecided w cam va .answer)
 unfolding prefetchDecided
 fetches w cam va = matched-fetches w va (lookedUp cam va)
 
-prefetch-held : (va : VirtualAddress) (q : Pending) (r : Answer) → Fetches r → HeldBy (prefetch va) q (settled va Read q r) (answered r)
-prefetch-held va q (A.Address x) f = absurd f
-prefetch-held va q (A.Value x) f = still (prefetch va) (answered (A.Value x)) refl q
-prefetch-held va q A.Done f = still (prefetch va) (answered A.Done) refl q
-prefetch-held va q (A.Refused k) f = still (prefetch va) (answered (A.Refused k)) refl q
-prefetch-held va q (A.Fault j) f = record {
+prefetch-held : (va : VirtualAddress) (q : Pending) (r : Answer) → Fetches r → HeldBy (prefetch va) q (settled va Access.Read q r) (answered r)
+prefetch-held va q (Answer.Address x) f = absurd f
+prefetch-held va q (Answer.Value x) f = still (prefetch va) (answered (Answer.Value x)) refl q
+prefetch-held va q Answer.Done f = still (prefetch va) (answered Answer.Done) refl q
+prefetch-held va q (Answer.Refused k) f = still (prefetch va) (answered (Answer.Refused k)) refl q
+prefetch-held va q (Answer.Fault j) f = record {
   fault = λ t x y k g e. cc;
   prefetched = λ x k g e. (let u : j ≡ k = cc in sym u ∙ f, let w : va ≡ x = cc in cc);
   address = λ x e. cc;
@@ -133,30 +127,30 @@ module _ (d : Device) where
   abbrev Tells : Told → Type 0
   Tells t = HeldBy nothing (d .pending) (t .device .pending) (answered (t .answer))
 
-  done : (x : Pending) → HeldBy nothing (d .pending) x (answered A.Done)
-  done x = quiet nothing (answered A.Done) refl refl (d .pending) x
+  done : (x : Pending) → HeldBy nothing (d .pending) x (answered Answer.Done)
+  done x = quiet nothing (answered Answer.Done) refl refl (d .pending) x
 
 pub fault-held : FaultHeld
 unfolding requestOf writeOf readOf dropOf
 fault-held m d b (request va a p) =
     refuses-by (refusedWith d b) (attemptOf m p b false d va a) (Holds d (attempt false va a)) (requestRefusals m p b d va)
-    (λ k. still (attempt false va a) (answered (A.Refused k)) refl (d .pending))
+    (λ k. still (attempt false va a) (answered (Answer.Refused k)) refl (d .pending))
     (λ _. attempt-held va a (d .pending) false (decidedBy (look m d va) d va a .answer))
 fault-held m d b (write o v p) =
     refuses-by (refusedWith d b) (carried m p b d (commandOf o v)) (Holds d (asked d (write o v p))) (writeRefusals m p b d o v)
-    (λ k. still (asked d (write o v p)) (answered (A.Refused k)) refl (d .pending))
+    (λ k. still (asked d (write o v p)) (answered (Answer.Refused k)) refl (d .pending))
     (write-by m p b d v (Holds d) (done d _) (done d _)
     (λ va a _. attempt-held va a (d .pending) true (decidedBy (look m d va) d va a .answer))
     (λ _. prefetch-held (pageAt v) (d .pending) _ (fetches (look m d (pageAt v)) (d .bank .cam) (pageAt v)))
     o (λ _ d′. done d (d′ .pending)))
 fault-held m d b (read o) =
     refuses-by (toldRefused d) (told d (valueAt o (d .registers) (d .bank .lock) (d .bank .victim) (d .pending))) (Tells d) (readRefusals d o)
-    (λ k. still nothing (answered (A.Refused k)) refl (d .pending))
+    (λ k. still nothing (answered (Answer.Refused k)) refl (d .pending))
     (λ c. still nothing (answered (valueAt o (d .registers) (d .bank .lock) (d .bank .victim) (d .pending))) (read-still d o c) (d .pending))
 fault-held m d b drop-fault =
-    refuses-by (toldRefused d) (told (cleared d) A.Done) (Tells d) (dropRefusals d)
-    (λ k. still nothing (answered (A.Refused k)) refl (d .pending))
-    (λ _. done d P.Nothing)
+    refuses-by (toldRefused d) (told (cleared d) Answer.Done) (Tells d) (dropRefusals d)
+    (λ k. still nothing (answered (Answer.Refused k)) refl (d .pending))
+    (λ _. done d Pending.Nothing)
 fault-held m d b (shift va) = still nothing (reported _) refl (d .pending)
 
 module _ (m : Lent) (p : Prices) (b : Bill) (d : Device) (v : ℕ) where
@@ -165,17 +159,17 @@ module _ (m : Lent) (p : Prices) (b : Bill) (d : Device) (v : ℕ) where
   unfolding commandOf listed pick
   acknowledge-bit t e = ap (λ (x : Bool). pick x (retried m p b d (d .pending)) (doneWith b d)) e
 
-  dropped-prefetch : (va : VirtualAddress) (a : Access) → d .pending ≡ P.Held K.Prefetch va a → v % 2 ≡ 1 → carried m p b d (commandOf acknowledgeAt v) ≡ doneWith b (cleared d)
+  dropped-prefetch : (va : VirtualAddress) (a : Access) → d .pending ≡ Pending.Held Fault.Prefetch va a → v % 2 ≡ 1 → carried m p b d (commandOf acknowledgeAt v) ≡ doneWith b (cleared d)
   dropped-prefetch va a e h =
-      acknowledge-bit true (eq-eqb (v % 2) 1 h) ∙ pick-yes true _ _ refl ∙ ap (retried m p b d) e ∙ pick-yes (isPrefetch K.Prefetch) _ _ refl
+      acknowledge-bit true (eq-eqb (v % 2) 1 h) ∙ pick-yes true _ _ refl ∙ ap (retried m p b d) e ∙ pick-yes (isPrefetch Fault.Prefetch) _ _ refl
 
   bit-clear : v % 2 ≡ 0 → carried m p b d (commandOf acknowledgeAt v) ≡ doneWith b d
   bit-clear h = acknowledge-bit false (ne-eqb (v % 2) 1 (λ q. omega (arith, q, h))) ∙ pick-no false _ _ refl
 
-  done-kept : (r : Answer) → answered r ≡ answered A.Done → settled (pageAt v) Read (d .pending) r ≡ d .pending
-  done-kept r e = ap (settled (pageAt v) Read (d .pending)) (let z : r ≡ A.Done = cc in z)
+  done-kept : (r : Answer) → answered r ≡ answered Answer.Done → settled (pageAt v) Access.Read (d .pending) r ≡ d .pending
+  done-kept r e = ap (settled (pageAt v) Access.Read (d .pending)) (let z : r ≡ Answer.Done = cc in z)
 
-  found-kept : (x : Outcome) → x ≡ carried m p b d (commandOf prefetchAt v) → answered (x .answer) ≡ answered A.Done → x .device .pending ≡ d .pending
+  found-kept : (x : Outcome) → x ≡ carried m p b d (commandOf prefetchAt v) → answered (x .answer) ≡ answered Answer.Done → x .device .pending ≡ d .pending
   unfolding commandOf listed pick
   found-kept x e h =
       ap (λ (y : Outcome). y .device .pending) e
@@ -185,7 +179,7 @@ pub fault-dropped : FaultDropped
 unfolding writeOf dropOf
 fault-dropped m d b = record {
   drop =
-      refuses-by (toldRefused d) (told (cleared d) A.Done) (λ (t : Told). isRefusal (t .answer) ≡ false → t .device .pending ≡ P.Nothing) (dropRefusals d)
+      refuses-by (toldRefused d) (told (cleared d) Answer.Done) (λ (t : Told). isRefusal (t .answer) ≡ false → t .device .pending ≡ Pending.Nothing) (dropRefusals d)
       (λ k h. absurd (true≢false h)) (λ _ _. refl);
   acknowledged = λ va a v p e h g.
       ap stepOut (accepted-write m p b d (λ (x : Outcome). x ≡ doneWith b (cleared d)) acknowledgeAt v (λ _. dropped-prefetch m p b d v va a e h) g);
@@ -194,6 +188,6 @@ fault-dropped m d b = record {
       (λ k. refl) (λ _. ap (λ (x : Outcome). x .device) (bit-clear m p b d v h));
   found = λ v p.
       refuses-by (refusedWith d b) (carried m p b d (commandOf prefetchAt v))
-      (λ (x : Outcome). answered (x .answer) ≡ answered A.Done → x .device .pending ≡ d .pending) (writeRefusals m p b d prefetchAt v)
+      (λ (x : Outcome). answered (x .answer) ≡ answered Answer.Done → x .device .pending ≡ d .pending) (writeRefusals m p b d prefetchAt v)
       (λ k _. refl) (λ _. found-kept m p b d v (carried m p b d (commandOf prefetchAt v)) refl);
 }

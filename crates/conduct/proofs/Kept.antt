@@ -9,13 +9,10 @@ use borrow.Author.Tests.{eq-eqb, eqb-false}
 use Rattle.page.specs.Pick.{pick, _and_, _or_}
 use Rattle.page.proofs.Picks.{pick-by}
 use Rattle.bank.specs.Changes.{entryFilled}
-use Rattle.bank.specs.declared.Fill.the-variants as F
 use Rattle.bank.proofs.Fills.{fill-lock}
 use Rattle.registers.specs.Table.{listed, controlCommand, lockCommand, loadCommand, whenBit, commandOf, valueAt}
-use Rattle.registers.specs.declared.Pending.the-variants as P
-use Rattle.registers.specs.declared.Answer.the-variants as A
-use Rattle.registers.specs.declared.Command.the-variants as C
-use Rattle.registers.specs.declared.Tending.the-variants.{Flush, FlushEntry}
+use Rattle.registers.specs.declared.Answer.{Answer}
+use Rattle.registers.specs.declared.Tending.{Tending}
 use Rattle.registers.proofs.Offsets.{by-offset}
 use Rattle.decision.specs.Prefetches.{pageAt, prefetchDecided}
 use Rattle.unit.specs.Refusals.{Clear}
@@ -29,8 +26,8 @@ use Rattle.conduct.specs.Kept.{isReset, WriteKeeps, Frames}
 
 -- no fill moves the lock base
 fill-lock-kept : (b : Bank) (f : Fill) → entryFilled b f .lock ≡ b .lock
-fill-lock-kept b F.Nothing = refl
-fill-lock-kept b (F.Slot w) = fill-lock b w
+fill-lock-kept b Fill.Nothing = refl
+fill-lock-kept b (Fill.Slot w) = fill-lock b w
 
 keeps-all : (o : ℕ) (d : Device) → WriteKeeps o d d
 keeps-all o d = record {
@@ -127,18 +124,18 @@ module _ (m : Lent) (p : Prices) (b : Bill) (d : Device) (v : ℕ) where
       keeps-bank acknowledgeAt d _ refl (λ n. absurd (true≢false n)) (λ n. absurd (true≢false n))
       (λ _. fill-lock-kept (d .bank) (decidedBy (look m d va) d va a .fill)) (λ n. absurd (true≢false n)) (λ n. absurd (true≢false n))
 
-  drop-keeps : Keeps acknowledgeAt (record { device = cleared d; bill = b; tally = carried m p b d C.Nothing .tally; answer = A.Done })
+  drop-keeps : Keeps acknowledgeAt (record { device = cleared d; bill = b; tally = carried m p b d Command.Nothing .tally; answer = Answer.Done })
   unfolding _or_
   drop-keeps = keeps-bank acknowledgeAt d _ refl (λ _ _ _ _. refl) (λ _ _. refl) (λ _. refl) (λ _ _. refl) (λ n. absurd (true≢false n))
 
   retry-keeps : (q : Pending) → Keeps acknowledgeAt (retried m p b d q)
-  retry-keeps P.Nothing = keeps-all acknowledgeAt d
-  retry-keeps (P.Held k va a) = pick-by (Keeps acknowledgeAt) _ _ _ (λ _. drop-keeps) (λ _. attempt-keeps va a)
+  retry-keeps Pending.Nothing = keeps-all acknowledgeAt d
+  retry-keeps (Pending.Held k va a) = pick-by (Keeps acknowledgeAt) _ _ _ (λ _. drop-keeps) (λ _. attempt-keeps va a)
 
-  acknowledge-keeps : (go : Bool) → Does acknowledgeAt (C.Acknowledge go)
+  acknowledge-keeps : (go : Bool) → Does acknowledgeAt (Command.Acknowledge go)
   acknowledge-keeps go = pick-by (Keeps acknowledgeAt) _ _ _ (λ _. retry-keeps (d .pending)) (λ _. keeps-all acknowledgeAt d)
 
-  prefetch-keeps : Does prefetchAt (C.Prefetch v)
+  prefetch-keeps : Does prefetchAt (Command.Prefetch v)
   unfolding _or_
   prefetch-keeps = record {
     control = λ _. refl;
@@ -184,14 +181,14 @@ module _ (m : Lent) (p : Prices) (b : Bill) (d : Device) (v : ℕ) where
       (λ _. keeps-set loadAt d _ refl refl (λ _. refl) (λ _. refl) (λ _. refl) refl (λ _. refl) (λ _. refl) (λ _. refl) (λ _. refl) (λ n. absurd (n refl)))
       (λ _. keeps-all loadAt d)))
 
-  flush-keeps : Does flushAt (whenBit v Flush)
+  flush-keeps : Does flushAt (whenBit v Tending.Flush)
   unfolding whenBit
   flush-keeps =
       pick-by (Does flushAt) _ _ _
       (λ _. keeps-bank flushAt d _ refl (λ _ _ n. absurd (n refl)) (λ _ _. refl) (λ _. refl) (λ _ _. refl) (λ _. refl))
       (λ _. keeps-all flushAt d)
 
-  entry-keeps : Does entryFlushAt (whenBit v FlushEntry)
+  entry-keeps : Does entryFlushAt (whenBit v Tending.FlushEntry)
   unfolding whenBit
   entry-keeps =
       pick-by (Does entryFlushAt) _ _ _
@@ -240,7 +237,7 @@ frames m d b = record {
       refuses-by (toldRefused d) (told d (valueAt o (d .registers) (d .bank .lock) (d .bank .victim) (d .pending))) (λ (t : Told). t .device ≡ d) (readRefusals d o)
       (λ k. refl) (λ _. refl);
   dropped =
-      refuses-by (toldRefused d) (told (cleared d) A.Done) (λ (t : Told). (t .device .registers ≡ d .registers) × (t .device .bank ≡ d .bank)) (dropRefusals d)
+      refuses-by (toldRefused d) (told (cleared d) Answer.Done) (λ (t : Told). (t .device .registers ≡ d .registers) × (t .device .bank ≡ d .bank)) (dropRefusals d)
       (λ k. (refl, refl)) (λ _. (refl, refl));
   shift = λ va. refl;
 }

@@ -3,11 +3,9 @@ use mathlib.Core.Path.{_≡_, refl, _∙_, ap}
 use mathlib.Core.Bool.{Bool, true, false, true≢false, false≢true}
 use Rattle.page.specs.Pick.{_and_}
 use Rattle.page.proofs.Picks.{and-left, and-right}
-use Rattle.descriptors.specs.Statements.{isMissing}
-use Rattle.descriptors.specs.declared.Found.the-variants as D
-use Rattle.bill.specs.declared.Seen.the-variants as S
+use Rattle.walk.specs.Distances.{isMissing}
+use Rattle.bill.specs.declared.Seen.{Seen}
 use Rattle.lanes.specs.Lanes.{lookedUp}
-use Rattle.lanes.specs.declared.Matched.the-variants as M
 use Rattle.registers.specs.Answers.{isRefusal}
 use Rattle.registers.specs.Fields.{isOn, isWalking}
 use Rattle.decision.specs.Prefetches.{prefetchFound, prefetchMatched, prefetchDecided}
@@ -22,50 +20,50 @@ use Rattle.conduct.proofs.Attempts.{Still, Does, does-still, does-walk}
 module _ (va : VirtualAddress) (r : Reads) where
   found-answers : (f : Found) → isMissing f ≡ false → isRefusal (prefetchFound va r f .answer) ≡ false
   unfolding prefetchFound
-  found-answers D.Missing h = absurd (true≢false h)
-  found-answers D.NoPage h = refl
-  found-answers (D.Page p) h = refl
+  found-answers Found.Missing h = absurd (true≢false h)
+  found-answers Found.NoPage h = refl
+  found-answers (Found.Page p) h = refl
 
   found-fill : (f : Found) → prefetchFound va r f .fill ≡ pageFill va f
   unfolding prefetchFound
-  found-fill D.Missing = refl
-  found-fill D.NoPage = refl
-  found-fill (D.Page p) = refl
+  found-fill Found.Missing = refl
+  found-fill Found.NoPage = refl
+  found-fill (Found.Page p) = refl
 
   found-reads : (f : Found) → isMissing f ≡ false → prefetchFound va r f .reads ≡ r
   unfolding prefetchFound
-  found-reads D.Missing h = absurd (true≢false h)
-  found-reads D.NoPage h = refl
-  found-reads (D.Page p) h = refl
+  found-reads Found.Missing h = absurd (true≢false h)
+  found-reads Found.NoPage h = refl
+  found-reads (Found.Page p) h = refl
 
-  found-seen : (f : Found) → prefetchFound va r f .seen ≡ S.Nothing
+  found-seen : (f : Found) → prefetchFound va r f .seen ≡ Seen.Nothing
   unfolding prefetchFound
-  found-seen D.Missing = refl
-  found-seen D.NoPage = refl
-  found-seen (D.Page p) = refl
+  found-seen Found.Missing = refl
+  found-seen Found.NoPage = refl
+  found-seen (Found.Page p) = refl
 
 module _ (w : Walked) (va : VirtualAddress) where
   matched-answers : (x : Matched) → (noMatch x and isMissing (w .found)) ≡ false → isRefusal (prefetchMatched w va x .answer) ≡ false
-  matched-answers (M.At i) h = refl
-  matched-answers M.Nothing h = found-answers va (w .reads) (w .found) (rest true _ refl h)
+  matched-answers (Matched.At i) h = refl
+  matched-answers Matched.Nothing h = found-answers va (w .reads) (w .found) (rest true _ refl h)
 
-  matched-seen : (x : Matched) → prefetchMatched w va x .seen ≡ S.Nothing
-  matched-seen (M.At i) = refl
-  matched-seen M.Nothing = found-seen va (w .reads) (w .found)
+  matched-seen : (x : Matched) → prefetchMatched w va x .seen ≡ Seen.Nothing
+  matched-seen (Matched.At i) = refl
+  matched-seen Matched.Nothing = found-seen va (w .reads) (w .found)
 
   matched-still : (x : Matched) → noMatch x ≡ false → Still (prefetchMatched w va x)
-  matched-still (M.At i) h = (refl, refl)
-  matched-still M.Nothing h = absurd (true≢false h)
+  matched-still (Matched.At i) h = (refl, refl)
+  matched-still Matched.Nothing h = absurd (true≢false h)
 
   matched-walks : (x : Matched) → noMatch x ≡ true → prefetchMatched w va x ≡ prefetchFound va (w .reads) (w .found)
-  matched-walks (M.At i) h = absurd (false≢true h)
-  matched-walks M.Nothing h = refl
+  matched-walks (Matched.At i) h = absurd (false≢true h)
+  matched-walks Matched.Nothing h = refl
 
 module _ (m : Lent) (d : Device) (va : VirtualAddress) where
   abbrev x : Decision
   x = prefetchDecided (look m d va) (d .bank .cam) va
 
-  pub prefetch-seen : x .seen ≡ S.Nothing
+  pub prefetch-seen : x .seen ≡ Seen.Nothing
   unfolding prefetchDecided
   prefetch-seen = matched-seen (look m d va) va (lookedUp (d .bank .cam) va)
 

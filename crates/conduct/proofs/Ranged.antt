@@ -6,20 +6,14 @@ use Prim.Native.Nat.{ℕ, _%_, _^_, _<_}
 use native.Mathlib.Omega.{arith}
 use borrow.Author.Tests.{lt-ltb, ltb-true, leb-false}
 use Rattle.page.specs.Pick.{_and_}
-use Rattle.page.specs.declared.Access.the-variants.{Read}
 use Rattle.page.proofs.Picks.{pick-by, and-yes, and-left, and-right}
-use Rattle.descriptors.specs.declared.Found.the-variants as D
 use Rattle.lanes.specs.Lanes.{allFrom, lookedUp}
 use Rattle.bank.specs.Slots.{bankOk}
-use Rattle.lanes.specs.declared.Matched.the-variants as M
 use Rattle.lanes.proofs.Ranges.{madeCam-ok, madeRam-ok}
 use Rattle.bank.proofs.Ranges.{fillOk, entry-ok}
 use Rattle.page.specs.Words.{limit}
 use Rattle.registers.specs.Fields.{registersOk, pendingOk}
 use Rattle.registers.specs.Table.{commandOf, valueAt}
-use Rattle.registers.specs.declared.Pending.the-variants as P
-use Rattle.registers.specs.declared.Answer.the-variants as A
-use Rattle.registers.specs.declared.Command.the-variants as C
 use Rattle.registers.proofs.Ranges.{registers-in-range, fresh-ok, withPrefetch-ok, set-ok, load-ok, copy-ok, tended-ok, CommandOk, command-ok}
 use Rattle.decision.specs.Decisions.{byFound, byMatched, decided, settled}
 use Rattle.decision.specs.Prefetches.{pageAt, prefetchFound, prefetchMatched, prefetchDecided, prefetchKept}
@@ -56,31 +50,31 @@ fresh-in-range = ranged freshDevice fresh-ok refl refl
 -- what a decision fills is in range where the page is
 page-ok : (f : Found) (va : VirtualAddress) → FrameFits f → va .0 < limit → (a : Access) (r : Reads) → fillOk (byFound va a r f .fill)
 unfolding byFound
-page-ok D.Missing va g l a r = tt
-page-ok D.NoPage va g l a r = tt
-page-ok (D.Page p) va g l a r = and-yes _ _ (madeCam-ok (p .kind) (va .0) l) ∙ madeRam-ok (p .kind) (p .frame .0) (p .access) g
+page-ok Found.Missing va g l a r = tt
+page-ok Found.NoPage va g l a r = tt
+page-ok (Found.Page p) va g l a r = and-yes _ _ (madeCam-ok (p .kind) (va .0) l) ∙ madeRam-ok (p .kind) (p .frame .0) (p .access) g
 
 prefetch-page-ok : (f : Found) (va : VirtualAddress) → FrameFits f → va .0 < limit → (r : Reads) → fillOk (prefetchFound va r f .fill)
 unfolding prefetchFound
-prefetch-page-ok D.Missing va g l r = tt
-prefetch-page-ok D.NoPage va g l r = tt
-prefetch-page-ok (D.Page p) va g l r = and-yes _ _ (madeCam-ok (p .kind) (va .0) l) ∙ madeRam-ok (p .kind) (p .frame .0) (p .access) g
+prefetch-page-ok Found.Missing va g l r = tt
+prefetch-page-ok Found.NoPage va g l r = tt
+prefetch-page-ok (Found.Page p) va g l r = and-yes _ _ (madeCam-ok (p .kind) (va .0) l) ∙ madeRam-ok (p .kind) (p .frame .0) (p .access) g
 
 module _ (w : Walked) (va : VirtualAddress) (g : FrameFits (w .found)) (l : va .0 < limit) where
   abbrev FillOk : Decision → Type 0
   FillOk x = fillOk (x .fill)
 
   matched-ok : (c : ℕ) (cam ram : List ℕ) (a : Access) (x : Matched) → FillOk (byMatched w c cam ram va a x)
-  matched-ok c cam ram a (M.At i) = tt
-  matched-ok c cam ram a M.Nothing = pick-by FillOk _ _ _ (λ _. page-ok (w .found) va g l a (w .reads)) (λ _. tt)
+  matched-ok c cam ram a (Matched.At i) = tt
+  matched-ok c cam ram a Matched.Nothing = pick-by FillOk _ _ _ (λ _. page-ok (w .found) va g l a (w .reads)) (λ _. tt)
 
   decided-ok : (c : ℕ) (cam ram : List ℕ) (a : Access) → FillOk (decided w c cam ram va a)
   unfolding decided
   decided-ok c cam ram a = pick-by FillOk _ _ _ (λ _. matched-ok c cam ram a (lookedUp cam va)) (λ _. tt)
 
   prefetch-matched-ok : (x : Matched) → FillOk (prefetchMatched w va x)
-  prefetch-matched-ok (M.At i) = tt
-  prefetch-matched-ok M.Nothing = prefetch-page-ok (w .found) va g l (w .reads)
+  prefetch-matched-ok (Matched.At i) = tt
+  prefetch-matched-ok Matched.Nothing = prefetch-page-ok (w .found) va g l (w .reads)
 
   prefetch-ok : (cam : List ℕ) → FillOk (prefetchDecided w cam va)
   unfolding prefetchDecided
@@ -88,18 +82,18 @@ module _ (w : Walked) (va : VirtualAddress) (g : FrameFits (w .found)) (l : va .
 
 -- a fault at an address in range is pending in range
 settled-ok : (va : VirtualAddress) (a : Access) (q : Pending) (r : Answer) → va .0 < limit → pendingOk q ≡ true → pendingOk (settled va a q r) ≡ true
-settled-ok va a q (A.Address x) l h = refl
-settled-ok va a q (A.Fault k) l h = lt-ltb (va .0) limit l
-settled-ok va a q (A.Value x) l h = h
-settled-ok va a q A.Done l h = h
-settled-ok va a q (A.Refused k) l h = h
+settled-ok va a q (Answer.Address x) l h = refl
+settled-ok va a q (Answer.Fault k) l h = lt-ltb (va .0) limit l
+settled-ok va a q (Answer.Value x) l h = h
+settled-ok va a q Answer.Done l h = h
+settled-ok va a q (Answer.Refused k) l h = h
 
 kept-ok : (v old : ℕ) (r : Answer) → v < 2 ^ 14 → old < 2 ^ 14 → prefetchKept v old r < 2 ^ 14
-kept-ok v old (A.Refused k) g h = h
-kept-ok v old (A.Address x) g h = g
-kept-ok v old (A.Fault k) g h = g
-kept-ok v old (A.Value x) g h = g
-kept-ok v old A.Done g h = g
+kept-ok v old (Answer.Refused k) g h = h
+kept-ok v old (Answer.Address x) g h = g
+kept-ok v old (Answer.Fault k) g h = g
+kept-ok v old (Answer.Value x) g h = g
+kept-ok v old Answer.Done g h = g
 
 page-at-lt : (v : ℕ) → pageAt v .0 < limit
 page-at-lt v = omega arith
@@ -127,23 +121,23 @@ module _ (m : Lent) (f : BytesFit m) (p : Prices) (b : Bill) (d : Device) (h : i
       let r = registers-in-range (d .registers) (registers-ok d h) in
       ranged _
       (withPrefetch-ok (d .registers) (registers-ok d h) _ (kept-ok (v % 2 ^ 14) (d .registers .prefetch) (x .answer) (omega arith) (r .prefetch)))
-      (settled-ok (pageAt v) Read (d .pending) (x .answer) l (pending-ok d h))
+      (settled-ok (pageAt v) Access.Read (d .pending) (x .answer) l (pending-ok d h))
       (entry-ok (d .bank) (bank-ok d h) (x .fill) (prefetch-ok (look m d (pageAt v)) (pageAt v) (walk-fits m f _ _) l (d .bank .cam)))
 
   retried-ok : (q : Pending) → pendingOk q ≡ true → Ranged (retried m p b d q)
-  retried-ok P.Nothing g = h
-  retried-ok (P.Held k va a) g = pick-by Ranged _ _ _ (λ _. cleared-ok) (λ _. attempt-ok true va a (ltb-true (va .0) limit g))
+  retried-ok Pending.Nothing g = h
+  retried-ok (Pending.Held k va a) g = pick-by Ranged _ _ _ (λ _. cleared-ok) (λ _. attempt-ok true va a (ltb-true (va .0) limit g))
 
   carried-ok : (c : Command) → CommandOk c → Ranged (carried m p b d c)
-  carried-ok (C.Refused k) g = h
-  carried-ok C.Nothing g = h
-  carried-ok C.Reset g = fresh-in-range
-  carried-ok (C.Set s) g = ranged _ (set-ok (d .registers) (registers-ok d h) s g) (pending-ok d h) (bank-ok d h)
-  carried-ok (C.Tend t) g = ranged _ (registers-ok d h) (pending-ok d h) (tended-ok (d .bank) (bank-ok d h) (d .registers .staged) t g)
-  carried-ok C.Load g = ranged _ (registers-ok d h) (pending-ok d h) (load-ok (d .bank) (bank-ok d h) (d .registers) (registers-ok d h))
-  carried-ok C.Copy g = ranged _ (copy-ok (d .bank) (bank-ok d h) (d .registers) (registers-ok d h)) (pending-ok d h) (bank-ok d h)
-  carried-ok (C.Prefetch v) g = prefetched-ok v
-  carried-ok (C.Acknowledge go) g = pick-by Ranged _ _ _ (λ _. retried-ok (d .pending) (pending-ok d h)) (λ _. h)
+  carried-ok (Command.Refused k) g = h
+  carried-ok Command.Nothing g = h
+  carried-ok Command.Reset g = fresh-in-range
+  carried-ok (Command.Set s) g = ranged _ (set-ok (d .registers) (registers-ok d h) s g) (pending-ok d h) (bank-ok d h)
+  carried-ok (Command.Tend t) g = ranged _ (registers-ok d h) (pending-ok d h) (tended-ok (d .bank) (bank-ok d h) (d .registers .staged) t g)
+  carried-ok Command.Load g = ranged _ (registers-ok d h) (pending-ok d h) (load-ok (d .bank) (bank-ok d h) (d .registers) (registers-ok d h))
+  carried-ok Command.Copy g = ranged _ (copy-ok (d .bank) (bank-ok d h) (d .registers) (registers-ok d h)) (pending-ok d h) (bank-ok d h)
+  carried-ok (Command.Prefetch v) g = prefetched-ok v
+  carried-ok (Command.Acknowledge go) g = pick-by Ranged _ _ _ (λ _. retried-ok (d .pending) (pending-ok d h)) (λ _. h)
 
 pub range-kept : RangeKept
 unfolding requestOf writeOf readOf dropOf
@@ -157,6 +151,6 @@ range-kept m d b (read o) f g h =
     refuses-by (toldRefused d) (told d (valueAt o (d .registers) (d .bank .lock) (d .bank .victim) (d .pending))) (λ (t : Told). inRange (t .device) ≡ true) (readRefusals d o)
     (λ k. h) (λ _. h)
 range-kept m d b drop-fault f g h =
-    refuses-by (toldRefused d) (told (cleared d) A.Done) (λ (t : Told). inRange (t .device) ≡ true) (dropRefusals d)
+    refuses-by (toldRefused d) (told (cleared d) Answer.Done) (λ (t : Told). inRange (t .device) ≡ true) (dropRefusals d)
     (λ k. h) (λ _. ranged _ (registers-ok d h) refl (bank-ok d h))
 range-kept m d b (shift va) f g h = h

@@ -5,14 +5,12 @@ use Prim.Native.Nat.{ℕ}
 use borrow.Author.Tests.{not-false}
 use Rattle.meters.specs.Posted.{noTally}
 use Rattle.page.specs.Pick.{pick}
-use Rattle.descriptors.specs.Statements.{isMissing}
-use Rattle.descriptors.specs.declared.Found.the-variants as D
+use Rattle.walk.specs.Distances.{isMissing}
 use Rattle.registers.specs.Answers.{isRefusal}
 use Rattle.registers.specs.Table.{listed, commandOf, valueAt}
 use Rattle.registers.proofs.Offsets.{by-offset}
-use Rattle.registers.specs.declared.Answer.the-variants as A
+use Rattle.registers.specs.declared.Answer.{Answer}
 use Rattle.decision.specs.Prefetches.{pageAt, shiftBy}
-use Rattle.decision.specs.declared.Shift.the-variants as H
 use Rattle.unit.specs.Refusals.{Refusals, refuses, First, Clear}
 use Rattle.unit.specs.Device.{inRange, look, cleared, told, toldRefused, refusedWith, decidedBy, attemptOf}
 use Rattle.unit.specs.Calls.{lacks, requestRefusals, requestOf, writeRefusals, carried, writeOf, readRefusals, readOf, dropRefusals, dropOf, shiftRefusals, shiftOf}
@@ -47,9 +45,9 @@ read-answers d =
     (λ o e c. absurd (true≢false (sym e ∙ c .1 .0)))
 
 shift-answers : (va : VirtualAddress) (f : Found) → isMissing f ≡ false → shiftRefused (shiftBy va f) ≡ false
-shift-answers va D.Missing h = absurd (true≢false h)
-shift-answers va D.NoPage h = refl
-shift-answers va (D.Page p) h = refl
+shift-answers va Found.Missing h = absurd (true≢false h)
+shift-answers va Found.NoPage h = refl
+shift-answers va (Found.Page p) h = refl
 
 module _ (d : Device) (b : Bill) where
   -- a step is refused with the first of its refusals, and then changes nothing
@@ -88,10 +86,10 @@ settled m d b (read o) =
     settles d b (stepTold b) (toldRefused d) (told d (valueAt o (d .registers) (d .bank .lock) (d .bank .victim) (d .pending))) (readRefusals d o)
     (λ k. (refl, refl)) (λ k. same d b _ refl refl refl) (read-answers d o)
 settled m d b drop-fault =
-    settles d b (stepTold b) (toldRefused d) (told (cleared d) A.Done) (dropRefusals d)
+    settles d b (stepTold b) (toldRefused d) (told (cleared d) Answer.Done) (dropRefusals d)
     (λ k. (refl, refl)) (λ k. same d b _ refl refl refl) (λ _. refl)
 settled m d b (shift va) =
-    settles d b (saidShift d b) H.Refused (shiftBy va (look m d va .found)) (shiftRefusals m d va)
+    settles d b (saidShift d b) Shift.Refused (shiftBy va (look m d va .found)) (shiftRefusals m d va)
     (λ k. (refl, refl)) (λ k. same d b _ refl refl refl) (λ c. shift-answers va (look m d va .found) (c .1 .1 .1 .0))
 
 pub exactly-when : ExactlyWhen

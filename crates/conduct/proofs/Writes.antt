@@ -7,14 +7,11 @@ use lib.Dec.{eqb, leb}
 use borrow.Author.Tests.{eqb-false, leb-false, lt-ltb, not-false}
 use Rattle.page.specs.Pick.{pick, _and_, _or_}
 use Rattle.page.proofs.Picks.{pick-yes, pick-by, and-yes, and-left, and-right}
-use Rattle.descriptors.specs.Statements.{isMissing}
+use Rattle.walk.specs.Distances.{isMissing}
 use Rattle.lanes.specs.Lanes.{slots, lookedUp}
 use Rattle.registers.specs.Answers.{isPrefetch}
 use Rattle.registers.specs.Fields.{isOn, isWalking}
 use Rattle.registers.specs.Table.{listed, controlCommand, lockCommand, loadCommand, whenBit, commandOf}
-use Rattle.registers.specs.declared.Pending.the-variants.{Nothing, Held}
-use Rattle.registers.specs.declared.Command.the-variants as C
-use Rattle.registers.specs.declared.Tending.the-variants.{Flush, FlushEntry}
 use Rattle.registers.proofs.Offsets.{by-offset}
 use Rattle.decision.specs.Prefetches.{pageAt}
 use Rattle.unit.specs.Refusals.{Clear}
@@ -31,14 +28,14 @@ module _ (m : Lent) (p : Prices) (b : Bill) (d : Device) (v : ℕ) (P : Asked �
       (stays : P nothing (doneWith b d))
       (drops : P nothing (doneWith b (cleared d)))
       (retries : (va : VirtualAddress) (a : Access) → lacks m d va ≡ false → P (attempt true va a) (attemptOf m p b true d va a)) where
-    held-by : (k : Fault) (va : VirtualAddress) (a : Access) → retryLacks m d (Held k va a) ≡ false → P (retryAsked (Held k va a)) (heldRetried m p b d k va a)
+    held-by : (k : Fault) (va : VirtualAddress) (a : Access) → retryLacks m d (Pending.Held k va a) ≡ false → P (retryAsked (Pending.Held k va a)) (heldRetried m p b d k va a)
     held-by k va a h = pick-both P _ _ _ _ _ (λ _. drops) (λ e. retries va a (rest (not (isPrefetch k)) _ (ap not e) h))
 
     retry-by : (q : Pending) → retryLacks m d q ≡ false → P (retryAsked q) (retried m p b d q)
-    retry-by Nothing h = stays
-    retry-by (Held k va a) h = held-by k va a h
+    retry-by Pending.Nothing h = stays
+    retry-by (Pending.Held k va a) h = held-by k va a h
 
-    acknowledge-by : writeLacks m d acknowledgeAt v ≡ false → P (writeAsked (d .pending) acknowledgeAt v) (carried m p b d (C.Acknowledge (eqb (v % 2) 1)))
+    acknowledge-by : writeLacks m d acknowledgeAt v ≡ false → P (writeAsked (d .pending) acknowledgeAt v) (carried m p b d (Command.Acknowledge (eqb (v % 2) 1)))
     unfolding writeAsked writeLacks pick _and_ _or_
     acknowledge-by h = pick-both P (eqb (v % 2) 1) _ _ _ _ (λ e. retry-by (d .pending) (rest _ _ e h)) (λ _. stays)
 
@@ -105,8 +102,8 @@ module _ (m : Lent) (p : Prices) (b : Bill) (d : Device) (v : ℕ) (P : Asked �
       (λ s c. s refl _)
       (λ s c. s refl _)
       (λ s c. s refl _)
-      (λ s c. bit-by (s refl) Flush)
-      (λ s c. bit-by (s refl) FlushEntry)
+      (λ s c. bit-by (s refl) Tending.Flush)
+      (λ s c. bit-by (s refl) Tending.FlushEntry)
       (λ s. read-only 0x44 refl)
       (λ s. read-only 0x48 refl)
       (λ s. read-only 0x4c refl)

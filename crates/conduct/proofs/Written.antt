@@ -15,9 +15,7 @@ use Rattle.bank.proofs.Ranges.{in-range}
 use Rattle.registers.specs.Answers.{isRefusal}
 use Rattle.registers.specs.Fields.{registersOk, pendingOk, wordsOf, entryOf}
 use Rattle.registers.specs.Table.{listed, noRegister, controlCommand, lockCommand, loadCommand, commandOf, valueAt}
-use Rattle.registers.specs.declared.Answer.the-variants as A
-use Rattle.registers.specs.declared.Command.the-variants as C
-use Rattle.registers.specs.declared.Setting.the-variants.{Control}
+use Rattle.registers.specs.declared.Setting.{Setting}
 use Rattle.registers.proofs.Offsets.{by-offset}
 use Rattle.registers.proofs.Ranges.{registers-in-range, entry-words}
 use Rattle.decision.specs.Prefetches.{pageAt, prefetchDecided, prefetchKept}
@@ -44,11 +42,11 @@ shown d o = valueAt o (d .registers) (d .bank .lock) (d .bank .victim) (d .pendi
 
 -- a prefetch that is not refused is kept
 kept-is : (v old : ℕ) (r : Answer) → isRefusal r ≡ false → prefetchKept v old r ≡ v
-kept-is v old (A.Address x) h = refl
-kept-is v old (A.Fault k) h = refl
-kept-is v old (A.Value x) h = refl
-kept-is v old A.Done h = refl
-kept-is v old (A.Refused k) h = absurd (true≢false h)
+kept-is v old (Answer.Address x) h = refl
+kept-is v old (Answer.Fault k) h = refl
+kept-is v old (Answer.Value x) h = refl
+kept-is v old Answer.Done h = refl
+kept-is v old (Answer.Refused k) h = absurd (true≢false h)
 
 -- the lock register and the halves of the base
 lock-bits : (v : ℕ) → v < 2 ^ 16 → v / 1024 % 64 * 1024 + v / 16 % 64 % 64 * 16 ≡ v / 16 * 16
@@ -62,43 +60,43 @@ low-bits b v h = omega arith
 
 module _ (m : Lent) (p : Prices) (b : Bill) (d : Device) (v : ℕ) where
   abbrev Shows : ℕ → Type 0
-  Shows o = Clear (writeRefusals m p b d o v) → o ≢ acknowledgeAt → shown (carried m p b d (commandOf o v) .device) o ≡ A.Value (keptBits o v)
+  Shows o = Clear (writeRefusals m p b d o v) → o ≢ acknowledgeAt → shown (carried m p b d (commandOf o v) .device) o ≡ Answer.Value (keptBits o v)
 
-  set-shows : (n : ℕ) → shown (carried m p b d (C.Set (Control n)) .device) controlAt ≡ A.Value n
+  set-shows : (n : ℕ) → shown (carried m p b d (Command.Set (Setting.Control n)) .device) controlAt ≡ Answer.Value n
   unfolding valueAt listed pick
   set-shows n = refl
 
-  fresh-shows : shown freshDevice controlAt ≡ A.Value 0
+  fresh-shows : shown freshDevice controlAt ≡ Answer.Value 0
   unfolding valueAt listed pick
   fresh-shows = refl
 
-  control-shows : shown (carried m p b d (controlCommand v) .device) controlAt ≡ A.Value (pick (eqb (v % 2) 1) (v / 32 % 2 * 32 + v % 8) 0)
+  control-shows : shown (carried m p b d (controlCommand v) .device) controlAt ≡ Answer.Value (pick (eqb (v % 2) 1) (v / 32 % 2 * 32 + v % 8) 0)
   unfolding controlCommand
   control-shows =
-      pick-both (λ (c : Command) (n : ℕ). shown (carried m p b d c .device) controlAt ≡ A.Value n) _ _ _ _ _ (λ _. set-shows (v / 32 % 2 * 32 + v % 8)) (λ _. fresh-shows)
+      pick-both (λ (c : Command) (n : ℕ). shown (carried m p b d c .device) controlAt ≡ Answer.Value n) _ _ _ _ _ (λ _. set-shows (v / 32 % 2 * 32 + v % 8)) (λ _. fresh-shows)
 
-  lock-shows : v < 2 ^ 16 → isMalformed lockAt v ≡ false → shown (carried m p b d (lockCommand v) .device) lockAt ≡ A.Value (v / 16 * 16)
+  lock-shows : v < 2 ^ 16 → isMalformed lockAt v ≡ false → shown (carried m p b d (lockCommand v) .device) lockAt ≡ Answer.Value (v / 16 * 16)
   unfolding isMalformed lockCommand valueAt listed pick _and_ _or_
   lock-shows fit h =
       let e = either-left (leb slots (v / 1024) or leb slots (v / 16 % 64)) false h in
       let l = lt-ltb (v / 1024) slots (leb-false slots (v / 1024) (either-left _ _ e)) in
       let r = lt-ltb (v / 16 % 64) slots (leb-false slots (v / 16 % 64) (either-right (leb slots (v / 1024)) _ e)) in
-      subst (λ (c : Command). shown (carried m p b d c .device) lockAt ≡ A.Value (v / 16 * 16)) (sym (pick-yes _ _ _ (and-yes _ _ l ∙ r)))
-      (ap A.Value (lock-bits v fit))
+      subst (λ (c : Command). shown (carried m p b d c .device) lockAt ≡ Answer.Value (v / 16 * 16)) (sym (pick-yes _ _ _ (and-yes _ _ l ∙ r)))
+      (ap Answer.Value (lock-bits v fit))
 
   shows : v < 2 ^ 16 → (o : ℕ) → Shows o
   unfolding commandOf keptBits valueAt listed pick _or_
   shows fit =
       by-offset Shows
-      (λ c _. ap A.Value (kept-is (v % 2 ^ 14) (d .registers .prefetch) (prefetchDecided (look m d (pageAt v)) (d .bank .cam) (pageAt v) .answer) (prefetch-answers m d (pageAt v) (prefetch-there m p b d v c))))
+      (λ c _. ap Answer.Value (kept-is (v % 2 ^ 14) (d .registers .prefetch) (prefetchDecided (look m d (pageAt v)) (d .bank .cam) (pageAt v) .answer) (prefetch-answers m d (pageAt v) (prefetch-there m p b d v c))))
       (λ c. absurd (true≢false (c .1 .1 .0)))
       (λ c _. control-shows)
       (λ c. absurd (true≢false (c .1 .1 .0)))
       (λ c. absurd (true≢false (c .1 .1 .0)))
       (λ c. absurd (true≢false (c .1 .1 .0)))
       (λ c n. absurd (n refl))
-      (λ c _. ap A.Value (high-bits (d .registers .base .0) v))
-      (λ c _. ap A.Value (low-bits (d .registers .base .0) v fit))
+      (λ c _. ap Answer.Value (high-bits (d .registers .base .0) v))
+      (λ c _. ap Answer.Value (low-bits (d .registers .base .0) v fit))
       (λ c _. lock-shows fit (c .1 .1 .1 .1 .1 .0))
       (λ c _. refl)
       (λ c _. refl)
@@ -114,7 +112,7 @@ module _ (m : Lent) (p : Prices) (b : Bill) (d : Device) (v : ℕ) where
       (λ o e c. absurd (true≢false (sym e ∙ c .1 .0)))
 
 -- a read of a register that was just written goes past its refusals
-reads-back : (d : Device) (o v : ℕ) → inRange d ≡ true → noRegister o ≡ false → o ≢ acknowledgeAt → shown d o ≡ A.Value v → readOf d o .answer ≡ A.Value v
+reads-back : (d : Device) (o v : ℕ) → inRange d ≡ true → noRegister o ≡ false → o ≢ acknowledgeAt → shown d o ≡ Answer.Value v → readOf d o .answer ≡ Answer.Value v
 unfolding readOf
 reads-back d o v h n k e =
     ap (λ t. t .answer) (clear-goes-on (toldRefused d) (told d (shown d o)) (readRefusals d o) (ap not h, (n, (ne-eqb o acknowledgeAt k, tt)))) ∙ e
@@ -124,21 +122,21 @@ read-back m d b b′ o v p bytes fit n a =
     ap answered
     (reads-back (writeOf m p b d o v .device) o (keptBits o v)
     (range-kept m d b (write o v p) bytes fit (accepted-in-range m d b (write o v p) a)) (accepted-when m d b (write o v p) .0 a .1 .0) n
-    (accepted-write m p b d (λ (x : Outcome). shown (x .device) o ≡ A.Value (keptBits o v)) o v (λ c. shows m p b d v fit o c n) a))
+    (accepted-write m p b d (λ (x : Outcome). shown (x .device) o ≡ Answer.Value (keptBits o v)) o v (λ c. shows m p b d v fit o c n) a))
 
 -- a register shows its part of the device
 lock-whole : (lock victim : ℕ) → lock < slots → victim < slots → lock % 64 * 1024 + victim % 64 * 16 ≡ lock * 1024 + victim * 16
 lock-whole lock victim l v = omega arith
 
-is-shown : (d : Device) → inRange d ≡ true → (o : ℕ) → Clear (readRefusals d o) → shown d o ≡ A.Value (shownOf d o)
+is-shown : (d : Device) → inRange d ≡ true → (o : ℕ) → Clear (readRefusals d o) → shown d o ≡ Answer.Value (shownOf d o)
 unfolding inRange valueAt shownOf listed pick
 is-shown d h =
     let k = in-range (d .bank) (and-right (pendingOk (d .pending)) _ (and-right (registersOk (d .registers)) _ h)) in
-    by-offset (λ (o : ℕ). Clear (readRefusals d o) → shown d o ≡ A.Value (shownOf d o))
+    by-offset (λ (o : ℕ). Clear (readRefusals d o) → shown d o ≡ Answer.Value (shownOf d o))
     (λ _. refl) (λ _. refl) (λ _. refl) (λ _. refl) (λ _. refl) (λ _. refl)
     (λ c. absurd (true≢false (c .1 .1 .0)))
     (λ _. refl) (λ _. refl)
-    (λ _. ap A.Value (lock-whole (d .bank .lock) (d .bank .victim) (k .lock) (k .victim)))
+    (λ _. ap Answer.Value (lock-whole (d .bank .lock) (d .bank .victim) (k .lock) (k .victim)))
     (λ _. refl) (λ _. refl) (λ _. refl) (λ _. refl) (λ _. refl) (λ _. refl)
     (λ _. refl) (λ _. refl) (λ _. refl) (λ _. refl) (λ _. refl)
     (λ o e c. absurd (true≢false (sym e ∙ c .1 .0)))
@@ -146,7 +144,7 @@ is-shown d h =
 pub read-shown : ReadShown
 unfolding readOf
 read-shown m d b o =
-    refuses-by (toldRefused d) (told d (shown d o)) (λ (t : Told). isRefusal (t .answer) ≡ false → answered (t .answer) ≡ answered (A.Value (shownOf d o))) (readRefusals d o)
+    refuses-by (toldRefused d) (told d (shown d o)) (λ (t : Told). isRefusal (t .answer) ≡ false → answered (t .answer) ≡ answered (Answer.Value (shownOf d o))) (readRefusals d o)
     (λ k r. absurd (true≢false r)) (λ c _. ap answered (is-shown d (not-false _ (c .0)) o c))
 
 -- reset
@@ -155,11 +153,11 @@ module _ (m : Lent) (d : Device) (b : Bill) (p : Prices) (v : ℕ) (h : inRange 
   unfolding noRegister isMalformed isUntimely writeLacks _and_ _or_
   control-clear = (ap not h, (refl, (refl, (refl, (refl, (refl, (refl, (refl, (refl, tt)))))))))
 
-  reset-command : commandOf controlAt v ≡ C.Reset
+  reset-command : commandOf controlAt v ≡ Command.Reset
   unfolding commandOf listed pick controlCommand
   reset-command = pick-no (eqb (v % 2) 1) _ _ (ne-eqb (v % 2) 1 (λ q. omega (arith, q, e)))
 
-  reset-write : writeOf m p b d controlAt v ≡ carried m p b d C.Reset
+  reset-write : writeOf m p b d controlAt v ≡ carried m p b d Command.Reset
   unfolding writeOf
   reset-write =
       clear-goes-on (refusedWith d b) (carried m p b d (commandOf controlAt v)) (writeRefusals m p b d controlAt v) control-clear
@@ -171,7 +169,7 @@ reset-fresh m d b p v h e =
 
 -- load and copy
 module _ (m : Lent) (d : Device) (b : Bill) (p : Prices) (v : ℕ) where
-  none-command : v % 4 ≡ 0 → commandOf loadAt v ≡ C.Nothing
+  none-command : v % 4 ≡ 0 → commandOf loadAt v ≡ Command.Nothing
   unfolding commandOf listed pick loadCommand
   none-command e = pick-yes (eqb (v % 4) 0) _ _ (eq-eqb (v % 4) 0 e)
 
@@ -181,11 +179,11 @@ module _ (m : Lent) (d : Device) (b : Bill) (p : Prices) (v : ℕ) where
       refuses-by (refusedWith d b) (carried m p b d (commandOf loadAt v)) (λ (x : Outcome). x .device ≡ d) (writeRefusals m p b d loadAt v)
       (λ k. refl) (λ _. ap (λ (c : Command). carried m p b d c .device) (none-command e))
 
-  load-command : v % 4 ≡ 1 → commandOf loadAt v ≡ C.Load
+  load-command : v % 4 ≡ 1 → commandOf loadAt v ≡ Command.Load
   unfolding commandOf listed pick loadCommand
   load-command e = pick-no (eqb (v % 4) 0) _ _ (ne-eqb (v % 4) 0 (λ q. omega (arith, q, e))) ∙ pick-yes (eqb (v % 4) 1) _ _ (eq-eqb (v % 4) 1 e)
 
-  copy-command : v % 4 ≡ 2 → commandOf loadAt v ≡ C.Copy
+  copy-command : v % 4 ≡ 2 → commandOf loadAt v ≡ Command.Copy
   unfolding commandOf listed pick loadCommand
   copy-command e =
       pick-no (eqb (v % 4) 0) _ _ (ne-eqb (v % 4) 0 (λ q. omega (arith, q, e)))

@@ -4,14 +4,12 @@ use Rattle.page.specs.Ground.{ℕ, _%_, _<_, _≡_, Bool, true, false, List, []
 use Rattle.page.specs.Words.{limit, physical, permits, wordAccess, wordMatches, wordAddress}
 use mathlib.Core.Logic.{_≢_}
 use lib.IntN.{ℤ}
-use Rattle.descriptors.specs.Descriptors.{physicalOf, distanceOf, foundNumber}
-use Rattle.descriptors.specs.declared.Found.the-variants as D
+use Rattle.walk.specs.Descriptors.{physicalOf, distanceOf, foundNumber}
 use Rattle.lanes.specs.Lanes.{slots}
 use Rattle.registers.specs.Answers.{isPrefetch}
 use Rattle.registers.specs.Fields.{isOn, isWalking}
-use Rattle.registers.specs.declared.Fault.the-variants as K
-use Rattle.registers.specs.declared.Pending.the-variants as P
-use Rattle.registers.specs.declared.Answer.the-variants as A
+use Rattle.registers.specs.declared.Pending.{Pending}
+use Rattle.registers.specs.declared.Answer.{Answer}
 use Rattle.decision.specs.Prefetches.{pageAt, shiftNumber, shiftValues}
 use Rattle.unit.specs.Offsets.{prefetchAt, acknowledgeAt}
 use Rattle.unit.specs.Device.{inRange, look}
@@ -31,11 +29,11 @@ abbrev pub OneAcknowledgement : Type 0
 OneAcknowledgement =
     (m : Lent) (d : Device) (b : Bill) (p : Prices) (v : ℕ) (k : Fault) (va : VirtualAddress) (a : Access) (i : ℕ)
     → isOn (d .registers .control) ≡ true
-    → d .pending ≡ P.Held k va a → isPrefetch k ≡ false
+    → d .pending ≡ Pending.Held k va a → isPrefetch k ≡ false
     → LowestMatch d va i → permits (wordAccess (getD (d .bank .ram) i 0)) a ≡ true
     → v % 2 ≡ 1 → Accepted m d b (write acknowledgeAt v p)
-    → (step m d b (write acknowledgeAt v p) .said ≡ answered (A.Address (wordAddress (getD (d .bank .cam) i 0) (getD (d .bank .ram) i 0) va)))
-    × (step m d b (write acknowledgeAt v p) .device .pending ≡ P.Nothing)
+    → (step m d b (write acknowledgeAt v p) .said ≡ answered (Answer.Address (wordAddress (getD (d .bank .cam) i 0) (getD (d .bank .ram) i 0) va)))
+    × (step m d b (write acknowledgeAt v p) .device .pending ≡ Pending.Nothing)
 
 -- with the unit off a request or a retry that is not refused answers physical = virtual, reads no word, is not smoothed, and
 -- leaves nothing pending
@@ -43,8 +41,8 @@ abbrev pub OffIsVirtual : Type 0
 OffIsVirtual =
     (m : Lent) (d : Device) (b : Bill) (c : Call) (again : Bool) (va : VirtualAddress) (a : Access)
     → isOn (d .registers .control) ≡ false → asked d c ≡ attempt again va a → Accepted m d b c
-    → (step m d b c .said ≡ answered (A.Address (physical (va .0)))) × (step m d b c .tally .words ≡ 0) × (step m d b c .bill ≡ b)
-    × (step m d b c .device .pending ≡ P.Nothing)
+    → (step m d b c .said ≡ answered (Answer.Address (physical (va .0)))) × (step m d b c .tally .words ≡ 0) × (step m d b c .bill ≡ b)
+    × (step m d b c .device .pending ≡ Pending.Nothing)
 
 -- no slot matches an address
 abbrev pub NoSlot : Device → VirtualAddress → Type 0
@@ -54,21 +52,21 @@ NoSlot d va = (j : ℕ) → j < slots → wordMatches (getD (d .bank .cam) j 0) 
 pub record MatchAnswers (d : Device) (va : VirtualAddress) (a : Access) (i : ℕ) (s : Said) : Type 0 where
   pub byte :
       permits (wordAccess (getD (d .bank .ram) i 0)) a ≡ true
-      → s ≡ answered (A.Address (wordAddress (getD (d .bank .cam) i 0) (getD (d .bank .ram) i 0) va))
-  pub refused : permits (wordAccess (getD (d .bank .ram) i 0)) a ≡ false → s ≡ answered (A.Fault K.Permission)
+      → s ≡ answered (Answer.Address (wordAddress (getD (d .bank .cam) i 0) (getD (d .bank .ram) i 0) va))
+  pub refused : permits (wordAccess (getD (d .bank .ram) i 0)) a ≡ false → s ≡ answered (Answer.Fault Fault.Permission)
 
 -- on no match with walking what the plain walk finds: the page's byte, 23, or 21 (where it needs a word that is in neither memory,
 -- the call is refused 3)
 pub record WalkAnswers (f : Found) (va : VirtualAddress) (a : Access) (s : Said) : Type 0 where
-  pub byte : (g : Page) → f ≡ D.Page g → permits (g .access) a ≡ true → s ≡ answered (A.Address (physicalOf g va))
-  pub refused : (g : Page) → f ≡ D.Page g → permits (g .access) a ≡ false → s ≡ answered (A.Fault K.Permission)
-  pub none : f ≡ D.NoPage → s ≡ answered (A.Fault K.Translation)
-  pub there : f ≢ D.Missing
+  pub byte : (g : Page) → f ≡ Found.Page g → permits (g .access) a ≡ true → s ≡ answered (Answer.Address (physicalOf g va))
+  pub refused : (g : Page) → f ≡ Found.Page g → permits (g .access) a ≡ false → s ≡ answered (Answer.Fault Fault.Permission)
+  pub none : f ≡ Found.NoPage → s ≡ answered (Answer.Fault Fault.Translation)
+  pub there : f ≢ Found.Missing
 
 -- what a request or a retry that is not refused answers while the unit is on
 pub record OnAnswers (m : Lent) (d : Device) (va : VirtualAddress) (a : Access) (s : Said) : Type 0 where
   pub match : (i : ℕ) → LowestMatch d va i → MatchAnswers d va a i s
-  pub miss : NoSlot d va → isWalking (d .registers .control) ≡ false → s ≡ answered (A.Fault K.Miss)
+  pub miss : NoSlot d va → isWalking (d .registers .control) ≡ false → s ≡ answered (Answer.Fault Fault.Miss)
   pub walk : NoSlot d va → isWalking (d .registers .control) ≡ true → WalkAnswers (look m d va .found) va a s
 
 abbrev pub AnswersOn : Type 0
@@ -79,13 +77,13 @@ AnswersOn =
 
 -- accepted, with nothing to say
 abbrev pub done : Said
-done = answered A.Done
+done = answered Answer.Done
 
 -- a prefetch that is not refused says nothing on a match and where its walk finds a page, whatever its access, and 24 where it finds none
 pub record PrefetchAnswers (m : Lent) (d : Device) (va : VirtualAddress) (s : Said) : Type 0 where
   pub match : (i : ℕ) → LowestMatch d va i → s ≡ done
-  pub page : (g : Page) → NoSlot d va → look m d va .found ≡ D.Page g → s ≡ done
-  pub none : NoSlot d va → look m d va .found ≡ D.NoPage → s ≡ answered (A.Fault K.Prefetch)
+  pub page : (g : Page) → NoSlot d va → look m d va .found ≡ Found.Page g → s ≡ done
+  pub none : NoSlot d va → look m d va .found ≡ Found.NoPage → s ≡ answered (Answer.Fault Fault.Prefetch)
 
 abbrev pub PrefetchAnswered : Type 0
 PrefetchAnswered =
@@ -94,9 +92,9 @@ PrefetchAnswered =
 
 -- the distance to what is found
 abbrev pub distances : VirtualAddress → Found → List ℤ
-distances va (D.Page g) = distanceOf (physicalOf g va) va ∷ []
-distances va D.NoPage = []
-distances va D.Missing = []
+distances va (Found.Page g) = distanceOf (physicalOf g va) va ∷ []
+distances va Found.NoPage = []
+distances va Found.Missing = []
 
 -- a shift report tells the number of what the plain walk finds, 0, 21 or 3, and beside it the distance to a page
 pub record ShiftTells (va : VirtualAddress) (f : Found) (s : Shift) : Type 0 where

@@ -1,11 +1,9 @@
 -- What a call asks of the slots, and what the plain walk gives for it (01, "The unit", "The walk", "Registers").
 use Rattle.page.specs.Ground.{ℕ, _%_, _≡_, Bool, true, false, eqb}
 use Rattle.page.specs.Pick.{pick, _and_}
-use Rattle.memory.specs.declared.Reads.the-variants as R
 use Rattle.lanes.specs.Lanes.{lookedUp}
 use Rattle.registers.specs.Answers.{isPrefetch}
 use Rattle.registers.specs.Fields.{isOn, isWalking}
-use Rattle.registers.specs.declared.Pending.the-variants.{Nothing, Held}
 use Rattle.decision.specs.Prefetches.{pageAt}
 use Rattle.unit.specs.Device.{look}
 use Rattle.unit.specs.Offsets.{prefetchAt, acknowledgeAt}
@@ -21,8 +19,8 @@ pub data Asked : Type 0 where
 
 -- an acknowledgement retries the pending request as it was; a pending prefetch is only dropped
 abbrev pub retryAsked : Pending → Asked
-retryAsked Nothing = nothing
-retryAsked (Held k va a) = pick (isPrefetch k) nothing (attempt true va a)
+retryAsked Pending.Nothing = nothing
+retryAsked (Pending.Held k va a) = pick (isPrefetch k) nothing (attempt true va a)
 
 -- a write of prefetch asks for its page, one of acknowledge with bit 0 for the retry
 unfoldable pub writeAsked : Pending → ℕ → ℕ → Asked
@@ -58,4 +56,4 @@ walksFor d va = isOn (d .registers .control) and noMatch (lookedUp (d .bank .cam
 
 -- the words read for an address: those of the plain walk where it is walked for, else none
 unfoldable pub readsFor : Lent → Device → VirtualAddress → Reads
-readsFor m d va = pick (walksFor d va) (look m d va .reads) R.Nothing
+readsFor m d va = pick (walksFor d va) (look m d va .reads) Reads.Nothing

@@ -3,13 +3,11 @@ use Rattle.page.specs.Ground.{ℕ, _<_, _≡_, true, length}
 use Rattle.page.specs.Pick.{pick}
 use Rattle.page.specs.Words.{madeWords}
 use mathlib.Core.Logic.{_≢_}
-use Rattle.descriptors.specs.declared.Found.the-variants as D
 use Rattle.lanes.specs.Lanes.{slots}
 use Rattle.bank.specs.Slots.{slotAt}
 use Rattle.bank.specs.Changes.{nextSlot, nextVictim}
-use Rattle.bank.specs.declared.Fill.the-variants as F
-use Rattle.registers.specs.declared.Answer.the-variants as A
-use Rattle.registers.specs.declared.Fault.the-variants as K
+use Rattle.registers.specs.declared.Answer.{Answer}
+use Rattle.registers.specs.declared.Fault.{Fault}
 use Rattle.unit.specs.Device.{look}
 use Rattle.unit.specs.Machine.{Call, answered, step}
 use Rattle.conduct.specs.Types.{VirtualAddress, Words, Lent, Found, Bill, Bank, Fill, Device}
@@ -18,17 +16,17 @@ use Rattle.conduct.specs.Asked.{Asked, nothing, attempt, prefetch, asked
 
 -- a walk that finds a page fills a slot with it, one that finds none fills nothing
 abbrev pub pageFill : VirtualAddress → Found → Fill
-pageFill va (D.Page p) = F.Slot (madeWords (p .kind) (p .frame) (p .access) va)
-pageFill va D.NoPage = F.Nothing
-pageFill va D.Missing = F.Nothing
+pageFill va (Found.Page p) = Fill.Slot (madeWords (p .kind) (p .frame) (p .access) va)
+pageFill va Found.NoPage = Fill.Nothing
+pageFill va Found.Missing = Fill.Nothing
 
 -- what is filled for an address: nothing where it is not walked for
 unfoldable pub fillFor : Lent → Device → VirtualAddress → Fill
-fillFor m d va = pick (walksFor d va) (pageFill va (look m d va .found)) F.Nothing
+fillFor m d va = pick (walksFor d va) (pageFill va (look m d va .found)) Fill.Nothing
 
 -- what is filled for what a call asks
 abbrev pub fillAsked : Lent → Device → Asked → Fill
-fillAsked m d nothing = F.Nothing
+fillAsked m d nothing = Fill.Nothing
 fillAsked m d (attempt again va a) = fillFor m d va
 fillAsked m d (prefetch va) = fillFor m d va
 
@@ -47,8 +45,8 @@ pub record OneSlot (w : Words) (before after : Bank) : Type 0 where
 
 -- a fill of a slot changes that slot alone, no fill changes nothing
 abbrev pub FilledBy : Fill → Bank → Bank → Type 0
-FilledBy F.Nothing before after = after ≡ before
-FilledBy (F.Slot w) before after = OneSlot w before after
+FilledBy Fill.Nothing before after = after ≡ before
+FilledBy (Fill.Slot w) before after = OneSlot w before after
 
 -- what the type of a bank says: each lane has a word for each slot
 abbrev pub LanesFit : Bank → Type 0
@@ -64,11 +62,11 @@ OneSlotFilled =
 -- where the plain walk finds no page for what a call asks, neither a slot nor the victim changes
 abbrev pub NoPageNoFill : Type 0
 NoPageNoFill =
-    (m : Lent) (d : Device) (b : Bill) (c : Call) (va : VirtualAddress) → AsksFor va (asked d c) → look m d va .found ≡ D.NoPage
+    (m : Lent) (d : Device) (b : Bill) (c : Call) (va : VirtualAddress) → AsksFor va (asked d c) → look m d va .found ≡ Found.NoPage
     → step m d b c .device .bank ≡ d .bank
 
 -- a translation fault is never cached: no call that answers one changes the slots
 abbrev pub FaultNotCached : Type 0
 FaultNotCached =
-    (m : Lent) (d : Device) (b : Bill) (c : Call) → step m d b c .said ≡ answered (A.Fault K.Translation)
+    (m : Lent) (d : Device) (b : Bill) (c : Call) → step m d b c .said ≡ answered (Answer.Fault Fault.Translation)
     → step m d b c .device .bank ≡ d .bank

@@ -1,9 +1,6 @@
 -- Demand 2, the pending fault after each call (01, "Registers", "When the unit says no").
 use Rattle.page.specs.Ground.{ℕ, _%_, _≡_, Bool, true}
-use Rattle.page.specs.declared.Access.the-variants.{Read}
-use Rattle.registers.specs.declared.Fault.the-variants as K
-use Rattle.registers.specs.declared.Pending.the-variants as P
-use Rattle.registers.specs.declared.Answer.the-variants as A
+use Rattle.registers.specs.declared.Answer.{Answer}
 use Rattle.unit.specs.Device.{cleared, doneWith}
 use Rattle.unit.specs.Offsets.{prefetchAt, acknowledgeAt}
 use Rattle.unit.specs.Machine.{Call, write, drop-fault, Said, answered, stepOut, step}
@@ -14,11 +11,11 @@ use Rattle.conduct.specs.Asked.{Asked, attempt, prefetch, asked}
 -- a request or a retry that answers a fault holds it with its address and access; a prefetch's fault is 24, and holds prefetch,
 -- the page and read; an address clears the pending fault; a refusal leaves it
 pub record HeldBy (q : Asked) (before after : Pending) (s : Said) : Type 0 where
-  pub fault : (again : Bool) (va : VirtualAddress) (a : Access) (k : Fault) → q ≡ attempt again va a → s ≡ answered (A.Fault k) → after ≡ P.Held k va a
+  pub fault : (again : Bool) (va : VirtualAddress) (a : Access) (k : Fault) → q ≡ attempt again va a → s ≡ answered (Answer.Fault k) → after ≡ Pending.Held k va a
   pub prefetched :
-      (va : VirtualAddress) (k : Fault) → q ≡ prefetch va → s ≡ answered (A.Fault k)
-      → (k ≡ K.Prefetch) × (after ≡ P.Held K.Prefetch va Read)
-  pub address : (x : PhysicalAddress) → s ≡ answered (A.Address x) → after ≡ P.Nothing
+      (va : VirtualAddress) (k : Fault) → q ≡ prefetch va → s ≡ answered (Answer.Fault k)
+      → (k ≡ Fault.Prefetch) × (after ≡ Pending.Held Fault.Prefetch va Access.Read)
+  pub address : (x : PhysicalAddress) → s ≡ answered (Answer.Address x) → after ≡ Pending.Nothing
   pub refused : saidRefused s ≡ true → after ≡ before
 
 -- so it is after every call
@@ -29,13 +26,13 @@ FaultHeld =
 -- a drop clears the pending fault; acknowledging a pending prefetch only drops it, and with bit 0 clear does nothing; a prefetch
 -- that finds its page leaves what is pending
 pub record Dropped (m : Lent) (d : Device) (b : Bill) : Type 0 where
-  pub drop : Accepted m d b drop-fault → step m d b drop-fault .device .pending ≡ P.Nothing
+  pub drop : Accepted m d b drop-fault → step m d b drop-fault .device .pending ≡ Pending.Nothing
   pub acknowledged :
-      (va : VirtualAddress) (a : Access) (v : ℕ) (p : Prices) → d .pending ≡ P.Held K.Prefetch va a → v % 2 ≡ 1
+      (va : VirtualAddress) (a : Access) (v : ℕ) (p : Prices) → d .pending ≡ Pending.Held Fault.Prefetch va a → v % 2 ≡ 1
       → Accepted m d b (write acknowledgeAt v p) → step m d b (write acknowledgeAt v p) ≡ stepOut (doneWith b (cleared d))
   pub idle-bit : (v : ℕ) (p : Prices) → v % 2 ≡ 0 → step m d b (write acknowledgeAt v p) .device ≡ d
   pub found :
-      (v : ℕ) (p : Prices) → step m d b (write prefetchAt v p) .said ≡ answered A.Done
+      (v : ℕ) (p : Prices) → step m d b (write prefetchAt v p) .said ≡ answered Answer.Done
       → step m d b (write prefetchAt v p) .device .pending ≡ d .pending
 
 -- so it is for every device and memory

@@ -4,7 +4,6 @@ use Rattle.page.specs.Pick.{pick}
 use Rattle.memory.specs.Reads.{wordCount}
 use Rattle.meters.specs.Posted.{noTally, posted, Within}
 use Rattle.bill.specs.Bill.{readsPosted, seenPosted}
-use Rattle.bill.specs.declared.Seen.the-variants as S
 use Rattle.lanes.specs.Lanes.{lookedUp}
 use Rattle.registers.specs.Fields.{isOn}
 use Rattle.unit.specs.Calls.{noMatch}
@@ -36,7 +35,7 @@ Metered = (m : Lent) (d : Device) (b : Bill) (c : Call) → Accepted m d b c →
 
 -- an attempt is smoothed while the unit is on, by whether a slot matches
 unfoldable pub seenFor : Device → VirtualAddress → Seen
-seenFor d va = pick (isOn (d .registers .control)) (pick (noMatch (lookedUp (d .bank .cam) va)) S.NoMatch S.Match) S.Nothing
+seenFor d va = pick (isOn (d .registers .control)) (pick (noMatch (lookedUp (d .bank .cam) va)) Seen.NoMatch Seen.Match) Seen.Nothing
 
 -- what is billed: each word that the plain walk reads, in order, then the smoothing; a prefetch is not smoothed
 abbrev pub billAsked : Lent → Device → Prices → Bill → Asked → Bill

@@ -6,7 +6,6 @@ use Rattle.bill.specs.declared.Bill.{Bill}
 use Rattle.bill.specs.Bill.{Good}
 use Rattle.registers.specs.Answers.{isRefusal}
 use Rattle.decision.specs.declared.Shift.{Shift}
-use Rattle.decision.specs.declared.Shift.the-variants as H
 use Rattle.unit.specs.declared.Device.{Device}
 use Rattle.unit.specs.Refusals.{Refusals, First, Clear}
 use Rattle.unit.specs.Device.{inRange}
@@ -23,9 +22,9 @@ refusalsOf m d b (shift va) = shiftRefusals m d va
 
 -- what is said is a refusal
 abbrev pub shiftRefused : Shift → Bool
-shiftRefused (H.Distance z) = false
-shiftRefused H.Fault = false
-shiftRefused (H.Refused k) = true
+shiftRefused (Shift.Distance z) = false
+shiftRefused Shift.Fault = false
+shiftRefused (Shift.Refused k) = true
 
 abbrev pub saidRefused : Said → Bool
 saidRefused (answered r) = isRefusal r

@@ -7,10 +7,9 @@ use Rattle.bank.specs.Slots.{slotAt}
 use Rattle.registers.specs.Answers.{faultStatus, faultAddress}
 use Rattle.registers.specs.Fields.{wordsOf, entryOf}
 use Rattle.registers.specs.Table.{listed}
-use Rattle.registers.specs.declared.Answer.the-variants as A
+use Rattle.registers.specs.declared.Answer.{Answer}
 use Rattle.unit.specs.Device.{freshDevice, inRange}
-use Rattle.unit.specs.Offsets.{prefetchAt, walkStatusAt, controlAt, faultHighAt, faultLowAt, faultStatusAt, acknowledgeAt, baseHighAt, baseLowAt}
-use Rattle.unit.specs.Offsets.{lockAt, loadAt, camHighAt, camLowAt, ramHighAt, ramLowAt, flushAt, entryFlushAt, readCamHighAt, readCamLowAt, readRamHighAt, readRamLowAt}
+use Rattle.unit.specs.Offsets.{prefetchAt, walkStatusAt, controlAt, faultHighAt, faultLowAt, faultStatusAt, acknowledgeAt, baseHighAt, baseLowAt, lockAt, loadAt, camHighAt, camLowAt, ramHighAt, ramLowAt, flushAt, entryFlushAt, readCamHighAt, readCamLowAt, readRamHighAt, readRamLowAt}
 use Rattle.unit.specs.Machine.{write, read, answered, Step, step}
 use Rattle.conduct.specs.Types.{Lent, Bill, Prices, Device}
 use Rattle.conduct.specs.Refused.{Accepted, BytesFit}
@@ -37,7 +36,7 @@ abbrev pub ReadBack : Type 0
 ReadBack =
     (m : Lent) (d : Device) (b b′ : Bill) (o v : ℕ) (p : Prices)
     → BytesFit m → v < 2 ^ 16 → o ≢ acknowledgeAt → Accepted m d b (write o v p)
-    → step m (step m d b (write o v p) .device) b′ (read o) .said ≡ answered (A.Value (keptBits o v))
+    → step m (step m d b (write o v p) .device) b′ (read o) .said ≡ answered (Answer.Value (keptBits o v))
 
 -- what each register shows of a device: its own part, the pending fault and its address, or zero
 unfoldable pub shownOf : Device → ℕ → ℕ
@@ -68,14 +67,14 @@ shownOf d o =
 
 abbrev pub ReadShown : Type 0
 ReadShown =
-    (m : Lent) (d : Device) (b : Bill) (o : ℕ) → Accepted m d b (read o) → step m d b (read o) .said ≡ answered (A.Value (shownOf d o))
+    (m : Lent) (d : Device) (b : Bill) (o : ℕ) → Accepted m d b (read o) → step m d b (read o) .said ≡ answered (Answer.Value (shownOf d o))
 
 -- a write of control with bit 0 clear makes any device in range fresh, leaves the bill and adds nothing to the meters
 pub record Resets (b : Bill) (s : Step) : Type 0 where
   pub device : s .device ≡ freshDevice
   pub bill : s .bill ≡ b
   pub tally : s .tally ≡ noTally
-  pub said : s .said ≡ answered A.Done
+  pub said : s .said ≡ answered Answer.Done
 
 abbrev pub ResetFresh : Type 0
 ResetFresh =

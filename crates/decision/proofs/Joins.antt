@@ -1,23 +1,21 @@
 -- The parts of a decision, put together. Assumes nothing.
-use mathlib.Core.Path.{_≡_, refl, sym, _∙_, ap}
-use mathlib.Core.Bool.{Bool, true, false}
+use mathlib.Core.Path.{_≡_, _∙_, ap}
+use mathlib.Core.Bool.{true, false}
 use mathlib.Core.List.{List}
 use Prim.Native.Nat.{ℕ}
-use lib.ListN.{getD}
 use Rattle.page.specs.Words.{physical}
 use Rattle.page.proofs.Picks.{pick-yes, pick-no}
 use Rattle.lanes.specs.Lanes.{lookedUp}
 use Rattle.registers.specs.Fields.{isOn, isWalking}
-use Rattle.bill.specs.declared.Seen.the-variants as S
-use Rattle.lanes.specs.declared.Matched.the-variants as M
-use Rattle.registers.specs.declared.Fault.the-variants.{Miss}
-use Rattle.registers.specs.declared.Answer.the-variants as A
-use Rattle.decision.specs.Types.{Access, VirtualAddress, Walked, Matched, Decision}
-use Rattle.decision.specs.Decisions.{plainly, byMatch, byWalk, byMatched, decided}
-use Rattle.decision.specs.Prefetches.{prefetchFound, prefetchMatched, prefetchDecided}
+use Rattle.bill.specs.declared.Seen.{Seen}
+use Rattle.registers.specs.declared.Fault.{Fault}
+use Rattle.registers.specs.declared.Answer.{Answer}
+use Rattle.decision.specs.Types.{Access, VirtualAddress, Walked, Matched}
+use Rattle.decision.specs.Decisions.{plainly, byWalk, byMatched, decided}
+use Rattle.decision.specs.Prefetches.{prefetchMatched, prefetchDecided}
 
 module _ (w : Walked) (c : ℕ) (cam ram : List ℕ) (va : VirtualAddress) (a : Access) where
-  pub decided-off : isOn c ≡ false → decided w c cam ram va a ≡ plainly (A.Address (physical (va .0))) S.Nothing
+  pub decided-off : isOn c ≡ false → decided w c cam ram va a ≡ plainly (Answer.Address (physical (va .0))) Seen.Nothing
   unfolding decided
   decided-off h = pick-no _ _ _ h
 
@@ -25,11 +23,11 @@ module _ (w : Walked) (c : ℕ) (cam ram : List ℕ) (va : VirtualAddress) (a : 
   unfolding decided
   decided-on x h e = pick-yes _ _ _ h ∙ ap (byMatched w c cam ram va a) e
 
-  pub decided-miss : isOn c ≡ true → lookedUp cam va ≡ M.Nothing → isWalking c ≡ false → decided w c cam ram va a ≡ plainly (A.Fault Miss) S.NoMatch
-  decided-miss h e k = decided-on M.Nothing h e ∙ pick-no _ _ _ k
+  pub decided-miss : isOn c ≡ true → lookedUp cam va ≡ Matched.Nothing → isWalking c ≡ false → decided w c cam ram va a ≡ plainly (Answer.Fault Fault.Miss) Seen.NoMatch
+  decided-miss h e k = decided-on Matched.Nothing h e ∙ pick-no _ _ _ k
 
-  pub decided-walk : isOn c ≡ true → lookedUp cam va ≡ M.Nothing → isWalking c ≡ true → decided w c cam ram va a ≡ byWalk va a w
-  decided-walk h e k = decided-on M.Nothing h e ∙ pick-yes _ _ _ k
+  pub decided-walk : isOn c ≡ true → lookedUp cam va ≡ Matched.Nothing → isWalking c ≡ true → decided w c cam ram va a ≡ byWalk va a w
+  decided-walk h e k = decided-on Matched.Nothing h e ∙ pick-yes _ _ _ k
 
 module _ (w : Walked) (cam : List ℕ) (va : VirtualAddress) where
   pub prefetch-on : (x : Matched) → lookedUp cam va ≡ x → prefetchDecided w cam va ≡ prefetchMatched w va x

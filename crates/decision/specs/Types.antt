@@ -5,8 +5,8 @@ pub use Rattle.page.specs.declared.PhysicalAddress.{PhysicalAddress}
 pub use Rattle.page.specs.declared.Words.{Words}
 pub use Rattle.memory.specs.Memory.{Lent, lent, lentOk}
 pub use Rattle.memory.specs.declared.Reads.{Reads}
-pub use Rattle.descriptors.specs.declared.Page.{Page}
-pub use Rattle.descriptors.specs.declared.Found.{Found}
+pub use Rattle.walk.specs.declared.Page.{Page}
+pub use Rattle.walk.specs.declared.Found.{Found}
 pub use Rattle.walk.specs.declared.Walked.{Walked}
 pub use Rattle.meters.specs.declared.Tally.{Tally}
 pub use Rattle.bill.specs.declared.Bill.{Bill}

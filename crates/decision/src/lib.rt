@@ -1,7 +1,6 @@
 // What an access and a matching slot come to, what an answer leaves, and the shift report.
 use bank::Fill;
 use bill::Seen;
-use descriptors::Found;
 use memory::Reads;
 use meters::Tally;
 use page::Access;
@@ -10,6 +9,7 @@ use page::VirtualAddress;
 use registers::Answer;
 use registers::Fault;
 use registers::Pending;
+use walk::Found;
 ghost use mathlib.Core.Path.{_≡_};
 ghost use Rattle.decision.specs.Decisions.{byAccess, plainly, byMatch, settled, meteredOnce, tallyOf};
 ghost use Rattle.decision.specs.Prefetches.{prefetchKept, shiftBy};
@@ -130,6 +130,9 @@ pub fn shift_by(found: Found, va: VirtualAddress) -> Shift
     match found {
         Found::Missing => Shift::Refused(3),
         Found::NoPage => Shift::Fault,
-        Found::Page(p) => Shift::Distance(descriptors::distance(descriptors::physical(p, va), va)),
+        Found::Page(p) => Shift::Distance(walk::descriptors::distance(
+            walk::descriptors::physical(p, va),
+            va,
+        )),
     }
 }

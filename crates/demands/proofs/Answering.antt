@@ -5,7 +5,7 @@ use mathlib.Core.List.{List, [], _∷_}
 use Prim.Native.Nat.{ℕ}
 use Rattle.memory.specs.Memory.{Lent}
 use Rattle.records.specs.Mappings.{mappings}
-use Rattle.lists.specs.Meanings.{holder}
+use Rattle.records.specs.Meanings.{holder}
 use Rattle.unit.specs.declared.Device.{Device}
 use Rattle.unit.specs.Device.{inRange}
 use Rattle.unit.specs.Machine.{step}

@@ -9,14 +9,12 @@ use lib.ListN.{length}
 use Rattle.page.specs.Pick.{pick}
 use Rattle.page.specs.Words.{megabytes}
 use Rattle.records.specs.Mappings.{mappings}
-use Rattle.lists.specs.Refusals.{bad, overlapping, begun, checkedFrom, checked}
-use Rattle.lists.specs.declared.Checked.{Checked}
-use Rattle.lists.specs.declared.Checked.the-variants as C
+use Rattle.records.specs.Refusals.{bad, overlapping, begun, checkedFrom, checked}
+use Rattle.records.specs.declared.Checked.{Checked}
 use Rattle.tables.specs.Tables.{imageLength}
-use Rattle.image.specs.Image.{image}
-use Rattle.image.proofs.Whole.{image-length-is}
+use Rattle.builder.specs.Image.{image}
+use Rattle.builder.proofs.Whole.{image-length-is}
 use Rattle.builder.specs.declared.Built.{Built}
-use Rattle.builder.specs.declared.Built.the-variants.{Length, BadMemory, BadRecord, Overlap, TooLong}
 use Rattle.builder.specs.Build.{roomOk, afterCheck, lengthOr, answerOf, leaves, buildOf}
 use Rattle.builder.proofs.Answers.{accepted}
 use Rattle.translates.proofs.Theorems.{leaves-image}
@@ -26,7 +24,7 @@ use Rattle.demands.specs.Building.{recordRefusals, buildRefusals, builtR
 
 -- a refusal as the builder's answer, by its number
 abbrev say : ℕ × ℕ → Built
-say r = pick (eqb (r .0) 4) BadMemory (pick (eqb (r .0) 10) (BadRecord (r .1)) (pick (eqb (r .0) 11) (Overlap (r .1)) (TooLong (r .1))))
+say r = pick (eqb (r .0) 4) Built.BadMemory (pick (eqb (r .0) 10) (Built.BadRecord (r .1)) (pick (eqb (r .0) 11) (Built.Overlap (r .1)) (Built.TooLong (r .1))))
 
 abbrev Told : ℕ × ℕ → Type 0
 Told r = (builtRefused (say r) ≡ true) × (builtSaid (say r) ≡ r)
@@ -41,7 +39,7 @@ first-each P (r ∷ rs) k e (inl f) = subst P (f .1) (e .0)
 first-each P (r ∷ rs) k e (inr f) = first-each P rs k (e .1) (f .1)
 
 -- one record: 10, else 11, else what follows
-one-record : (s t : Bool) (i : ℕ) (x : Checked) (b y : Built) → afterCheck x b ≡ y → afterCheck (pick s (C.BadRecord i) (pick t (C.Overlap i) x)) b ≡ pick s (BadRecord i) (pick t (Overlap i) y)
+one-record : (s t : Bool) (i : ℕ) (x : Checked) (b y : Built) → afterCheck x b ≡ y → afterCheck (pick s (Checked.BadRecord i) (pick t (Checked.Overlap i) x)) b ≡ pick s (Built.BadRecord i) (pick t (Built.Overlap i) y)
 unfolding pick
 one-record true t i x b y e = refl
 one-record false true i x b y e = refl
@@ -49,7 +47,7 @@ one-record false false i x b y e = e
 
 module _ (rs : List ℕ) (base room : ℕ) where
   abbrev else : Built
-  else = Length (imageLength megabytes (mappings rs))
+  else = Built.Length (imageLength megabytes (mappings rs))
 
   abbrev last : Refusing (ℕ × ℕ)
   last = (ltb room (imageLength megabytes (mappings rs)), (12, length (mappings rs))) ∷ []
@@ -65,7 +63,7 @@ module _ (rs : List ℕ) (base room : ℕ) where
 
   answer-is : answerOf rs base room ≡ refuses (buildRefusals rs base room) say else
   unfolding answerOf checked refuses pick
-  answer-is = ap (λ (x : Built). pick (not (roomOk base room)) BadMemory x) (records-are 0 (begun rs))
+  answer-is = ap (λ (x : Built). pick (not (roomOk base room)) Built.BadMemory x) (records-are 0 (begun rs))
 
   records-told : (i n : ℕ) → Each Told (recordRefusals rs i n last)
   unfolding pick
@@ -100,11 +98,11 @@ module _ (rs : List ℕ) (base room : ℕ) where
 
 -- a refused build leaves the memory
 left : (b : Built) (img before : List ℕ) → builtRefused b ≡ true → leaves b img before ≡ before
-left (Length n) img before h = absurd (false≢true h)
-left BadMemory img before h = refl
-left (BadRecord i) img before h = refl
-left (Overlap i) img before h = refl
-left (TooLong c) img before h = refl
+left (Built.Length n) img before h = absurd (false≢true h)
+left Built.BadMemory img before h = refl
+left (Built.BadRecord i) img before h = refl
+left (Built.Overlap i) img before h = refl
+left (Built.TooLong c) img before h = refl
 
 build-answers : (rs : List ℕ) (base : ℕ) (before : List ℕ) → buildOf rs base before .answer ≡ answerOf rs base (length before)
 unfolding buildOf

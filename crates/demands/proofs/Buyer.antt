@@ -14,21 +14,23 @@ use lib.Seq.{getD-append-add}
 use borrow.Author.Tests.{ltb-true}
 use Rattle.page.specs.Pick.{pick, _and_, _or_}
 use Rattle.page.specs.Low.{upper, joined}
-use Rattle.page.specs.declared.Access.the-variants.{Read}
+use Rattle.page.specs.declared.Access.{Access}
 use Rattle.page.specs.Words.{virtual, megabytes, kindOf}
 use Rattle.page.proofs.Picks.{and-yes, and-left, and-right}
-use Rattle.memory.specs.Memory.{Lent, lentOk, memoryOk, apart, memoriesOk, wordOf}
+use Rattle.memory.specs.Memory.{Lent, lentOk, memoryOk, apart, memoriesOk}
+use Rattle.wire.specs.Words.{wordOf, wordBytes}
 use Rattle.records.specs.Mappings.{mappings, mappingsFrom, mappingOf, byteOf, holds}
-use Rattle.lists.specs.Meanings.{holder, meaning}
+use Rattle.records.specs.Meanings.{holder, meaning}
 use Rattle.tables.specs.Tables.{imageLength}
-use Rattle.image.specs.Image.{wordBytes, bytesOf, image}
-use Rattle.image.proofs.Whole.{image-length-is}
-use Rattle.builder.specs.declared.Built.the-variants.{Length}
+use Rattle.builder.specs.Image.{image}
+use Rattle.wire.specs.Spliced.{bytesBy}
+use Rattle.builder.proofs.Whole.{image-length-is}
+use Rattle.builder.specs.declared.Built.{Built}
 use Rattle.builder.specs.Build.{roomOk, answerOf, buildOf}
 use Rattle.builder.proofs.Answers.{accepted}
 use Rattle.prices.specs.Prices.{figureOk, every}
 use Rattle.bill.specs.Bill.{moneyOk, freshBill}
-use Rattle.registers.specs.declared.Answer.the-variants as A
+use Rattle.registers.specs.declared.Answer.{Answer}
 use Rattle.coherence.specs.Sessions.{BilledCall, after, Admitted}
 use Rattle.translates.specs.Statements.{Has, Standing, Bytes}
 use Rattle.translates.specs.ListA.{recordsA, baseA}
@@ -44,16 +46,16 @@ use Rattle.demands.proofs.Answering.{requests-answered}
 
 -- a memory that was built in has the image, wherever it is lent
 module _ (rs : List ℕ) (base len : ℕ) (before : List ℕ) where
-  answer-is : buildOf rs base before .answer ≡ Length len → answerOf rs base (length before) ≡ Length len
+  answer-is : buildOf rs base before .answer ≡ Built.Length len → answerOf rs base (length before) ≡ Built.Length len
   unfolding buildOf
   answer-is e = e
 
-  stands-at : (l : List ℕ) (b : ℕ) → l ≡ buildOf rs base before .memory → b ≡ base → answerOf rs base (length before) ≡ Length len → Has l b base (image megabytes (mappings rs) base)
+  stands-at : (l : List ℕ) (b : ℕ) → l ≡ buildOf rs base before .memory → b ≡ base → answerOf rs base (length before) ≡ Built.Length len → Has l b base (image megabytes (mappings rs) base)
   stands-at l b e f h =
       subst (λ (x : ℕ). Has l x base (image megabytes (mappings rs) base)) (sym f)
       (subst (λ (x : List ℕ). Has x base base (image megabytes (mappings rs) base)) (sym e) (built-has rs base len before h))
 
-  stands : (m : Lent) → LentAt (buildOf rs base before .memory) base m → answerOf rs base (length before) ≡ Length len → Standing m base (image megabytes (mappings rs) base)
+  stands : (m : Lent) → LentAt (buildOf rs base before .memory) base m → answerOf rs base (length before) ≡ Built.Length len → Standing m base (image megabytes (mappings rs) base)
   stands m (inl l) h = inl (stands-at (m .on) (m .onbase) (l .0) (l .1) h)
   stands m (inr l) h = inr (stands-at (m .ext) (m .extbase) (l .0) (l .1) h)
 
@@ -81,10 +83,10 @@ word-bytes w (suc (suc zero)) = omega arith
 word-bytes w (suc (suc (suc zero))) = omega arith
 word-bytes w (suc (suc (suc (suc i)))) = omega arith
 
-bytes-of : (f : ℕ → ℕ) (k : ℕ) → Bytes (bytesOf f k)
-unfolding bytesOf
+bytes-of : (f : ℕ → ℕ) (k : ℕ) → Bytes (bytesBy f k)
+unfolding bytesBy
 bytes-of f zero = λ i. omega arith
-bytes-of f (suc k) = bytes-append (bytesOf f k) (wordBytes (f k)) (bytes-of f k) (word-bytes (f k))
+bytes-of f (suc k) = bytes-append (bytesBy f k) (wordBytes (f k)) (bytes-of f k) (word-bytes (f k))
 
 zero-bytes : (n : ℕ) → Bytes (replicate n 0)
 zero-bytes zero i = omega arith
@@ -115,7 +117,7 @@ unfolding memoriesOk
 none-beside base n h = and-yes _ _ none-ok ∙ and-yes _ _ h ∙ none-apart base n
 
 -- an accepted build leaves as many bytes as there were, and bytes where there were bytes
-module _ (rs : List ℕ) (base len : ℕ) (before : List ℕ) (e : answerOf rs base (length before) ≡ Length len) where
+module _ (rs : List ℕ) (base len : ℕ) (before : List ℕ) (e : answerOf rs base (length before) ≡ Built.Length len) where
   abbrev img : List ℕ
   img = image megabytes (mappings rs) base
 
@@ -165,7 +167,7 @@ bytes-a : Bytes recordsA
 unfolding _and_
 bytes-a = bytes-below recordsA refl
 
-built-a : buildOf recordsA baseA (replicate roomA 0) .answer ≡ Length roomA
+built-a : buildOf recordsA baseA (replicate roomA 0) .answer ≡ Built.Length roomA
 unfolding buildOf
 built-a = ap (answerOf recordsA baseA) (length-replicate {A = ℕ} roomA 0) ∙ accepts-a
 
@@ -173,7 +175,7 @@ session-a : (cs : List BilledCall) → Admitted cs → ValuesFit cs → Session 
 session-a cs adm fit = built-session recordsA baseA roomA (replicate roomA 0) 7 pricesA freshBill cs bytes-a (zero-bytes roomA) built-a refl adm fit
 
 -- what the list says of one address
-byte-a : said (meaning (mappings recordsA) (virtual 0x012345) Read) ≡ A.Address byteA
+byte-a : said (meaning (mappings recordsA) (virtual 0x012345) Access.Read) ≡ Answer.Address byteA
 unfolding meaning holder holds byteOf mappings mappingsFrom mappingOf wordOf kindOf pick _and_ _or_ upper joined
 byte-a = refl
 
@@ -187,7 +189,7 @@ exhibited = record {
   first = session-a [] tt tt;
   session = session-a callsA (refl, (refl, (refl, (refl, (refl, (refl, (refl, tt))))))) (tt, (tt, (omega arith, (tt, (omega arith, (tt, (tt, tt)))))));
   answers =
-      requests-answered recordsA baseA memoryA deviceA (session-a [] tt tt) pricesA freshBill (virtual 0x012345) Read
+      requests-answered recordsA baseA memoryA deviceA (session-a [] tt tt) pricesA freshBill (virtual 0x012345) Access.Read
       (ap (λ (d : Device). d .pending) (start-is recordsA baseA roomA roomA accepts-a memoryA 7 pricesA freshBill refl)) (omega arith) money-a .answer
       ∙ byte-a;
 }

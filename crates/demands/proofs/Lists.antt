@@ -7,21 +7,17 @@ use native.Mathlib.Omega.{arith}
 use Rattle.page.specs.Pick.{pick}
 use Rattle.page.specs.Words.{permits, megabytes, limit}
 use Rattle.memory.specs.Memory.{Lent, lentOk}
-use Rattle.descriptors.specs.Statements.{isMissing}
-use Rattle.descriptors.specs.declared.Found.the-variants as D
+use Rattle.walk.specs.Distances.{isMissing}
 use Rattle.walk.proofs.Walks.{walk-refused}
 use Rattle.records.specs.declared.Mapping.{Mapping}
-use Rattle.lists.specs.declared.Held.{Held}
-use Rattle.lists.specs.declared.Held.the-variants.{By, Nobody}
-use Rattle.lists.specs.declared.Meaning.{Meaning}
-use Rattle.lists.specs.declared.Meaning.the-variants.{Byte, Permission, Translation}
+use Rattle.records.specs.declared.Held.{Held}
+use Rattle.records.specs.declared.Meaning.{Meaning}
 use Rattle.records.specs.Mappings.{mappings, byteOf}
-use Rattle.lists.specs.Meanings.{holder, meaning, heldMeaning}
-use Rattle.builder.specs.declared.Built.the-variants.{Length}
+use Rattle.records.specs.Meanings.{holder, meaning, heldMeaning}
+use Rattle.builder.specs.declared.Built.{Built}
 use Rattle.builder.specs.Build.{answerOf}
 use Rattle.builder.proofs.Answers.{accepted, room-unit, room-memory}
 use Rattle.tables.proofs.Places.{image-first}
-use Rattle.registers.specs.declared.Answer.the-variants as A
 use Rattle.decision.specs.Types.{Access, VirtualAddress, PhysicalAddress, Reads, Found, Walked, Bill, Prices, Answer}
 use Rattle.decision.specs.Decisions.{byAccess, byFound}
 use Rattle.coherence.specs.Agreement.{plain}
@@ -33,20 +29,20 @@ use Rattle.translates.specs.Statements.{Gives}
 use Rattle.demands.specs.Demands.{said, AsList}
 
 -- a byte with its access, and what a mapping says of it
-access-said : (m : Mapping) (va : VirtualAddress) (a : Access) (t : Bool) → permits (m .access) a ≡ t → byAccess (m .access) (byteOf m va) a ≡ said (heldMeaning (By m) va a)
+access-said : (m : Mapping) (va : VirtualAddress) (a : Access) (t : Bool) → permits (m .access) a ≡ t → byAccess (m .access) (byteOf m va) a ≡ said (heldMeaning (Held.By m) va a)
 unfolding byAccess pick
 access-said m va a true e = rw e
 access-said m va a false e = rw e
 
 pub gives-said : (h : Held) (va : VirtualAddress) (a : Access) (r : Reads) (f : Found) → Gives h va f → byFound va a r f .answer ≡ said (heldMeaning h va a)
 unfolding byFound
-gives-said (By m) va a r (D.Page p) g =
+gives-said (Held.By m) va a r (Found.Page p) g =
     ap₂ (λ (x : PhysicalAddress) (n : ℕ). byAccess n x a) (g .0) (g .1) ∙ access-said m va a (permits (m .access) a) refl
-gives-said (By m) va a r D.NoPage g = absurd g
-gives-said (By m) va a r D.Missing g = absurd g
-gives-said Nobody va a r (D.Page p) g = absurd g
-gives-said Nobody va a r D.NoPage g = refl
-gives-said Nobody va a r D.Missing g = absurd g
+gives-said (Held.By m) va a r Found.NoPage g = absurd g
+gives-said (Held.By m) va a r Found.Missing g = absurd g
+gives-said Held.Nobody va a r (Found.Page p) g = absurd g
+gives-said Held.Nobody va a r Found.NoPage g = refl
+gives-said Held.Nobody va a r Found.Missing g = absurd g
 
 pub list-said : (look : Look) (ms : List Mapping) (va : VirtualAddress) (a : Access) → Gives (holder ms va) va (look va .found) → plain look va a ≡ said (meaning ms va a)
 unfolding meaning
@@ -54,33 +50,33 @@ list-said look ms va a g = gives-said (holder ms va) va a (look va .reads) (look
 
 -- in the paper's number and values too
 numbers : (x : Meaning) → AsList (said x) x
-numbers (Byte p) = record { answer = refl; number = refl; values = refl }
-numbers Permission = record { answer = refl; number = refl; values = refl }
-numbers Translation = record { answer = refl; number = refl; values = refl }
+numbers (Meaning.Byte p) = record { answer = refl; number = refl; values = refl }
+numbers Meaning.Permission = record { answer = refl; number = refl; values = refl }
+numbers Meaning.Translation = record { answer = refl; number = refl; values = refl }
 
 pub as-list : (r : Answer) (x : Meaning) → r ≡ said x → AsList r x
 as-list r x e = subst (λ (y : Answer). AsList y x) (sym e) (numbers x)
 
 -- a walk that gives what the list says misses no word
 pub gives-found : (h : Held) (va : VirtualAddress) (f : Found) → Gives h va f → isMissing f ≡ false
-gives-found h va (D.Page p) g = refl
-gives-found h va D.NoPage g = refl
-gives-found (By m) va D.Missing g = absurd g
-gives-found Nobody va D.Missing g = absurd g
+gives-found h va (Found.Page p) g = refl
+gives-found h va Found.NoPage g = refl
+gives-found (Held.By m) va Found.Missing g = absurd g
+gives-found Held.Nobody va Found.Missing g = absurd g
 
 -- over refused memories a walk finds nothing at all
 pub refused-uniform : (m : Lent) (base : ℕ) → lentOk m ≡ false → Uniform limit (lookFrom m base)
 refused-uniform m base e va va′ p low f s = absurd (none (sym (ap (λ (w : Walked). w .found) (walk-refused m e base (va .0))) ∙ f))
   where
-    none : D.Missing ≡ D.Page p → ⊥
+    none : Found.Missing ≡ Found.Page p → ⊥
     none q = false≢true (sym (ap isMissing q))
 
-pub refused-plain : (m : Lent) (base : ℕ) (va : VirtualAddress) (a : Access) → lentOk m ≡ false → plain (lookFrom m base) va a ≡ A.Refused 3
+pub refused-plain : (m : Lent) (base : ℕ) (va : VirtualAddress) (a : Access) → lentOk m ≡ false → plain (lookFrom m base) va a ≡ Answer.Refused 3
 unfolding byFound
 refused-plain m base va a e = ap (λ (w : Walked). byFound va a (w .reads) (w .found) .answer) (walk-refused m e base (va .0))
 
 -- the start is what the three writes leave
-module _ (rs : List ℕ) (base room len : ℕ) (e : answerOf rs base room ≡ Length len) where
+module _ (rs : List ℕ) (base room len : ℕ) (e : answerOf rs base room ≡ Built.Length len) where
   pub base-low : base < 2 ^ 32
   base-low =
       let a = accepted rs base room len e in

@@ -4,7 +4,7 @@ use mathlib.Core.Path.{_≡_, refl, sym, _∙_, ap, subst}
 use mathlib.Core.Bool.{Bool, true, false, true≢false}
 use Rattle.memory.specs.Memory.{lentOk}
 use Rattle.records.specs.Mappings.{mappings}
-use Rattle.lists.specs.Meanings.{meaning}
+use Rattle.records.specs.Meanings.{meaning}
 use Rattle.registers.specs.Answers.{isRefusal}
 use Rattle.unit.specs.declared.Device.{Device}
 use Rattle.unit.specs.Machine.{answered, step}

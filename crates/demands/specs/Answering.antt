@@ -4,12 +4,12 @@ use Rattle.page.specs.Ground.{ℕ, _%_, _<_, _≡_, true, false, List, [], _∷
 use Rattle.memory.specs.Memory.{Lent, lentOk}
 use Rattle.bill.specs.Bill.{moneyOk}
 use Rattle.records.specs.Mappings.{mappings}
-use Rattle.lists.specs.Meanings.{meaning}
-use Rattle.builder.specs.declared.Built.the-variants.{Length}
-use Rattle.image.specs.Image.{image}
+use Rattle.records.specs.Meanings.{meaning}
+use Rattle.builder.specs.declared.Built.{Built}
+use Rattle.builder.specs.Image.{image}
 use Rattle.builder.specs.Build.{answerOf}
 use Rattle.registers.specs.Answers.{isPrefetch}
-use Rattle.registers.specs.declared.Pending.the-variants.{Nothing, Held}
+use Rattle.registers.specs.declared.Pending.{Pending}
 use Rattle.decision.specs.Types.{Access, VirtualAddress, Bill, Prices, Fault}
 use Rattle.unit.specs.declared.Device.{Device}
 use Rattle.unit.specs.Offsets.{acknowledgeAt}
@@ -34,7 +34,7 @@ pub record Session (rs : List ℕ) (base : ℕ) (m : Lent) (d : Device) : Type 0
   pub b : Bill
   pub calls : List BilledCall
   pub bytes : Bytes rs
-  pub accepted : answerOf rs base room ≡ Length len
+  pub accepted : answerOf rs base room ≡ Built.Length len
   pub lent : lentOk m ≡ true
   pub lent-bytes : BytesFit m
   pub standing : Standing m base (image megabytes (mappings rs) base)
@@ -48,7 +48,7 @@ abbrev pub RequestsAnswered : Type 0
 RequestsAnswered =
     (rs : List ℕ) (base : ℕ) (m : Lent) (d : Device) → Session rs base m d →
     (p : Prices) (b : Bill) (va : VirtualAddress) (a : Access) →
-    d .pending ≡ Nothing → va .0 < limit → moneyOk p b ≡ true →
+    d .pending ≡ Pending.Nothing → va .0 < limit → moneyOk p b ≡ true →
     AsList (requestOf m p b d va a .answer) (meaning (mappings rs) va a)
 
 -- and so does the retry of a pending request
@@ -56,5 +56,5 @@ abbrev pub RetriesAnswered : Type 0
 RetriesAnswered =
     (rs : List ℕ) (base : ℕ) (m : Lent) (d : Device) → Session rs base m d →
     (p : Prices) (b : Bill) (v : ℕ) (k : Fault) (va : VirtualAddress) (a : Access) →
-    d .pending ≡ Held k va a → isPrefetch k ≡ false → v % 2 ≡ 1 → moneyOk p b ≡ true →
+    d .pending ≡ Pending.Held k va a → isPrefetch k ≡ false → v % 2 ≡ 1 → moneyOk p b ≡ true →
     AsList (writeOf m p b d acknowledgeAt v .answer) (meaning (mappings rs) va a)

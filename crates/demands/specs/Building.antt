@@ -3,11 +3,10 @@
 use Rattle.page.specs.Words.{megabytes}
 use Rattle.page.specs.Ground.{ℕ, zero, suc, _≡_, Bool, true, false, not, List, [], _∷_, _++_, eqb, ltb, length, drop}
 use Rattle.records.specs.Mappings.{mappings}
-use Rattle.lists.specs.Refusals.{bad, overlapping, begun}
+use Rattle.records.specs.Refusals.{bad, overlapping, begun}
 use Rattle.tables.specs.Tables.{imageLength}
-use Rattle.image.specs.Image.{image}
+use Rattle.builder.specs.Image.{image}
 use Rattle.builder.specs.declared.Built.{Built}
-use Rattle.builder.specs.declared.Built.the-variants.{Length}
 use Rattle.builder.specs.Build.{roomOk, answerOf, buildOf, builtNumber, builtValue}
 use Rattle.unit.specs.Refusals.{Refusing, First, Clear}
 
@@ -51,5 +50,5 @@ pub record ImageLeft (rs : List ℕ) (base len : ℕ) (before after : List ℕ) 
 
 abbrev pub BuildLeaves : Type 0
 BuildLeaves =
-    (rs : List ℕ) (base len : ℕ) (before : List ℕ) → buildOf rs base before .answer ≡ Length len
+    (rs : List ℕ) (base len : ℕ) (before : List ℕ) → buildOf rs base before .answer ≡ Built.Length len
     → ImageLeft rs base len before (buildOf rs base before .memory)

@@ -1,16 +1,14 @@
 -- Demand 3 in the buyer's order: build a list into a memory, lend that memory, start, call. And a session with list A.
 use Rattle.page.specs.Words.{virtual, physical}
 use Rattle.page.specs.Ground.{ℕ, _≡_, false, List, [], _∷_, replicate}
-use Rattle.page.specs.declared.Access.the-variants.{Read, Write}
 use Rattle.page.specs.declared.PhysicalAddress.{PhysicalAddress}
 use Rattle.memory.specs.Memory.{Lent, lent}
 use Rattle.bill.specs.Bill.{f1, freshBill}
 use Rattle.records.specs.Mappings.{mappings}
-use Rattle.lists.specs.Meanings.{meaning}
-use Rattle.builder.specs.declared.Built.the-variants.{Length}
+use Rattle.records.specs.Meanings.{meaning}
+use Rattle.builder.specs.declared.Built.{Built}
 use Rattle.builder.specs.Build.{buildOf}
-use Rattle.prices.specs.declared.Price.the-variants.{Flat}
-use Rattle.registers.specs.declared.Answer.the-variants as A
+use Rattle.prices.specs.declared.Price.{Price}
 use Rattle.registers.specs.Answers.{isRefusal}
 use Rattle.decision.specs.Types.{Access, VirtualAddress, Bill, Prices, Answer}
 use Rattle.unit.specs.declared.Device.{Device}
@@ -36,7 +34,7 @@ BuiltThenCalled =
     (rs : List ℕ) (base len : ℕ) (before : List ℕ) (m : Lent) (v : ℕ) (p : Prices) (b₀ : Bill)
     (cs : List BilledCall) (b : Bill) (c : Call) (va : VirtualAddress) (a : Access) (r : Answer) →
     Bytes rs →
-    buildOf rs base before .answer ≡ Length len →
+    buildOf rs base before .answer ≡ Built.Length len →
     LentAt (buildOf rs base before .memory) base m →
     TurnsOn v →
     Admitted cs →
@@ -59,7 +57,7 @@ BuiltSession =
     (rs : List ℕ) (base len : ℕ) (before : List ℕ) (v : ℕ) (p : Prices) (b : Bill) (cs : List BilledCall) →
     Bytes rs →
     Bytes before →
-    buildOf rs base before .answer ≡ Length len →
+    buildOf rs base before .answer ≡ Built.Length len →
     TurnsOn v →
     Admitted cs →
     ValuesFit cs →
@@ -70,7 +68,7 @@ abbrev pub roomA : ℕ
 roomA = 8192
 
 abbrev pub pricesA : Prices
-pricesA = record { onchip = Flat f1; external = Flat f1 }
+pricesA = record { onchip = Price.Flat f1; external = Price.Flat f1 }
 
 abbrev pub startA : Lent → Device
 startA m = start m baseA 7 pricesA freshBill
@@ -85,12 +83,12 @@ deviceA = startA memoryA
 -- a request that is answered, one that is not permitted, its retry, a drop, a prefetch, a request again, a read
 abbrev pub callsA : List BilledCall
 callsA =
-    (freshBill, request (virtual 0x012345) Read pricesA)
-    ∷ (freshBill, request (virtual 0x3abcde) Write pricesA)
+    (freshBill, request (virtual 0x012345) Access.Read pricesA)
+    ∷ (freshBill, request (virtual 0x3abcde) Access.Write pricesA)
     ∷ (freshBill, write acknowledgeAt 1 pricesA)
     ∷ (freshBill, drop-fault)
     ∷ (freshBill, write prefetchAt 0x1401 pricesA)
-    ∷ (freshBill, request (virtual 0x5007ff) Read pricesA)
+    ∷ (freshBill, request (virtual 0x5007ff) Access.Read pricesA)
     ∷ (freshBill, read 0x24)
     ∷ []
 
@@ -102,4 +100,4 @@ byteA = physical 0x10022345
 pub record Exhibited : Type 0 where
   pub first : Session recordsA baseA memoryA deviceA
   pub session : Session recordsA baseA memoryA (after memoryA deviceA callsA)
-  pub answers : requestOf memoryA pricesA freshBill deviceA (virtual 0x012345) Read .answer ≡ A.Address byteA
+  pub answers : requestOf memoryA pricesA freshBill deviceA (virtual 0x012345) Access.Read .answer ≡ Answer.Address byteA

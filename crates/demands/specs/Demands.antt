@@ -2,15 +2,13 @@
 use Rattle.page.specs.Words.{megabytes}
 use Rattle.page.specs.Ground.{ℕ, _≡_, false, List}
 use Rattle.memory.specs.Memory.{Lent}
-use Rattle.lists.specs.declared.Meaning.{Meaning}
-use Rattle.lists.specs.declared.Meaning.the-variants.{Byte, Permission, Translation}
+use Rattle.records.specs.declared.Meaning.{Meaning}
 use Rattle.records.specs.Mappings.{mappings}
-use Rattle.lists.specs.Meanings.{meaning, meaningNumber, meaningValues}
-use Rattle.builder.specs.declared.Built.the-variants.{Length}
-use Rattle.image.specs.Image.{image}
+use Rattle.records.specs.Meanings.{meaning, meaningNumber, meaningValues}
+use Rattle.builder.specs.declared.Built.{Built}
+use Rattle.builder.specs.Image.{image}
 use Rattle.builder.specs.Build.{answerOf}
-use Rattle.registers.specs.declared.Fault.the-variants as K
-use Rattle.registers.specs.declared.Answer.the-variants as A
+use Rattle.registers.specs.declared.Fault.{Fault}
 use Rattle.registers.specs.Answers.{isRefusal}
 use Rattle.registers.specs.Answers as N
 use Rattle.decision.specs.Types.{Access, VirtualAddress, Bill, Prices, Answer}
@@ -69,9 +67,9 @@ pub record Demand2 : Type 0 where
 
 -- what a list alone answers
 abbrev pub said : Meaning → Answer
-said (Byte p) = A.Address p
-said Permission = A.Fault K.Permission
-said Translation = A.Fault K.Translation
+said (Meaning.Byte p) = Answer.Address p
+said Meaning.Permission = Answer.Fault Fault.Permission
+said Meaning.Translation = Answer.Fault Fault.Translation
 
 -- an answer is the list's: its case, and in the paper's number and values
 pub record AsList (r : Answer) (x : Meaning) : Type 0 where
@@ -88,7 +86,7 @@ Demand3 =
     (rs : List ℕ) (base room len : ℕ) (m : Lent) (v : ℕ) (p : Prices) (b₀ : Bill)
     (cs : List BilledCall) (b : Bill) (c : Call) (va : VirtualAddress) (a : Access) (r : Answer) →
     Bytes rs →
-    answerOf rs base room ≡ Length len →
+    answerOf rs base room ≡ Built.Length len →
     Standing m base (image megabytes (mappings rs) base) →
     TurnsOn v →
     Admitted cs →

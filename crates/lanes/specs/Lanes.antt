@@ -4,7 +4,6 @@ use Rattle.page.specs.Pick.{pick, _and_}
 use Rattle.page.specs.Words.{wordMatches, wordFlushed, wordFlushedAt}
 use Rattle.page.specs.declared.VirtualAddress.{VirtualAddress}
 use Rattle.lanes.specs.declared.Matched.{Matched}
-use Rattle.lanes.specs.declared.Matched.the-variants.{At, Nothing}
 
 -- how many slots there are
 abbrev pub slots : ℕ
@@ -12,8 +11,8 @@ slots = 32
 
 -- the first of the n slots from i that matches
 unfoldable pub lookedFrom : ℕ → ℕ → List ℕ → VirtualAddress → Matched
-lookedFrom zero i cam va = Nothing
-lookedFrom (suc n) i cam va = pick (wordMatches (getD cam i 0) va) (At i) (lookedFrom n (i + 1) cam va)
+lookedFrom zero i cam va = Matched.Nothing
+lookedFrom (suc n) i cam va = pick (wordMatches (getD cam i 0) va) (Matched.At i) (lookedFrom n (i + 1) cam va)
 
 -- the slots are looked at lowest first
 abbrev pub lookedUp : List ℕ → VirtualAddress → Matched

@@ -15,8 +15,8 @@ use Rattle.page.proofs.Picks.{pick-no, pick-by, or-no}
 use Rattle.records.specs.declared.Mapping.{Mapping}
 use Rattle.records.specs.Mappings.{recordAt}
 use Rattle.records.specs.Checks.{wellFormed}
-use Rattle.lists.specs.declared.Checked.{Checked}
-use Rattle.lists.specs.Refusals.{bad, overlapping, checkedFrom, begun, checked}
+use Rattle.records.specs.declared.Checked.{Checked}
+use Rattle.records.specs.Refusals.{bad, overlapping, checkedFrom, begun, checked}
 use Rattle.listing.specs.declared.Wrong.{Wrong}
 use Rattle.listing.specs.declared.Said.{Said}
 use Rattle.listing.specs.declared.Listed.{Listed}

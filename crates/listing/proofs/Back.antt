@@ -13,7 +13,7 @@ use lib.Seq.{length-take-le, take-at, drop-append-add, drop-drop, take-add, take
 use Rattle.page.specs.Pick.{pick, _and_, _or_}
 use Rattle.page.specs.Words.{megabytes, typeOf, kindOf}
 use Rattle.page.proofs.Picks.{pick-yes, pick-no, pick-by, and-left, and-right, or-no}
-use Rattle.memory.specs.Memory.{littleEndian, wordOf}
+use Rattle.wire.specs.Words.{littleEndian, wordOf}
 use Rattle.records.specs.declared.Mapping.{Mapping}
 use Rattle.records.specs.Mappings.{recordAt, mappingOf, mappingsFrom, mappings}
 use Rattle.records.specs.Checks.{multiple, proper, wellFormed}

@@ -11,7 +11,7 @@ use Rattle.page.specs.Pick.{pick, _and_, _or_}
 use Rattle.page.specs.Words.{megabytes, limit, typeOf, kindOf}
 use Rattle.page.specs.declared.Kind.{Kind}
 use Rattle.page.proofs.Picks.{pick-by, and-yes, and-right, or-no}
-use Rattle.memory.specs.Memory.{wordOf}
+use Rattle.wire.specs.Words.{wordOf}
 use Rattle.records.specs.declared.Mapping.{Mapping}
 use Rattle.records.specs.Mappings.{mappingOf}
 use Rattle.records.specs.Checks.{multiple, proper, wellFormed}

@@ -3,7 +3,7 @@ use Rattle.page.specs.Ground.{ℕ, _*_, _≤_, _≡_, List, [], _∷_, _++_, le
 use Rattle.page.specs.declared.Kind.{Kind}
 use Rattle.records.specs.declared.Mapping.{Mapping}
 use Rattle.records.specs.Mappings.{recordSize}
-use Rattle.lists.specs.Refusals.{most}
+use Rattle.records.specs.Refusals.{most}
 use Rattle.listing.specs.declared.Wrong.{Wrong}
 use Rattle.listing.specs.declared.Listed.{Listed}
 use Rattle.listing.specs.Lines.{mapping}

@@ -6,7 +6,7 @@ use Rattle.page.specs.declared.Kind.{Kind}
 use Rattle.records.specs.declared.Mapping.{Mapping}
 use Rattle.records.specs.Mappings.{recordSize, recordAt, mappings}
 use Rattle.records.specs.Checks.{wellFormed}
-use Rattle.lists.specs.Refusals.{most}
+use Rattle.records.specs.Refusals.{most}
 use Rattle.listing.specs.declared.Printed.{Printed}
 use Rattle.listing.specs.Words.{kindText, readText, bothText}
 use Rattle.listing.specs.Texts.{pasted}

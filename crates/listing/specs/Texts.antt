@@ -4,7 +4,7 @@ use Rattle.page.specs.Pick.{pick, _or_}
 use Rattle.page.specs.Words.{typeOf}
 use Rattle.records.specs.declared.Mapping.{Mapping}
 use Rattle.records.specs.Mappings.{recordSize}
-use Rattle.lists.specs.Refusals.{most}
+use Rattle.records.specs.Refusals.{most}
 use Rattle.listing.specs.declared.Wrong.{Wrong}
 use Rattle.listing.specs.declared.Said.{Said}
 use Rattle.listing.specs.declared.Listed.{Listed}

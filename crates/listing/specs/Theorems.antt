@@ -2,8 +2,8 @@
 use Rattle.page.specs.Ground.{ℕ, _+_, _*_, _/_, _<_, _≤_, _≡_, true, List, length, getD, take}
 use Rattle.page.specs.Words.{megabytes}
 use Rattle.records.specs.Mappings.{recordSize, mappings}
-use Rattle.lists.specs.declared.Checked.{Checked}
-use Rattle.lists.specs.Refusals.{most, checked}
+use Rattle.records.specs.declared.Checked.{Checked}
+use Rattle.records.specs.Refusals.{most, checked}
 use Rattle.listing.specs.declared.Listed.{Listed}
 use Rattle.listing.specs.declared.Printed.{Printed}
 use Rattle.listing.specs.Texts.{pasted, readText}

@@ -7,11 +7,10 @@ use lib.ListN.{length, take, drop, length-drop}
 use lib.Seq.{length-take-le}
 use mathlib.Core.List.{List}
 use Rattle.page.proofs.Picks.{pick-yes, pick-no, pick-by, and-left, and-right}
-pub use Rattle.spans.proofs.Spans.{ok-short, ok-ends}
-use Rattle.spans.proofs.Spans.{held-from, held-to, apart-held-once}
+pub use Rattle.memory.proofs.Apart.{ok-short, ok-ends}
+use Rattle.memory.proofs.Apart.{held-from, held-to, apart-held-once}
 use Rattle.memory.specs.Memory.{Lent, memoryOk, memoriesOk, lentOk, holds, placeWithin, placeIn, partAt, partLength, Inside}
 use Rattle.memory.specs.declared.Place.{Place}
-use Rattle.memory.specs.declared.Place.the-variants.{OnChip, External, Nowhere}
 
 -- memories that are not refused are both good
 pub on-ok : (m : Lent) → lentOk m ≡ true → memoryOk (m .onbase) (length (m .on)) ≡ true
@@ -34,7 +33,7 @@ module _ (m : Lent) (a : ℕ) where
   unfolding placeIn
   place-ok h = pick-yes _ _ _ h
 
-  pub place-refused : lentOk m ≡ false → placeIn m a ≡ Nowhere
+  pub place-refused : lentOk m ≡ false → placeIn m a ≡ Place.Nowhere
   unfolding placeIn
   place-refused h = pick-no _ _ _ h
 
@@ -57,9 +56,9 @@ four l k h = length-take-le 4 (drop k l) (subst (λ (n : ℕ). 4 ≤ n) (sym (le
 
 -- a part is four bytes, or none where there is no place
 pub part-length : (m : Lent) (a : ℕ) (p : Place) → Inside m a p → length (partAt m p) ≡ partLength p
-part-length m a (OnChip k) h = four (m .on) k (h .0)
-part-length m a (External k) h = four (m .ext) k (h .0)
-part-length m a Nowhere h = refl
+part-length m a (Place.OnChip k) h = four (m .on) k (h .0)
+part-length m a (Place.External k) h = four (m .ext) k (h .0)
+part-length m a Place.Nowhere h = refl
 
 -- a part that starts where its memory does
 pub at-start : (p : ℕ × ℕ) → _≡_ {A = ℕ × ℕ} (p .0, 0 + p .1) p

@@ -1,12 +1,11 @@
 -- The two lent memories (01, "The unit", third paragraph; "When the unit says no", 4): which are refused,
 -- where a descriptor's four bytes lie, and the part that they are.
-use Rattle.page.specs.Ground.{ℕ, _+_, _-_, _*_, _≤_, _≡_, Bool, List, [], leb, length, getD, take, drop}
+use Rattle.page.specs.Ground.{ℕ, _+_, _-_, _≤_, _≡_, Bool, List, [], length, take, drop}
 use Rattle.page.specs.Pick.{pick}
 use denote.Ref.{RefT}
-pub use Rattle.spans.specs.Spans.{longest}
-unfoldable pub use Rattle.spans.specs.Spans.{memoryOk, apart, memoriesOk, holds}
+pub use Rattle.memory.specs.Spans.{longest}
+unfoldable pub use Rattle.memory.specs.Spans.{memoryOk, apart, memoriesOk, holds}
 use Rattle.memory.specs.declared.Place.{Place}
-use Rattle.memory.specs.declared.Place.the-variants.{OnChip, External, Nowhere}
 
 -- the bytes of the on-chip and of the external memory, and the physical address of the first byte of each
 pub record Lent : Type 0 where
@@ -25,7 +24,7 @@ lentOk m = memoriesOk (m .onbase) (length (m .on)) (m .extbase) (length (m .ext)
 
 -- where the four bytes at a lie: in the n bytes at b on chip, in the m external ones at c, or in neither
 abbrev pub placeOf : ℕ → ℕ → ℕ → ℕ → ℕ → Place
-placeOf b n c m a = pick (holds b n a) (OnChip (a - b)) (pick (holds c m a) (External (a - c)) Nowhere)
+placeOf b n c m a = pick (holds b n a) (Place.OnChip (a - b)) (pick (holds c m a) (Place.External (a - c)) Place.Nowhere)
 
 -- where the four bytes at an address lie, with no look at refusal 4
 unfoldable pub placeWithin : Lent → ℕ → Place
@@ -33,19 +32,19 @@ placeWithin m a = placeOf (m .onbase) (length (m .on)) (m .extbase) (length (m .
 
 -- where the four bytes at an address lie; nowhere under refusal 4
 unfoldable pub placeIn : Lent → ℕ → Place
-placeIn m a = pick (lentOk m) (placeWithin m a) Nowhere
+placeIn m a = pick (lentOk m) (placeWithin m a) Place.Nowhere
 
 -- the four bytes at a place
 abbrev pub partAt : Lent → Place → List ℕ
-partAt m (OnChip k) = take 4 (drop k (m .on))
-partAt m (External k) = take 4 (drop k (m .ext))
-partAt m Nowhere = []
+partAt m (Place.OnChip k) = take 4 (drop k (m .on))
+partAt m (Place.External k) = take 4 (drop k (m .ext))
+partAt m Place.Nowhere = []
 
 -- how many bytes those are
 abbrev pub partLength : Place → ℕ
-partLength (OnChip k) = 4
-partLength (External k) = 4
-partLength Nowhere = 0
+partLength (Place.OnChip k) = 4
+partLength (Place.External k) = 4
+partLength Place.Nowhere = 0
 
 -- the four bytes at an address, with no look at refusal 4
 abbrev pub fetchedWithin : Lent → ℕ → List ℕ
@@ -57,20 +56,12 @@ fetchedIn m a = partAt m (placeIn m a)
 
 -- whose part they are: the block of the memory that holds them and the offset there; nowhere is the start of the on-chip one
 abbrev pub sourceOf : RefT (List ℕ) → RefT (List ℕ) → Place → ℕ × ℕ
-sourceOf on ext (OnChip k) = (on .ptr .0, k + on .ptr .1)
-sourceOf on ext (External k) = (ext .ptr .0, k + ext .ptr .1)
-sourceOf on ext Nowhere = on .ptr
-
--- four bytes as a number, little-endian
-abbrev pub littleEndian : ℕ → ℕ → ℕ → ℕ → ℕ
-littleEndian a b c d = a + 256 * b + 65536 * c + 16777216 * d
-
--- the word that a part's first four bytes are; 0 where there are fewer
-unfoldable pub wordOf : List ℕ → ℕ
-wordOf s = pick (leb 4 (length s)) (littleEndian (getD s 0 0) (getD s 1 0) (getD s 2 0) (getD s 3 0)) 0
+sourceOf on ext (Place.OnChip k) = (on .ptr .0, k + on .ptr .1)
+sourceOf on ext (Place.External k) = (ext .ptr .0, k + ext .ptr .1)
+sourceOf on ext Place.Nowhere = on .ptr
 
 -- a place lies whole in its memory, where the address says
 abbrev pub Inside : Lent → ℕ → Place → Type 0
-Inside m a (OnChip k) = (k + 4 ≤ length (m .on)) × (m .onbase + k ≡ a)
-Inside m a (External k) = (k + 4 ≤ length (m .ext)) × (m .extbase + k ≡ a)
-Inside m a Nowhere = Unit
+Inside m a (Place.OnChip k) = (k + 4 ≤ length (m .on)) × (m .onbase + k ≡ a)
+Inside m a (Place.External k) = (k + 4 ≤ length (m .ext)) × (m .extbase + k ≡ a)
+Inside m a Place.Nowhere = Unit

@@ -2,12 +2,11 @@
 use Rattle.page.specs.Ground.{ℕ, List, [], _∷_, length}
 use Rattle.memory.specs.declared.Source.{Source}
 use Rattle.memory.specs.declared.Reads.{Reads}
-use Rattle.memory.specs.declared.Reads.the-variants.{Nothing, One, Two}
 
 abbrev pub sources : Reads → List Source
-sources Nothing = []
-sources (One a) = a ∷ []
-sources (Two a b) = a ∷ b ∷ []
+sources Reads.Nothing = []
+sources (Reads.One a) = a ∷ []
+sources (Reads.Two a b) = a ∷ b ∷ []
 
 abbrev pub wordCount : Reads → ℕ
 wordCount r = length (sources r)

@@ -1,12 +1,13 @@
 // The two lent memories, where a descriptor's four bytes lie, and the part that holds them.
+mod spans;
+
 use page::PhysicalAddress;
-pub use spans::LONGEST;
 pub use spans::memory_ok;
 ghost use mathlib.Core.Path.{_≡_};
 ghost use Prim.Native.Nat.{_+_, _≤_};
 ghost use lib.ListN.{length, take, drop};
 ghost use Rattle.memory.specs.Reads.{wordCount};
-ghost use Rattle.memory.specs.Memory.{lent, lentOk, placeOf, placeWithin, placeIn, fetchedWithin, fetchedIn, sourceOf, littleEndian, wordOf};
+ghost use Rattle.memory.specs.Memory.{lent, lentOk, placeOf, placeWithin, placeIn, fetchedWithin, fetchedIn, sourceOf};
 
 // Where four bytes lie: at an offset of the on-chip memory, of the external one, or in neither.
 pub enum Place {
@@ -27,6 +28,9 @@ pub enum Reads {
     One(Source),
     Two(Source, Source),
 }
+
+// The greatest length of a memory.
+pub const LONGEST: usize = 131072;
 
 // How many words were read.
 pub fn count(reads: Reads) -> u32
@@ -119,21 +123,4 @@ pub fn fetch<'a>(
         return &on[0..0];
     }
     fetch_within(on, onbase, ext, extbase, at)
-}
-
-// Four bytes as a number, little-endian.
-pub fn word(a: u8, b: u8, c: u8, d: u8) -> u32
-    ensures { λ r. ⌜ r ≡ littleEndian a b c d ⌝ }
-{
-    a as u32 + 256 * (b as u32) + 65536 * (c as u32) + 16777216 * (d as u32)
-}
-
-// The word that a part's first four bytes are; 0 where there are fewer.
-pub fn word_of(s: &[u8]) -> u32
-    ensures { λ r. ⌜ r ≡ wordOf (now (s .entry)) ⌝ }
-{
-    if s.len() < 4 {
-        return 0;
-    }
-    word(s[0], s[1], s[2], s[3])
 }

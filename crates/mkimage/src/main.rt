@@ -1,4 +1,17 @@
 // Records on standard input; on standard output the image built at 20000000 hex, or the refusal.
+mod output;
+
+use libc::STDIN_FILENO;
+use libc::STDOUT_FILENO;
+
+// A list of 256 records and one byte more.
+const INPUT: usize = 3073;
+
+// Reads the records, builds the image in 65,536 bytes and writes it, or the refusal.
 fn main() {
-    mkimage_core::run();
+    let mut records = [0u8; INPUT];
+    let mut memory = io::large_buffer();
+    let n = io::read_full(STDIN_FILENO, &mut records);
+    let k = output::output(&records[..n], &mut memory);
+    io::write_all(STDOUT_FILENO, &memory[..k]);
 }

@@ -3,7 +3,7 @@ use crate::parse;
 use crate::parse::Fixed;
 use crate::parse::Number;
 use crate::text;
-use forms::Call;
+use calls::Call;
 use page::Access;
 use page::VirtualAddress;
 use prices::Price;

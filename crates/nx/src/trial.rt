@@ -8,14 +8,14 @@ use crate::script;
 use crate::script::Step;
 use crate::text;
 use bill::Bill;
+use calls::Call;
 use decision::Said;
-use forms::Call;
-use lists::Meaning;
 use meters::Meters;
 use page::Access;
 use page::VirtualAddress;
 use prices::Price;
 use prices::Prices;
+use records::Meaning;
 use session::Bench;
 use session::Stepped;
 ghost use Prim.Native.Nat.{_≤_};
@@ -223,9 +223,9 @@ fn shift_meaning(m: Meaning, va: VirtualAddress) -> bool {
 // What a list says of a call.
 fn meant(records: &[u8], call: Call) -> bool {
     match call {
-        Call::Request(va, a) => return meaning(lists::means(records, va, a)),
+        Call::Request(va, a) => return meaning(records::lists::means(records, va, a)),
         Call::Shift(va) => {
-            return shift_meaning(lists::means(records, va, Access::Read), va);
+            return shift_meaning(records::lists::means(records, va, Access::Read), va);
         }
         Call::Write(_, _) => return says(0),
         Call::Read(_) => return says(0),
@@ -267,7 +267,7 @@ fn signed_distance(x: u64) -> bool {
 // What a call said.
 fn told(said: Said) -> bool {
     let mut out = [0u8; 16];
-    answers::put_said(&mut out, 0, said);
+    run::answers::put_said(&mut out, 0, said);
     answer(
         wire::word_at(&out, 0),
         joined(wire::word_at(&out, 8), wire::word_at(&out, 12)),
@@ -354,7 +354,7 @@ fn totals(m: Meters) -> bool {
 
 // The bill at the end.
 fn paid(m: Meters, bill: Bill) -> bool {
-    let w = parts::rest_words(m, bill);
+    let w = state::rest_words(m, bill);
     text::put(text::OUT, b"  nanoseconds paid  ")
         & figure(joined(w[3], w[4]))
         & text::put(text::OUT, b"  smoothed misses   ")

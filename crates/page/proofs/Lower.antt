@@ -2,7 +2,7 @@
 use mathlib.Core.Path.{_≡_, refl, sym, ap, ap₂, _∙_, subst}
 use mathlib.Core.Bool.{Bool, true, false}
 use Prim.Native.Nat.{ℕ, _+_, _-_, _*_, _/_, _%_, _^_, _≤_, _<_}
-use native.Mathlib.Nat.{div-mul-le-self, div-eq-of-lt, div-lt-iff-lt-mul, lt-of-le-of-lt, mod-eq-of-lt, mod-lt, suc-mul, mul-le-mul-right, add-zero}
+use native.Mathlib.Nat.{div-mul-le-self, div-eq-of-lt, div-lt-iff-lt-mul, lt-of-le-of-lt, mod-eq-of-lt, mod-lt, suc-mul, mul-le-mul-right}
 use native.Mathlib.Omega.{arith}
 use lib.Pow.{shr-shr, shl-shr, split, pow-pos, pow-add, shr-lt, high, low}
 use lib.Dec.{eqb, ltb}

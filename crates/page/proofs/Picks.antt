@@ -1,5 +1,5 @@
 -- The laws of a choice and of the two tests. Assumes nothing.
-use mathlib.Core.Path.{_≡_, refl, sym, _∙_, ap}
+use mathlib.Core.Path.{_≡_, refl}
 use mathlib.Core.Bool.{Bool, true, false, _&&_, _||_, true≢false, false≢true}
 use Rattle.page.specs.Pick.{pick, _and_, _or_}
 

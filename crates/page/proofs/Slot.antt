@@ -1,50 +1,48 @@
 -- What a slot's two words say after they were made, dropped or flushed. Assumes nothing.
 use mathlib.Core.Path.{_≡_, refl, sym, ap, ap₂, _∙_}
 use mathlib.Core.Bool.{Bool, true, false, _&&_}
-use Prim.Native.Nat.{ℕ, _+_, _-_, _*_, _/_, _%_, _^_, _<_, _≤_}
+use Prim.Native.Nat.{ℕ, _-_, _*_, _/_, _%_, _^_, _<_, _≤_}
 use native.Mathlib.Omega.{arith}
 use lib.Dec.{eqb, ltb}
 use lib.Bits.{bitXor}
 use borrow.Author.Tests.{eq-eqb, ne-eqb, eqb-true}
 use Rattle.page.specs.declared.Kind.{Kind}
-use Rattle.page.specs.declared.Kind.the-variants.{Section, Large, Small, Tiny}
 use Rattle.page.specs.declared.VirtualAddress.{VirtualAddress}
-use Rattle.page.specs.declared.PhysicalAddress.{PhysicalAddress}
-use Rattle.page.specs.Pick.{pick, _and_}
+use Rattle.page.specs.Pick.{_and_}
 use Rattle.page.specs.Low.{upper, agree, joined}
-use Rattle.page.specs.Words.{lowBits, typeOf, kindOf, physical, wordValid, wordPreserved, wordTag, wordAccess, wordMatches, wordAddress, wordDropped, wordFlushed, wordFlushedAt, madeCam, madeRam}
+use Rattle.page.specs.Words.{lowBits, typeOf, kindOf, physical, wordValid, wordPreserved, wordTag, wordAccess, wordMatches, wordAddress, wordDropped, wordFlushed, madeCam, madeRam}
 use Rattle.page.proofs.Picks.{pick-yes, pick-no, and-yes, and-no, and-is}
 use Rattle.page.proofs.Lower.{upper-high, joined-agree, apart-agree, pages-agree}
 
 -- a page is at least a tiny one and at most a section
 pub lowBits-ge : (k : Kind) → 10 ≤ lowBits k
-lowBits-ge Section = omega arith
-lowBits-ge Large = omega arith
-lowBits-ge Small = omega arith
-lowBits-ge Tiny = omega arith
+lowBits-ge Kind.Section = omega arith
+lowBits-ge Kind.Large = omega arith
+lowBits-ge Kind.Small = omega arith
+lowBits-ge Kind.Tiny = omega arith
 
 pub lowBits-le : (k : Kind) → lowBits k ≤ 20
-lowBits-le Section = omega arith
-lowBits-le Large = omega arith
-lowBits-le Small = omega arith
-lowBits-le Tiny = omega arith
+lowBits-le Kind.Section = omega arith
+lowBits-le Kind.Large = omega arith
+lowBits-le Kind.Small = omega arith
+lowBits-le Kind.Tiny = omega arith
 
 pub typeOf-lt : (k : Kind) → typeOf k < 4
-typeOf-lt Section = omega arith
-typeOf-lt Large = omega arith
-typeOf-lt Small = omega arith
-typeOf-lt Tiny = omega arith
+typeOf-lt Kind.Section = omega arith
+typeOf-lt Kind.Large = omega arith
+typeOf-lt Kind.Small = omega arith
+typeOf-lt Kind.Tiny = omega arith
 
 -- the type bits say the kind, and no other
 pub kindOf-type : (w : ℕ) (k : Kind) → w % 4 ≡ typeOf k → kindOf w ≡ k
 unfolding kindOf
-kindOf-type w Section e = pick-yes _ _ _ (eq-eqb _ _ e)
-kindOf-type w Large e = pick-no _ _ _ (ne-eqb (w % 4) 0 (λ q. omega (arith, q, e))) ∙ pick-yes _ _ _ (eq-eqb _ _ e)
-kindOf-type w Small e =
+kindOf-type w Kind.Section e = pick-yes _ _ _ (eq-eqb _ _ e)
+kindOf-type w Kind.Large e = pick-no _ _ _ (ne-eqb (w % 4) 0 (λ q. omega (arith, q, e))) ∙ pick-yes _ _ _ (eq-eqb _ _ e)
+kindOf-type w Kind.Small e =
     pick-no _ _ _ (ne-eqb (w % 4) 0 (λ q. omega (arith, q, e)))
     ∙ pick-no _ _ _ (ne-eqb (w % 4) 1 (λ q. omega (arith, q, e)))
     ∙ pick-yes _ _ _ (eq-eqb _ _ e)
-kindOf-type w Tiny e =
+kindOf-type w Kind.Tiny e =
     pick-no _ _ _ (ne-eqb (w % 4) 0 (λ q. omega (arith, q, e)))
     ∙ pick-no _ _ _ (ne-eqb (w % 4) 1 (λ q. omega (arith, q, e)))
     ∙ pick-no _ _ _ (ne-eqb (w % 4) 2 (λ q. omega (arith, q, e)))
@@ -52,10 +50,10 @@ kindOf-type w Tiny e =
 -- a page starts at a multiple of 1,024
 pub start-1024 : (k : Kind) (x : ℕ) → upper (lowBits k) x % 1024 ≡ 0
 unfolding upper
-start-1024 Section x = omega arith
-start-1024 Large x = omega arith
-start-1024 Small x = omega arith
-start-1024 Tiny x = omega arith
+start-1024 Kind.Section x = omega arith
+start-1024 Kind.Large x = omega arith
+start-1024 Kind.Small x = omega arith
+start-1024 Kind.Tiny x = omega arith
 
 -- what a walk stores says what the walk found
 module _ (k : Kind) (va : ℕ) where
@@ -90,10 +88,10 @@ made-access k frame access h = omega (arith, start-1024 k frame)
 -- the access bits lie below every page size
 made-frame : (k : Kind) (frame access : ℕ) → madeRam k frame access / 2 ^ lowBits k ≡ frame / 2 ^ lowBits k
 unfolding madeRam upper
-made-frame Section frame access = omega arith
-made-frame Large frame access = omega arith
-made-frame Small frame access = omega arith
-made-frame Tiny frame access = omega arith
+made-frame Kind.Section frame access = omega arith
+made-frame Kind.Large frame access = omega arith
+made-frame Kind.Small frame access = omega arith
+made-frame Kind.Tiny frame access = omega arith
 
 pub made-address : (k : Kind) (frame access va : ℕ) (at : VirtualAddress) → wordAddress (madeCam k va) (madeRam k frame access) at ≡ physical (joined (lowBits k) frame (at .0))
 unfolding wordAddress

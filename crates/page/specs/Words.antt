@@ -1,12 +1,10 @@
 -- The kinds of page, access rights, and the two words of a slot in register layout (01, "The unit", "Registers"):
 -- CAM has the tag in 17:4 (address bits 23:10), P in 3, V in 2, the type in 1:0; RAM has the frame in 31:10, access in 9:8.
-use Rattle.page.specs.Ground.{ℕ, _+_, _-_, _*_, _/_, _%_, _^_, Bool, true, false, eqb, leb}
+use Rattle.page.specs.Ground.{ℕ, _+_, _-_, _*_, _/_, _%_, _^_, Bool, eqb, leb}
 use Rattle.page.specs.Pick.{pick, _and_}
 use Rattle.page.specs.Low.{upper, agree, joined}
 use Rattle.page.specs.declared.Access.{Access}
-use Rattle.page.specs.declared.Access.the-variants.{Read, Write}
 use Rattle.page.specs.declared.Kind.{Kind}
-use Rattle.page.specs.declared.Kind.the-variants.{Section, Large, Small, Tiny}
 use Rattle.page.specs.declared.VirtualAddress.{VirtualAddress}
 use Rattle.page.specs.declared.PhysicalAddress.{PhysicalAddress}
 use Rattle.page.specs.declared.Words.{Words}
@@ -27,29 +25,29 @@ limit = megabytes * 2 ^ 20
 
 -- how many low bits of an address a page leaves alone
 abbrev pub lowBits : Kind → ℕ
-lowBits Section = 20
-lowBits Large = 16
-lowBits Small = 12
-lowBits Tiny = 10
+lowBits Kind.Section = 20
+lowBits Kind.Large = 16
+lowBits Kind.Small = 12
+lowBits Kind.Tiny = 10
 
 -- the paper's number of a kind: the type bits of a slot
 abbrev pub typeOf : Kind → ℕ
-typeOf Section = 0
-typeOf Large = 1
-typeOf Small = 2
-typeOf Tiny = 3
+typeOf Kind.Section = 0
+typeOf Kind.Large = 1
+typeOf Kind.Small = 2
+typeOf Kind.Tiny = 3
 
 -- the kind that the two lowest bits of a word say
 unfoldable pub kindOf : ℕ → Kind
 kindOf w =
-    pick (eqb (w % 4) 0) Section
-    (pick (eqb (w % 4) 1) Large
-    (pick (eqb (w % 4) 2) Small Tiny))
+    pick (eqb (w % 4) 0) Kind.Section
+    (pick (eqb (w % 4) 1) Kind.Large
+    (pick (eqb (w % 4) 2) Kind.Small Kind.Tiny))
 
 -- access bits 0x permit nothing, 10 reading, 11 both
 abbrev pub permits : ℕ → Access → Bool
-permits bits Read = leb 2 bits
-permits bits Write = eqb bits 3
+permits bits Access.Read = leb 2 bits
+permits bits Access.Write = eqb bits 3
 
 -- what the two words say
 abbrev pub wordValid : ℕ → Bool

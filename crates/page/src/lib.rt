@@ -4,6 +4,15 @@ ghost use Prim.Native.Nat.{_-_, _^_};
 ghost use Rattle.page.specs.Low.{upper, joined};
 ghost use Rattle.page.specs.Words.{lowBits, typeOf, kindOf, permits, wordValid, wordAccess, wordMatches, wordAddress, wordDropped, wordFlushed, wordFlushedAt, madeWords};
 
+// The megabytes of virtual addresses, a first-level word for each.
+pub const MEGABYTES: u32 = 16;
+
+// The bytes of a megabyte.
+pub const MEGABYTE: u32 = 1048576;
+
+// The first address past the virtual ones.
+pub const LIMIT: u32 = 16777216;
+
 // An address of the DSP.
 pub struct VirtualAddress(pub u32);
 

@@ -12,15 +12,13 @@ use Rattle.bank.specs.Slots.{freshBank}
 use Rattle.bank.specs.Changes.{entryFilled}
 use Rattle.walk.specs.Walk.{walkWithin}
 use Rattle.registers.specs.Fields.{freshRegisters}
-use Rattle.registers.specs.declared.Answer.the-variants as A
+use Rattle.registers.specs.declared.Answer.{Answer}
 use Rattle.registers.specs.declared.Pending.{Pending}
-use Rattle.registers.specs.declared.Pending.the-variants.{Nothing}
 use Rattle.registers.specs.declared.Registers.{Registers}
-use Rattle.decision.specs.declared.Said.the-variants.{Answered}
+use Rattle.decision.specs.declared.Said.{Said}
 use Rattle.plan.specs.declared.Plan.{Plan}
-use Rattle.plan.specs.declared.Plan.the-variants as L
 use Rattle.plan.specs.declared.Reason.{Reason}
-use Rattle.slots.specs.Lanes.{bankOf, Spanned, Stands}
+use Rattle.bank.specs.InPlace.{bankOf, Spanned, Stands}
 use Rattle.perform.specs.declared.Performed.{Performed}
 use Rattle.perform.specs.declared.After.{After}
 use Rattle.perform.specs.Attempts.{Sought, afterOf}
@@ -39,29 +37,29 @@ module _ (m : Lent) (p : Prices) (b : Bill) (r : Registers) (cam ram lows highs 
   }
 
   -- an attempt: what it leaves, then the slot that it fills
-  pub attempt-performs : (a : Access) (e : Reason) (va : VirtualAddress) → plan ≡ L.Attempt a e va → Spanned cam lows highs → Fit (r .control) cam lock victim plan
+  pub attempt-performs : (a : Access) (e : Reason) (va : VirtualAddress) → plan ≡ Plan.Attempt a e va → Spanned cam lows highs → Fit (r .control) cam lock victim plan
       → (x : After) → (Sought cam lows highs (r .control) e va → x ≡ afterOf p b e q va a (decidedFor e (walkWithin m (r .base .0) (va .0)) (r .control) cam ram va a))
       → (next : ℕ) (cm rm ls hs : List ℕ) → (Spanned cam lows highs → lock < 32 → victim < 32 → Stands (entryFilled bank (x .fill)) (bankOf cm rm lock next) ls hs)
       → (s : Registers) → s ≡ registersFor e r va (x .answer)
-      → Performs (performed m p b r bank q plan) (record { registers = s; lock = lock; victim = next; pending = x .pending; bill = x .bill; tally = x .tally; said = Answered (x .answer) }) cm rm ls hs
+      → Performs (performed m p b r bank q plan) (record { registers = s; lock = lock; victim = next; pending = x .pending; bill = x .bill; tally = x .tally; said = Said.Answered (x .answer) }) cm rm ls hs
   attempt-performs a e va pe sp fit x xe next cm rm ls hs taken s se =
       let f : Fits (r .control) cam lock victim e va = subst (Fit (r .control) cam lock victim) pe fit in
       let t = taken sp (f .lock-lt) (f .victim-lt) in
       let o : Sought cam lows highs (r .control) e va = record { ready = f .ready; cams = f .cams; spanned = sp; virtual = f .virtual } in
       record {
         is =
-            ap (λ (z : Registers). record { registers = z; bank = bankOf cm rm lock next; pending = x .pending; bill = x .bill; tally = x .tally; said = Answered (x .answer) }) se
-            ∙ ap (λ (z : Bank). record { registers = registersFor e r va (x .answer); bank = z; pending = x .pending; bill = x .bill; tally = x .tally; said = Answered (x .answer) }) (t .bank-is)
-            ∙ ap (λ (z : After). record { registers = registersFor e r va (z .answer); bank = entryFilled bank (z .fill); pending = z .pending; bill = z .bill; tally = z .tally; said = Answered (z .answer) }) (xe o)
+            ap (λ (z : Registers). record { registers = z; bank = bankOf cm rm lock next; pending = x .pending; bill = x .bill; tally = x .tally; said = Said.Answered (x .answer) }) se
+            ∙ ap (λ (z : Bank). record { registers = registersFor e r va (x .answer); bank = z; pending = x .pending; bill = x .bill; tally = x .tally; said = Said.Answered (x .answer) }) (t .bank-is)
+            ∙ ap (λ (z : After). record { registers = registersFor e r va (z .answer); bank = entryFilled bank (z .fill); pending = z .pending; bill = z .bill; tally = z .tally; said = Said.Answered (z .answer) }) (xe o)
             ∙ ap (performed m p b r bank q) (sym pe);
         spanned = t .spanned;
       }
 
   -- a reset: every part is fresh
-  pub reset-performs : plan ≡ L.Reset → (x : Performed) (s : Registers) → x ≡ quietPerformed s 0 0 Nothing b (Answered A.Done) → s ≡ freshRegisters
+  pub reset-performs : plan ≡ Plan.Reset → (x : Performed) (s : Registers) → x ≡ quietPerformed s 0 0 Pending.Nothing b (Said.Answered Answer.Done) → s ≡ freshRegisters
       → (cm rm ls hs : List ℕ) → Stands freshBank (bankOf cm rm 0 0) ls hs → Performs (performed m p b r bank q plan) x cm rm ls hs
   reset-performs e x s xe se cm rm ls hs clear =
-      plan-performs L.Reset e x _ xe cm rm ls hs
-      (ap (λ (y : Registers). quietly y (bankOf cm rm 0 0) Nothing b (Answered A.Done)) se
-      ∙ ap (λ (y : Bank). quietly freshRegisters y Nothing b (Answered A.Done)) (clear .bank-is))
+      plan-performs Plan.Reset e x _ xe cm rm ls hs
+      (ap (λ (y : Registers). quietly y (bankOf cm rm 0 0) Pending.Nothing b (Said.Answered Answer.Done)) se
+      ∙ ap (λ (y : Bank). quietly freshRegisters y Pending.Nothing b (Said.Answered Answer.Done)) (clear .bank-is))
       (clear .spanned)

@@ -10,46 +10,40 @@ use Rattle.meters.specs.Posted.{noTally}
 use Rattle.prices.specs.declared.Prices.{Prices}
 use Rattle.bill.specs.Bill.{attemptPosted, seenPosted}
 use Rattle.bill.specs.declared.Bill.{Bill}
-use Rattle.bill.specs.declared.Seen.the-variants as S
+use Rattle.bill.specs.declared.Seen.{Seen}
 use Rattle.lanes.specs.Lanes.{camLimit, camsOk, lookedUp}
 use Rattle.lanes.specs.declared.Matched.{Matched}
-use Rattle.lanes.specs.declared.Matched.the-variants.{At}
-use Rattle.bank.specs.declared.Fill.the-variants as F
-use Rattle.descriptors.specs.Descriptors.{physicalOf}
-use Rattle.descriptors.specs.declared.Found.{Found}
-use Rattle.descriptors.specs.declared.Found.the-variants as D
+use Rattle.bank.specs.declared.Fill.{Fill}
+use Rattle.walk.specs.Descriptors.{physicalOf}
+use Rattle.walk.specs.declared.Found.{Found}
 use Rattle.registers.specs.declared.Answer.{Answer}
-use Rattle.registers.specs.declared.Answer.the-variants as A
 use Rattle.registers.specs.declared.Fault.{Fault}
-use Rattle.registers.specs.declared.Fault.the-variants as K
 use Rattle.registers.specs.declared.Pending.{Pending}
-use Rattle.registers.specs.declared.Pending.the-variants as P
 use Rattle.decision.specs.Decisions.{plainly, byMatch, byAccess, settled, billed}
 use Rattle.decision.specs.declared.Decision.{Decision}
 use Rattle.plan.specs.declared.Reason.{Reason}
-use Rattle.plan.specs.declared.Reason.the-variants.{Request, Retry, Prefetch}
-use Rattle.slots.specs.Lanes.{Spanned}
+use Rattle.bank.specs.InPlace.{Spanned}
 use Rattle.perform.specs.Performed.{tallyFor, Ready}
 use Rattle.perform.specs.declared.After.{After}
 
 abbrev pub fetchesAhead : Reason → Bool
-fetchesAhead Request = false
-fetchesAhead Retry = false
-fetchesAhead Prefetch = true
+fetchesAhead Reason.Request = false
+fetchesAhead Reason.Retry = false
+fetchesAhead Reason.Prefetch = true
 
 -- what a matching slot's words come to
 abbrev pub matchedFor : Reason → ℕ → ℕ → VirtualAddress → Access → Decision
-matchedFor e cam ram va a = pick (fetchesAhead e) (plainly A.Done S.Nothing) (byMatch cam ram va a)
+matchedFor e cam ram va a = pick (fetchesAhead e) (plainly Answer.Done Seen.Nothing) (byMatch cam ram va a)
 
 -- a prefetch is no attempt of the bill's figure, its fault has a kind of its own, and it asks for no access
 abbrev pub missedFor : Reason → Bill → Bill
 missedFor e b = pick (fetchesAhead e) b (attemptPosted b true)
 
 abbrev pub faultFor : Reason → Fault
-faultFor e = pick (fetchesAhead e) K.Prefetch K.Translation
+faultFor e = pick (fetchesAhead e) Fault.Prefetch Fault.Translation
 
 abbrev pub answerFor : Reason → ℕ → PhysicalAddress → Access → Answer
-answerFor e bits at a = pick (fetchesAhead e) A.Done (byAccess bits at a)
+answerFor e bits at a = pick (fetchesAhead e) Answer.Done (byAccess bits at a)
 
 -- all that a decision leaves
 abbrev pub afterOf : Prices → Bill → Reason → Pending → VirtualAddress → Access → Decision → After
@@ -64,7 +58,7 @@ afterOf p b e q va a d = record {
 -- the same of one that reads no word and fills nothing
 abbrev pub wordlessOf : Bill → Reason → Pending → VirtualAddress → Access → Decision → After
 wordlessOf b e q va a d = record {
-  fill = F.Nothing;
+  fill = Fill.Nothing;
   pending = settled va a q (d .answer);
   bill = seenPosted b (d .seen);
   tally = tallyFor e 0 (d .answer);
@@ -73,16 +67,16 @@ wordlessOf b e q va a d = record {
 
 -- and of a walk that read n words, with the bill after them
 abbrev pub walkedOf : Bill → Reason → Pending → VirtualAddress → Access → ℕ → Bill → Found → After
-walkedOf before e q va a n b D.Missing = record { fill = F.Nothing; pending = q; bill = before; tally = noTally; answer = A.Refused 3 }
-walkedOf before e q va a n b D.NoPage = record {
-  fill = F.Nothing;
-  pending = P.Held (faultFor e) va a;
+walkedOf before e q va a n b Found.Missing = record { fill = Fill.Nothing; pending = q; bill = before; tally = noTally; answer = Answer.Refused 3 }
+walkedOf before e q va a n b Found.NoPage = record {
+  fill = Fill.Nothing;
+  pending = Pending.Held (faultFor e) va a;
   bill = missedFor e b;
-  tally = tallyFor e n (A.Fault (faultFor e));
-  answer = A.Fault (faultFor e);
+  tally = tallyFor e n (Answer.Fault (faultFor e));
+  answer = Answer.Fault (faultFor e);
 }
-walkedOf before e q va a n b (D.Page p) = record {
-  fill = F.Slot (madeWords (p .kind) (p .frame) (p .access) va);
+walkedOf before e q va a n b (Found.Page p) = record {
+  fill = Fill.Slot (madeWords (p .kind) (p .frame) (p .access) va);
   pending = settled va a q (answerFor e (p .access) (physicalOf p va) a);
   bill = missedFor e b;
   tally = tallyFor e n (answerFor e (p .access) (physicalOf p va) a);
@@ -98,5 +92,5 @@ pub record Sought (cam lows highs : List ℕ) (control : ℕ) (e : Reason) (va :
 
 -- what a search by spans finds: one of the slots, and where they fit the lowest that matches
 pub record Sighted (cam lows highs : List ℕ) (va : VirtualAddress) (r : Matched) : Type 0 where
-  pub slot : (i : ℕ) → r ≡ At i → i < 32
+  pub slot : (i : ℕ) → r ≡ Matched.At i → i < 32
   pub lowest : camsOk camLimit cam ≡ true → Spanned cam lows highs → va .0 < limit → r ≡ lookedUp cam va

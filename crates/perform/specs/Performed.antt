@@ -13,28 +13,22 @@ use Rattle.lanes.specs.Lanes.{camLimit, camsOk}
 use Rattle.bank.specs.Slots.{freshBank}
 use Rattle.bank.specs.Changes.{entryFilled, lockedAt, bankFlushed, bankFlushedAt, loaded, copied}
 use Rattle.bank.specs.declared.Bank.{Bank}
-use Rattle.bank.specs.declared.Fill.{Fill}
 use Rattle.walk.specs.Walk.{walkWithin}
 use Rattle.walk.specs.declared.Walked.{Walked}
 use Rattle.registers.specs.Fields.{isOn, isWalking, freshRegisters, setting, withPrefetch, withCopied, wordsOf, entryOf, camAddress}
 use Rattle.registers.specs.Table.{valueAt}
 use Rattle.registers.specs.declared.Answer.{Answer}
-use Rattle.registers.specs.declared.Answer.the-variants as A
 use Rattle.registers.specs.declared.Pending.{Pending}
-use Rattle.registers.specs.declared.Pending.the-variants as P
 use Rattle.registers.specs.declared.Registers.{Registers}
 use Rattle.decision.specs.Decisions.{decided, settled, tallyOf, billed}
 use Rattle.decision.specs.Prefetches.{prefetchDecided, prefetchKept, shiftBy}
 use Rattle.decision.specs.declared.Decision.{Decision}
 use Rattle.decision.specs.declared.Said.{Said}
-use Rattle.decision.specs.declared.Said.the-variants.{Answered, Reported}
-use Rattle.decision.specs.declared.Shift.the-variants as H
+use Rattle.decision.specs.declared.Shift.{Shift}
 use Rattle.plan.specs.Plans.{settingAt}
 use Rattle.plan.specs.declared.Plan.{Plan}
-use Rattle.plan.specs.declared.Plan.the-variants as L
 use Rattle.plan.specs.declared.Reason.{Reason}
-use Rattle.plan.specs.declared.Reason.the-variants.{Request, Retry, Prefetch}
-use Rattle.slots.specs.Lanes.{bankOf, Spanned}
+use Rattle.bank.specs.InPlace.{bankOf, Spanned}
 use Rattle.perform.specs.declared.Performed.{Performed}
 
 -- what a call leaves of the parts, and says
@@ -52,21 +46,21 @@ quietly r k q b s = record { registers = r; bank = k; pending = q; bill = b; tal
 
 -- what an attempt comes to, where w is what the plain walk of its address gives
 abbrev pub decidedFor : Reason → Walked → ℕ → List ℕ → List ℕ → VirtualAddress → Access → Decision
-decidedFor Request w c cam ram va a = decided w c cam ram va a
-decidedFor Retry w c cam ram va a = decided w c cam ram va a
-decidedFor Prefetch w c cam ram va a = prefetchDecided w cam va
+decidedFor Reason.Request w c cam ram va a = decided w c cam ram va a
+decidedFor Reason.Retry w c cam ram va a = decided w c cam ram va a
+decidedFor Reason.Prefetch w c cam ram va a = prefetchDecided w cam va
 
 -- what it adds to the meters: a prefetch is no request
 abbrev pub tallyFor : Reason → ℕ → Answer → Tally
-tallyFor Request n x = tallyOf false n x
-tallyFor Retry n x = tallyOf true n x
-tallyFor Prefetch n x = record { fresh = 0; retries = 0; words = n }
+tallyFor Reason.Request n x = tallyOf false n x
+tallyFor Reason.Retry n x = tallyOf true n x
+tallyFor Reason.Prefetch n x = record { fresh = 0; retries = 0; words = n }
 
 -- the prefetch register keeps each write that is not refused: its bits 13:0 are address bits 23:10
 abbrev pub registersFor : Reason → Registers → VirtualAddress → Answer → Registers
-registersFor Request r va x = r
-registersFor Retry r va x = r
-registersFor Prefetch r va x = withPrefetch r (prefetchKept (va .0 / 1024 % 16384) (r .prefetch) x)
+registersFor Reason.Request r va x = r
+registersFor Reason.Retry r va x = r
+registersFor Reason.Prefetch r va x = withPrefetch r (prefetchKept (va .0 / 1024 % 16384) (r .prefetch) x)
 
 -- the slots, the pending fault and the bill after an attempt's decision
 abbrev pub endedFor : Prices → Bill → Reason → Registers → Bank → Pending → VirtualAddress → Access → Decision → Done
@@ -76,7 +70,7 @@ endedFor p b e r k q va a x = record {
   pending = settled va a q (x .answer);
   bill = billed p b x;
   tally = tallyFor e (wordCount (x .reads)) (x .answer);
-  said = Answered (x .answer);
+  said = Said.Answered (x .answer);
 }
 
 -- over memories that were tried
@@ -86,20 +80,20 @@ attempted m p b e r k q va a =
 
 -- what is planned, done
 abbrev pub performed : Lent → Prices → Bill → Registers → Bank → Pending → Plan → Done
-performed m p b r k q (L.Refused n) = quietly r k q b (Answered (A.Refused n))
-performed m p b r k q L.Done = quietly r k q b (Answered A.Done)
-performed m p b r k q (L.Show o) = quietly r k q b (Answered (valueAt o r (k .lock) (k .victim) q))
-performed m p b r k q (L.Set o v) = quietly (setting r (settingAt o v)) k q b (Answered A.Done)
-performed m p b r k q (L.Lock l v) = quietly r (lockedAt k l v) q b (Answered A.Done)
-performed m p b r k q L.Flush = quietly r (bankFlushed k) q b (Answered A.Done)
-performed m p b r k q L.FlushEntry = quietly r (bankFlushedAt k (camAddress (r .staged))) q b (Answered A.Done)
-performed m p b r k q L.Load = quietly r (loaded k (wordsOf (r .staged))) q b (Answered A.Done)
-performed m p b r k q L.Copy = quietly (withCopied r (entryOf (copied k))) k q b (Answered A.Done)
-performed m p b r k q L.Reset = quietly freshRegisters freshBank P.Nothing b (Answered A.Done)
-performed m p b r k q L.Drop = quietly r k P.Nothing b (Answered A.Done)
-performed m p b r k q (L.Attempt a e va) = attempted m p b e r k q va a
-performed m p b r k q (L.Shift va) = quietly r k q b (Reported (shiftBy va (walkWithin m (r .base .0) (va .0) .found)))
-performed m p b r k q (L.Unreported n) = quietly r k q b (Reported (H.Refused n))
+performed m p b r k q (Plan.Refused n) = quietly r k q b (Said.Answered (Answer.Refused n))
+performed m p b r k q Plan.Done = quietly r k q b (Said.Answered Answer.Done)
+performed m p b r k q (Plan.Show o) = quietly r k q b (Said.Answered (valueAt o r (k .lock) (k .victim) q))
+performed m p b r k q (Plan.Set o v) = quietly (setting r (settingAt o v)) k q b (Said.Answered Answer.Done)
+performed m p b r k q (Plan.Lock l v) = quietly r (lockedAt k l v) q b (Said.Answered Answer.Done)
+performed m p b r k q Plan.Flush = quietly r (bankFlushed k) q b (Said.Answered Answer.Done)
+performed m p b r k q Plan.FlushEntry = quietly r (bankFlushedAt k (camAddress (r .staged))) q b (Said.Answered Answer.Done)
+performed m p b r k q Plan.Load = quietly r (loaded k (wordsOf (r .staged))) q b (Said.Answered Answer.Done)
+performed m p b r k q Plan.Copy = quietly (withCopied r (entryOf (copied k))) k q b (Said.Answered Answer.Done)
+performed m p b r k q Plan.Reset = quietly freshRegisters freshBank Pending.Nothing b (Said.Answered Answer.Done)
+performed m p b r k q Plan.Drop = quietly r k Pending.Nothing b (Said.Answered Answer.Done)
+performed m p b r k q (Plan.Attempt a e va) = attempted m p b e r k q va a
+performed m p b r k q (Plan.Shift va) = quietly r k q b (Said.Reported (shiftBy va (walkWithin m (r .base .0) (va .0) .found)))
+performed m p b r k q (Plan.Unreported n) = quietly r k q b (Said.Reported (Shift.Refused n))
 
 -- what reads no word, handed back by value
 abbrev pub quietPerformed : Registers → ℕ → ℕ → Pending → Bill → Said → Performed
@@ -118,9 +112,9 @@ doneOf x cam ram = record {
 
 -- a prefetch is tried by a unit that is on and walks
 abbrev pub Ready : Reason → ℕ → Type 0
-Ready Request c = Unit {0}
-Ready Retry c = Unit {0}
-Ready Prefetch c = (isOn c ≡ true) × (isWalking c ≡ true)
+Ready Reason.Request c = Unit {0}
+Ready Reason.Retry c = Unit {0}
+Ready Reason.Prefetch c = (isOn c ≡ true) × (isWalking c ≡ true)
 
 -- an attempt asks that lock base and victim are slots, that CAM words are in range and that its address is a virtual one
 pub record Fits (control : ℕ) (cam : List ℕ) (lock victim : ℕ) (e : Reason) (va : VirtualAddress) : Type 0 where
@@ -132,20 +126,20 @@ pub record Fits (control : ℕ) (cam : List ℕ) (lock victim : ℕ) (e : Reason
 
 -- what a plan asks of the parts that it is performed on
 abbrev pub Fit : ℕ → List ℕ → ℕ → ℕ → Plan → Type 0
-Fit c cam lock victim (L.Refused n) = Unit {0}
-Fit c cam lock victim L.Done = Unit {0}
-Fit c cam lock victim (L.Show o) = Unit {0}
-Fit c cam lock victim (L.Set o v) = Unit {0}
-Fit c cam lock victim (L.Lock l v) = Unit {0}
-Fit c cam lock victim L.Flush = Unit {0}
-Fit c cam lock victim L.FlushEntry = Unit {0}
-Fit c cam lock victim L.Load = victim < 32
-Fit c cam lock victim L.Copy = victim < 32
-Fit c cam lock victim L.Reset = Unit {0}
-Fit c cam lock victim L.Drop = Unit {0}
-Fit c cam lock victim (L.Attempt a e va) = Fits c cam lock victim e va
-Fit c cam lock victim (L.Shift va) = Unit {0}
-Fit c cam lock victim (L.Unreported n) = Unit {0}
+Fit c cam lock victim (Plan.Refused n) = Unit {0}
+Fit c cam lock victim Plan.Done = Unit {0}
+Fit c cam lock victim (Plan.Show o) = Unit {0}
+Fit c cam lock victim (Plan.Set o v) = Unit {0}
+Fit c cam lock victim (Plan.Lock l v) = Unit {0}
+Fit c cam lock victim Plan.Flush = Unit {0}
+Fit c cam lock victim Plan.FlushEntry = Unit {0}
+Fit c cam lock victim Plan.Load = victim < 32
+Fit c cam lock victim Plan.Copy = victim < 32
+Fit c cam lock victim Plan.Reset = Unit {0}
+Fit c cam lock victim Plan.Drop = Unit {0}
+Fit c cam lock victim (Plan.Attempt a e va) = Fits c cam lock victim e va
+Fit c cam lock victim (Plan.Shift va) = Unit {0}
+Fit c cam lock victim (Plan.Unreported n) = Unit {0}
 
 -- the parts after a plan are as they should be
 pub record Performs (should : Done) (x : Performed) (cam ram lows highs : List ℕ) : Type 0 where

@@ -6,7 +6,6 @@ use bank::Fill;
 use bill::Bill;
 use bill::Seen;
 use decision::Decision;
-use descriptors::Found;
 use lanes::Matched;
 use lanes::SLOTS;
 use meters::Tally;
@@ -19,6 +18,7 @@ use registers::Answer;
 use registers::Fault;
 use registers::Pending;
 use registers::Registers;
+use walk::Found;
 ghost use mathlib.Core.Path.{_≡_};
 ghost use Rattle.memory.specs.Memory.{lent};
 ghost use Rattle.walk.specs.Walk.{walkWithin};
@@ -171,7 +171,7 @@ fn walked(
             let kind = p.kind;
             let frame = p.frame;
             let words = page::made(kind, frame, p.access, va);
-            let says = answer(reason, p.access, descriptors::physical(p, va), a);
+            let says = answer(reason, p.access, walk::descriptors::physical(p, va), a);
             return After {
                 fill: Fill::Slot(words),
                 pending: decision::settle(q, says, va, a),
@@ -192,7 +192,7 @@ fn find<'a>(
 ) -> Matched
     ensures { λ r. ⌜ Sighted (now (cam .entry)) (now (lows .entry)) (now (highs .entry)) va r ⌝ }
 {
-    slots::search(lows, highs, (va.0 / 1024 % 16384) as u16)
+    bank::slots::search(lows, highs, (va.0 / 1024 % 16384) as u16)
 }
 
 // An attempt, for a caller that has tried everything but 3 and whose spans are those of the slots.

@@ -1,18 +1,18 @@
 // The plain walk, each word charged to the bill as it is read.
 use crate::Charged;
 use bill::Bill;
-use descriptors::First;
-use descriptors::Found;
-use descriptors::Table;
 use memory::Source;
 use page::PhysicalAddress;
 use page::VirtualAddress;
 use prices::Prices;
+use walk::First;
+use walk::Found;
 use walk::Read;
+use walk::Table;
 ghost use mathlib.Core.Path.{_≡_};
 ghost use Rattle.memory.specs.Memory.{lent};
 ghost use Rattle.bill.specs.Bill.{wordPosted};
-ghost use Rattle.descriptors.specs.Descriptors.{Room};
+ghost use Rattle.walk.specs.Descriptors.{Room};
 ghost use Rattle.walk.specs.Walk.{readWithin, afterSecond, byFirst, walkWithin};
 ghost use Rattle.perform.specs.Charged.{chargedOf};
 
@@ -47,7 +47,7 @@ fn second<'a>(
                 place: place,
             };
             return Charged {
-                found: descriptors::decode_second(table, w),
+                found: walk::descriptors::decode_second(table, w),
                 words: 2,
                 bill: bill.post_word(source, prices),
             };
@@ -149,7 +149,7 @@ pub(crate) fn walk<'a>(
                 place: place,
             };
             let posted = bill.post_word(first, prices);
-            let d = descriptors::decode_first(w);
+            let d = walk::descriptors::decode_first(w);
             return rest(on, onbase, ext, extbase, prices, bill, posted, va, first, d);
         }
     }

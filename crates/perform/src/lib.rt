@@ -3,7 +3,6 @@ use bank::Fill;
 use bill::Bill;
 use decision::Said;
 use decision::Shift;
-use descriptors::Found;
 use lanes::SLOTS;
 use meters::Tally;
 use page::PhysicalAddress;
@@ -13,10 +12,11 @@ use prices::Prices;
 use registers::Answer;
 use registers::Pending;
 use registers::Registers;
+use walk::Found;
 ghost use mathlib.Core.Path.{_≡_};
 ghost use Rattle.memory.specs.Memory.{lent};
 ghost use Rattle.registers.specs.Fields.{setting};
-ghost use Rattle.slots.specs.Lanes.{bankOf, Spanned};
+ghost use Rattle.bank.specs.InPlace.{bankOf, Spanned};
 ghost use Rattle.plan.specs.Plans.{settingAt};
 ghost use Rattle.perform.specs.Performed.{performed, quietPerformed, Fit, Performs};
 
@@ -151,7 +151,7 @@ pub fn perform<'a>(
             let charged = x.bill;
             let tally = x.tally;
             let answer = x.answer;
-            let next = slots::take(cam, ram, lows, highs, lock, victim, fill);
+            let next = bank::slots::take(cam, ram, lows, highs, lock, victim, fill);
             return Performed {
                 registers: attempt::registers_after(reason, r, va, answer),
                 lock: lock,
@@ -169,7 +169,7 @@ pub fn perform<'a>(
             return quietly(r, lock, victim, p, bill, Said::Answered(Answer::Done));
         }
         Plan::Show(offset) => {
-            let shown = values::value_at(offset, r, lock, victim, p);
+            let shown = registers::values::value_at(offset, r, lock, victim, p);
             return quietly(r, lock, victim, p, bill, Said::Answered(shown));
         }
         Plan::Set(offset, v) => {
@@ -186,16 +186,16 @@ pub fn perform<'a>(
             return quietly(r, l, v, p, bill, Said::Answered(Answer::Done));
         }
         Plan::Flush => {
-            slots::flush(cam, lows, highs);
+            bank::slots::flush(cam, lows, highs);
             return quietly(r, lock, victim, p, bill, Said::Answered(Answer::Done));
         }
         Plan::FlushEntry => {
-            slots::flush_at(cam, lows, highs, registers::cam_address(staged));
+            bank::slots::flush_at(cam, lows, highs, registers::cam_address(staged));
             return quietly(r, lock, victim, p, bill, Said::Answered(Answer::Done));
         }
         Plan::Load => {
             let words = registers::words_of(staged);
-            slots::store(cam, ram, lows, highs, lock, victim, victim, words);
+            bank::slots::store(cam, ram, lows, highs, lock, victim, victim, words);
             return quietly(r, lock, victim, p, bill, Said::Answered(Answer::Done));
         }
         Plan::Copy => {
@@ -209,7 +209,7 @@ pub fn perform<'a>(
             return quietly(s, lock, victim, p, bill, Said::Answered(Answer::Done));
         }
         Plan::Reset => {
-            slots::clear(cam, ram, lows, highs);
+            bank::slots::clear(cam, ram, lows, highs);
             return quietly(
                 Registers::fresh(),
                 0,

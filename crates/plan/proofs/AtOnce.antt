@@ -6,7 +6,6 @@ use native.Mathlib.Omega.{arith}
 use Rattle.page.specs.Pick.{pick, _and_}
 use Rattle.page.proofs.Picks.{and-is}
 use Rattle.plan.specs.declared.Plan.{Plan}
-use Rattle.plan.specs.declared.Plan.the-variants.{Refused}
 use Rattle.plan.specs.Plans.{lentRefusal}
 
 -- the machine's test of two, the second by what it says
@@ -19,7 +18,7 @@ inOrder ok f l o x k₈ k₁ k₄ k₉ = pick ok (pick f k₁ (pick l (pick o x 
 
 -- all of them hold: n says that the address is in range
 pub attempted : (ok l o n i b f : Bool) (x : Plan) → (n ≡ true → f ≡ false) → (((((ok && l) && o) && n) && i) && b) ≡ true
-    → x ≡ inOrder ok f l (o and b) (pick i x (Refused 2)) (Refused 8) (Refused 1) (Refused 4) (Refused 9)
+    → x ≡ inOrder ok f l (o and b) (pick i x (Plan.Refused 2)) (Plan.Refused 8) (Plan.Refused 1) (Plan.Refused 4) (Plan.Refused 9)
 unfolding pick _and_
 attempted true true true true true true true x g h = absurd (true≢false (g refl))
 attempted true true true true true true false x g h = refl
@@ -32,7 +31,7 @@ attempted false l o n i b f x g h = absurd (false≢true h)
 
 -- one of them does not
 pub refused : (ok l o n i b f : Bool) (x : Plan) → (n ≡ false → f ≡ true) → (((((ok && l) && o) && n) && i) && b) ≡ false
-    → Refused (inOrder ok f l (o and b) 2 8 1 4 9) ≡ inOrder ok f l (o and b) (pick i x (Refused 2)) (Refused 8) (Refused 1) (Refused 4) (Refused 9)
+    → Plan.Refused (inOrder ok f l (o and b) 2 8 1 4 9) ≡ inOrder ok f l (o and b) (pick i x (Plan.Refused 2)) (Plan.Refused 8) (Plan.Refused 1) (Plan.Refused 4) (Plan.Refused 9)
 unfolding pick _and_
 refused false l o n i b f x g h = refl
 refused true l o n i b true x g h = refl

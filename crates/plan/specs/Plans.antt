@@ -4,23 +4,17 @@ use Rattle.page.specs.Ground.{ℕ, _/_, _%_, _^_, Bool, eqb, leb}
 use Rattle.page.specs.Pick.{pick}
 use Rattle.page.specs.Words.{limit}
 use Rattle.page.specs.declared.Access.{Access}
-use Rattle.page.specs.declared.Access.the-variants.{Read}
 use Rattle.page.specs.declared.VirtualAddress.{VirtualAddress}
 use Rattle.registers.specs.Answers.{idle, isPrefetch}
 use Rattle.registers.specs.Fields.{isOn, isWalking}
 use Rattle.registers.specs.declared.Fault.{Fault}
 use Rattle.registers.specs.declared.Pending.{Pending}
-use Rattle.registers.specs.declared.Pending.the-variants as P
 use Rattle.registers.specs.declared.Command.{Command}
-use Rattle.registers.specs.declared.Command.the-variants as C
 use Rattle.registers.specs.declared.Setting.{Setting}
-use Rattle.registers.specs.declared.Setting.the-variants.{Control, BaseHigh, BaseLow, CamHigh, CamLow, RamHigh, RamLow}
 use Rattle.registers.specs.declared.Tending.{Tending}
-use Rattle.registers.specs.declared.Tending.the-variants as T
 use Rattle.decision.specs.Prefetches.{pageAt}
-use Rattle.plan.specs.declared.Reason.the-variants.{Request, Retry, Prefetch}
+use Rattle.plan.specs.declared.Reason.{Reason}
 use Rattle.plan.specs.declared.Plan.{Plan}
-use Rattle.plan.specs.declared.Plan.the-variants as L
 
 -- what is lent is tried before the rest: 4, 9, or 0 for neither
 abbrev pub lentRefusal : Bool → Bool → ℕ
@@ -34,14 +28,14 @@ requestRefusal ok l o va = pick ok (pick (leb limit (va .0)) 1 (pick l (pick o 2
 abbrev pub requestPlan : Bool → Bool → Bool → Pending → VirtualAddress → Access → Plan
 requestPlan ok l o q va a =
     pick ok
-    (pick (leb limit (va .0)) (L.Refused 1)
+    (pick (leb limit (va .0)) (Plan.Refused 1)
     (pick l
     (pick o
-    (pick (idle q) (L.Attempt a Request va)
-    (L.Refused 2))
-    (L.Refused 9))
-    (L.Refused 4)))
-    (L.Refused 8)
+    (pick (idle q) (Plan.Attempt a Reason.Request va)
+    (Plan.Refused 2))
+    (Plan.Refused 9))
+    (Plan.Refused 4)))
+    (Plan.Refused 8)
 
 -- a prefetch: 4 and 9, 8, 2, 7
 abbrev pub prefetchPlan : ℕ → ℕ → ℕ → Pending → Plan
@@ -50,81 +44,81 @@ prefetchPlan v k c q =
     (pick (eqb (v / 2 ^ 14 % 2) 0)
     (pick (idle q)
     (pick (isOn c)
-    (pick (isWalking c) (L.Attempt Read Prefetch (pageAt v))
-    (L.Refused 7))
-    (L.Refused 7))
-    (L.Refused 2))
-    (L.Refused 8))
-    (L.Refused k)
+    (pick (isWalking c) (Plan.Attempt Access.Read Reason.Prefetch (pageAt v))
+    (Plan.Refused 7))
+    (Plan.Refused 7))
+    (Plan.Refused 2))
+    (Plan.Refused 8))
+    (Plan.Refused k)
 
 -- acknowledge with bit 0: 4 and 9, 7; a pending prefetch is only dropped, another fault retried as it was
 abbrev pub retryPlan : Fault → VirtualAddress → Access → Plan
-retryPlan k va a = pick (isPrefetch k) L.Drop (L.Attempt a Retry va)
+retryPlan k va a = pick (isPrefetch k) Plan.Drop (Plan.Attempt a Reason.Retry va)
 
 abbrev pub pendingPlan : Pending → Plan
-pendingPlan P.Nothing = L.Refused 7
-pendingPlan (P.Held k va a) = retryPlan k va a
+pendingPlan Pending.Nothing = Plan.Refused 7
+pendingPlan (Pending.Held k va a) = retryPlan k va a
 
 abbrev pub acknowledgePlan : Bool → ℕ → Pending → Plan
-acknowledgePlan go k q = pick (eqb k 0) (pick go (pendingPlan q) L.Done) (L.Refused k)
+acknowledgePlan go k q = pick (eqb k 0) (pick go (pendingPlan q) Plan.Done) (Plan.Refused k)
 
 -- a setting is an offset of Table 3 and the bits that are kept
 abbrev pub settingPlan : Setting → Plan
-settingPlan (Control v) = L.Set 0x08 v
-settingPlan (BaseHigh v) = L.Set 0x1c v
-settingPlan (BaseLow v) = L.Set 0x20 v
-settingPlan (CamHigh v) = L.Set 0x2c v
-settingPlan (CamLow v) = L.Set 0x30 v
-settingPlan (RamHigh v) = L.Set 0x34 v
-settingPlan (RamLow v) = L.Set 0x38 v
+settingPlan (Setting.Control v) = Plan.Set 0x08 v
+settingPlan (Setting.BaseHigh v) = Plan.Set 0x1c v
+settingPlan (Setting.BaseLow v) = Plan.Set 0x20 v
+settingPlan (Setting.CamHigh v) = Plan.Set 0x2c v
+settingPlan (Setting.CamLow v) = Plan.Set 0x30 v
+settingPlan (Setting.RamHigh v) = Plan.Set 0x34 v
+settingPlan (Setting.RamLow v) = Plan.Set 0x38 v
 
 -- and back: the last of them at every other offset
 unfoldable pub settingAt : ℕ → ℕ → Setting
 settingAt o v =
-    pick (eqb o 0x08) (Control v)
-    (pick (eqb o 0x1c) (BaseHigh v)
-    (pick (eqb o 0x20) (BaseLow v)
-    (pick (eqb o 0x2c) (CamHigh v)
-    (pick (eqb o 0x30) (CamLow v)
-    (pick (eqb o 0x34) (RamHigh v) (RamLow v))))))
+    pick (eqb o 0x08) (Setting.Control v)
+    (pick (eqb o 0x1c) (Setting.BaseHigh v)
+    (pick (eqb o 0x20) (Setting.BaseLow v)
+    (pick (eqb o 0x2c) (Setting.CamHigh v)
+    (pick (eqb o 0x30) (Setting.CamLow v)
+    (pick (eqb o 0x34) (Setting.RamHigh v) (Setting.RamLow v))))))
 
 abbrev pub tendPlan : Tending → Plan
-tendPlan (T.Lock l v) = L.Lock l v
-tendPlan T.Flush = L.Flush
-tendPlan T.FlushEntry = L.FlushEntry
+tendPlan (Tending.Lock l v) = Plan.Lock l v
+tendPlan Tending.Flush = Plan.Flush
+tendPlan Tending.FlushEntry = Plan.FlushEntry
 
 -- 7: load and copy while walking is set
 abbrev pub unlessWalking : ℕ → Plan → Plan
-unlessWalking c x = pick (isWalking c) (L.Refused 7) x
+unlessWalking c x = pick (isWalking c) (Plan.Refused 7) x
 
 -- a write past the device's own 8, by its command
 abbrev pub commandPlan : Bool → Bool → ℕ → Pending → Command → Plan
-commandPlan l o c q (C.Refused k) = L.Refused k
-commandPlan l o c q C.Nothing = L.Done
-commandPlan l o c q C.Reset = L.Reset
-commandPlan l o c q (C.Set s) = settingPlan s
-commandPlan l o c q (C.Tend t) = tendPlan t
-commandPlan l o c q C.Load = unlessWalking c L.Load
-commandPlan l o c q C.Copy = unlessWalking c L.Copy
-commandPlan l o c q (C.Prefetch v) = prefetchPlan v (lentRefusal l o) c q
-commandPlan l o c q (C.Acknowledge go) = acknowledgePlan go (lentRefusal l o) q
+commandPlan l o c q (Command.Refused k) = Plan.Refused k
+commandPlan l o c q Command.Nothing = Plan.Done
+commandPlan l o c q Command.Reset = Plan.Reset
+commandPlan l o c q (Command.Set s) = settingPlan s
+commandPlan l o c q (Command.Tend t) = tendPlan t
+commandPlan l o c q Command.Load = unlessWalking c Plan.Load
+commandPlan l o c q Command.Copy = unlessWalking c Plan.Copy
+commandPlan l o c q (Command.Prefetch v) = prefetchPlan v (lentRefusal l o) c q
+commandPlan l o c q (Command.Acknowledge go) = acknowledgePlan go (lentRefusal l o) q
 
 abbrev pub writePlan : Bool → Bool → Bool → ℕ → Pending → Command → Plan
-writePlan ok l o c q x = pick ok (commandPlan l o c q x) (L.Refused 8)
+writePlan ok l o c q x = pick ok (commandPlan l o c q x) (Plan.Refused 8)
 
 -- a read: 8; 5 and 6 are what Table 3 shows
 abbrev pub readPlan : Bool → ℕ → Plan
-readPlan ok o = pick ok (L.Show o) (L.Refused 8)
+readPlan ok o = pick ok (Plan.Show o) (Plan.Refused 8)
 
 -- a drop: 8, 7
 abbrev pub dropPlan : Bool → Pending → Plan
-dropPlan ok q = pick ok (pick (idle q) (L.Refused 7) L.Drop) (L.Refused 8)
+dropPlan ok q = pick ok (pick (idle q) (Plan.Refused 7) Plan.Drop) (Plan.Refused 8)
 
 -- a shift report: 8, 1, 4
 abbrev pub shiftPlan : Bool → Bool → VirtualAddress → Plan
 shiftPlan ok l va =
     pick ok
-    (pick (leb limit (va .0)) (L.Unreported 1)
-    (pick l (L.Shift va)
-    (L.Unreported 4)))
-    (L.Unreported 8)
+    (pick (leb limit (va .0)) (Plan.Unreported 1)
+    (pick l (Plan.Shift va)
+    (Plan.Unreported 4)))
+    (Plan.Unreported 8)

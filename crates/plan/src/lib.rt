@@ -1,6 +1,7 @@
 // What a call is to do, by the registers, the pending fault and what was tested: refused with a number, or one thing to be performed.
 use bill::Bill;
 use page::Access;
+use page::LIMIT;
 use page::VirtualAddress;
 use registers::Command;
 use registers::Fault;
@@ -12,9 +13,6 @@ ghost use Rattle.page.specs.Pick.{_and_};
 ghost use Rattle.bill.specs.Bill.{billOk};
 ghost use Rattle.registers.specs.Table.{commandOf};
 ghost use Rattle.plan.specs.Plans.{lentRefusal, requestRefusal, requestPlan, prefetchPlan, retryPlan, pendingPlan, acknowledgePlan, settingPlan, tendPlan, unlessWalking, commandPlan, writePlan, readPlan, dropPlan, shiftPlan};
-
-// Virtual addresses are below this.
-const LIMIT: u32 = 16777216;
 
 // Why the unit tries an address.
 pub enum Reason {

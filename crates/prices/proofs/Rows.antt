@@ -4,18 +4,19 @@ use Prim.Native.Nat.{ℕ}
 use lib.Ieee.{Float}
 use borrow.Author.Tests.{eq-eqb, ne-eqb}
 use Rattle.page.proofs.Picks.{pick-yes, pick-no}
-use Rattle.prices.specs.Types.{Row, Side}
+use Rattle.prices.specs.Types.{Side}
+use Rattle.prices.specs.declared.Price.{Price}
 use Rattle.prices.specs.Prices.{rowPrice, wordPrice, sideRead, freshSide}
 
 module _ (same fresh : Float) where
-  pub first-row : (row : ℕ) → wordPrice (Row same fresh) freshSide row ≡ fresh
+  pub first-row : (row : ℕ) → wordPrice (Price.Row same fresh) freshSide row ≡ fresh
   unfolding wordPrice rowPrice
   first-row row = refl
 
-  pub same-row : (side : Side) (row : ℕ) → wordPrice (Row same fresh) (sideRead side row) row ≡ same
+  pub same-row : (side : Side) (row : ℕ) → wordPrice (Price.Row same fresh) (sideRead side row) row ≡ same
   unfolding wordPrice rowPrice
   same-row side row = pick-yes _ _ _ (eq-eqb row row refl)
 
-  pub other-row : (side : Side) (last row : ℕ) → (last ≡ row → ⊥) → wordPrice (Row same fresh) (sideRead side last) row ≡ fresh
+  pub other-row : (side : Side) (last row : ℕ) → (last ≡ row → ⊥) → wordPrice (Price.Row same fresh) (sideRead side last) row ≡ fresh
   unfolding wordPrice rowPrice
   other-row side last row n = pick-no _ _ _ (ne-eqb last row n)

@@ -1,7 +1,7 @@
 -- What a word costs (01, "Meters and the walk bill", and refusal 9). Figures are binary64 values.
 use Rattle.page.specs.Ground.{ℕ, _/_, Bool, eqb}
 use Rattle.page.specs.Pick.{pick, _and_}
-use Rattle.prices.specs.Types.{Float, binary64, PhysicalAddress, Price, Flat, Row, Prices, LastRow, Never, At, Side}
+use Rattle.prices.specs.Types.{Float, binary64, PhysicalAddress, Price, Prices, LastRow, Side}
 use lib.Ieee.{ofBits, le}
 
 -- 0 and 4,096 as bit patterns of an f64
@@ -17,8 +17,8 @@ figureOk x = le f0 x and le x f4096
 
 -- a test passes at every figure of a price
 unfoldable pub every : (Float → Bool) → Price → Bool
-every test (Flat x) = test x
-every test (Row same fresh) = test same and test fresh
+every test (Price.Flat x) = test x
+every test (Price.Row same fresh) = test same and test fresh
 
 abbrev pub priceOk : Price → Bool
 priceOk p = every figureOk p
@@ -35,18 +35,18 @@ rowOf a = a .0 / rowBytes
 
 -- a row that is the memory's last one is the same row, and the first read is a new one
 unfoldable pub rowPrice : Float → Float → LastRow → ℕ → Float
-rowPrice same fresh Never row = fresh
-rowPrice same fresh (At last) row = pick (eqb last row) same fresh
+rowPrice same fresh LastRow.Never row = fresh
+rowPrice same fresh (LastRow.At last) row = pick (eqb last row) same fresh
 
 -- a word's price, by what the bill keeps of its memory
 unfoldable pub wordPrice : Price → Side → ℕ → Float
-wordPrice (Flat x) side row = x
-wordPrice (Row same fresh) side row = rowPrice same fresh (side .last) row
+wordPrice (Price.Flat x) side row = x
+wordPrice (Price.Row same fresh) side row = rowPrice same fresh (side .last) row
 
 -- what the bill keeps of a memory that was not read yet
 abbrev pub freshSide : Side
-freshSide = record { last = Never }
+freshSide = record { last = LastRow.Never }
 
 -- and after a word more of it
 abbrev pub sideRead : Side → ℕ → Side
-sideRead side row = record { last = At row }
+sideRead side row = record { last = LastRow.At row }

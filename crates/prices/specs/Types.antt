@@ -2,8 +2,8 @@
 pub use lib.Ieee.{Float, binary64}
 pub use Rattle.page.specs.declared.PhysicalAddress.{PhysicalAddress}
 pub use Rattle.prices.specs.declared.Price.{Price}
-pub use Rattle.prices.specs.declared.Price.the-variants.{Flat, Row}
+pub use Rattle.prices.specs.declared.Price.{Price}
 pub use Rattle.prices.specs.declared.Prices.{Prices}
 pub use Rattle.prices.specs.declared.LastRow.{LastRow}
-pub use Rattle.prices.specs.declared.LastRow.the-variants.{Never, At}
+pub use Rattle.prices.specs.declared.LastRow.{LastRow}
 pub use Rattle.prices.specs.declared.Side.{Side}

@@ -1,5 +1,13 @@
-pub mod Lists
 pub mod Scan
 pub mod Alls
 pub mod Bits
 pub mod Rest
+pub mod Refusals
+pub mod Accepted
+pub mod Holders
+pub mod Runs
+pub mod Regions
+pub mod Taken
+pub mod Noted
+pub mod Notes
+pub mod Listed

@@ -14,7 +14,7 @@ use lib.Seq.{getD-take, getD-drop}
 use Rattle.page.specs.Pick.{_and_, _or_}
 use Rattle.page.specs.Words.{megabytes, lowBits, kindOf}
 use Rattle.page.proofs.Picks.{pick-yes, and-yes, and-no, and-left, and-right, or-yes, or-no}
-use Rattle.memory.specs.Memory.{littleEndian, wordOf}
+use Rattle.wire.specs.Words.{littleEndian, wordOf}
 use Rattle.records.specs.Mappings.{mappingOf}
 use Rattle.records.specs.Checks.{multiple, proper, wellFormed}
 

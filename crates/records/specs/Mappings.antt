@@ -3,10 +3,10 @@ use Rattle.page.specs.Ground.{ℕ, zero, suc, _*_, _/_, Bool, List, [], _∷_, 
 use Rattle.page.specs.Pick.{_or_}
 use Rattle.page.specs.Low.{agree, joined}
 use Rattle.page.specs.Words.{virtual, physical, lowBits, kindOf}
-use Rattle.page.specs.declared.Kind.the-variants.{Section}
+use Rattle.page.specs.declared.Kind.{Kind}
 use Rattle.page.specs.declared.VirtualAddress.{VirtualAddress}
 use Rattle.page.specs.declared.PhysicalAddress.{PhysicalAddress}
-use Rattle.memory.specs.Memory.{wordOf}
+use Rattle.wire.specs.Words.{wordOf}
 use Rattle.records.specs.declared.Mapping.{Mapping}
 
 -- the bytes of a record
@@ -32,7 +32,7 @@ mappings rs = mappingsFrom rs 0 (length rs / recordSize)
 
 -- what stands for a mapping where a list has none
 abbrev pub noMapping : Mapping
-noMapping = record { at = virtual 0; to = physical 0; kind = Section; access = 0 }
+noMapping = record { at = virtual 0; to = physical 0; kind = Kind.Section; access = 0 }
 
 -- the mapping's region has the address
 unfoldable pub holds : Mapping → VirtualAddress → Bool

@@ -1,20 +1,21 @@
 // The builder's input: records of 12 bytes as mappings, what makes one proper, and which addresses it has.
+mod bitmap;
+pub mod lists;
+
 use page::Kind;
+use page::LIMIT;
 use page::PhysicalAddress;
 use page::VirtualAddress;
 ghost use mathlib.Core.Path.{_≡_};
 ghost use Rattle.page.specs.Words.{megabytes};
 ghost use Prim.Native.Nat.{_+_, _*_, _<_, _≤_};
 ghost use lib.ListN.{length, getD, take, drop};
-ghost use Rattle.memory.specs.Memory.{wordOf};
+ghost use Rattle.wire.specs.Words.{wordOf};
 ghost use Rattle.records.specs.Mappings.{recordSize, recordAt, mappingOf, mappings, noMapping, holds, byteOf};
 ghost use Rattle.records.specs.Checks.{wellFormed};
 
 // The bytes of a record.
 pub const SIZE: usize = 12;
-
-// The virtual addresses end here.
-const END: u32 = 16777216;
 
 // A page of virtual addresses, where it lies, and the access to it.
 pub struct Mapping {
@@ -24,12 +25,32 @@ pub struct Mapping {
     pub access: u32,
 }
 
+// The mapping that holds an address, if one does.
+pub enum Held {
+    By(Mapping),
+    Nobody,
+}
+
+// What the check of a list finds: nothing, or the first refusal with its record's index.
+pub enum Checked {
+    Fine,
+    BadRecord(usize),
+    Overlap(usize),
+}
+
+// What a list means at an address: a physical byte, or which fault.
+pub enum Meaning {
+    Byte(PhysicalAddress),
+    Permission,
+    Translation,
+}
+
 // The word of four bytes from byte i on.
 fn word_at(r: &[u8], i: usize) -> u32
     requires { ⌜ i + 4 ≤ length (now r) ⌝ }
     ensures { λ r′. ⌜ r′ ≡ wordOf (take 4 (drop i (now (r .entry)))) ⌝ }
 {
-    memory::word_of(&r[i..i + 4])
+    wire::word_of(&r[i..i + 4])
 }
 
 // A byte as a word.
@@ -118,7 +139,7 @@ pub fn well_formed(r: &[u8]) -> bool
     }
     let at = word_at(r, 0);
     let to = word_at(r, 4);
-    if END <= at {
+    if LIMIT <= at {
         return false;
     }
     let n = page::low_bits(page::kind_of(rest % 256));

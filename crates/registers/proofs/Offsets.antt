@@ -11,11 +11,8 @@ use Rattle.page.proofs.Picks.{pick-no, pick-by, and-left, and-right}
 use Rattle.registers.specs.declared.Pending.{Pending}
 use Rattle.registers.specs.declared.Registers.{Registers}
 use Rattle.registers.specs.declared.Answer.{Answer}
-use Rattle.registers.specs.declared.Answer.the-variants as A
 use Rattle.registers.specs.declared.Tending.{Tending}
-use Rattle.registers.specs.declared.Tending.the-variants.{Flush, FlushEntry}
 use Rattle.registers.specs.declared.Command.{Command}
-use Rattle.registers.specs.declared.Command.the-variants.{Refused, Nothing, Reset, Set, Tend, Load, Copy, Prefetch, Acknowledge}
 use Rattle.registers.specs.Answers.{number}
 use Rattle.registers.specs.Table.{listed, noRegister, controlCommand, lockCommand, loadCommand, whenBit, commandOf, valueAt}
 
@@ -88,25 +85,25 @@ listed-other (row ∷ rows) other o h g =
     by true q =
         absurd (true≢false (sym g ∙ ap noRegister (eqb-true _ _ q) ∙ not-true (noRegister (row .0)) (and-left (not (noRegister (row .0))) (registersOnly rows) h)))
 
-pub command-elsewhere : (o v : ℕ) → noRegister o ≡ true → commandOf o v ≡ Refused 5
+pub command-elsewhere : (o v : ℕ) → noRegister o ≡ true → commandOf o v ≡ Command.Refused 5
 unfolding commandOf noRegister _and_
-command-elsewhere o v h = listed-other _ (Refused 5) o refl h
+command-elsewhere o v h = listed-other _ (Command.Refused 5) o refl h
 
-pub value-elsewhere : (o : ℕ) (r : Registers) (lock victim : ℕ) (p : Pending) → noRegister o ≡ true → valueAt o r lock victim p ≡ A.Refused 5
+pub value-elsewhere : (o : ℕ) (r : Registers) (lock victim : ℕ) (p : Pending) → noRegister o ≡ true → valueAt o r lock victim p ≡ Answer.Refused 5
 unfolding valueAt noRegister _and_
-value-elsewhere o r lock victim p h = listed-other _ (A.Refused 5) o refl h
+value-elsewhere o r lock victim p h = listed-other _ (Answer.Refused 5) o refl h
 
 -- and 5 is answered nowhere else
 abbrev pub isFive : Command → Bool
-isFive (Refused k) = eqb k 5
-isFive Nothing = false
-isFive Reset = false
-isFive (Set s) = false
-isFive (Tend t) = false
-isFive Load = false
-isFive Copy = false
-isFive (Prefetch v) = false
-isFive (Acknowledge t) = false
+isFive (Command.Refused k) = eqb k 5
+isFive Command.Nothing = false
+isFive Command.Reset = false
+isFive (Command.Set s) = false
+isFive (Command.Tend t) = false
+isFive Command.Load = false
+isFive Command.Copy = false
+isFive (Command.Prefetch v) = false
+isFive (Command.Acknowledge t) = false
 
 abbrev NotFive : Command → Type 0
 NotFive c = isFive c ≡ false
@@ -146,8 +143,8 @@ command-five v =
     refl
     refl
     refl
-    (bit-not-five v Flush)
-    (bit-not-five v FlushEntry)
+    (bit-not-five v Tending.Flush)
+    (bit-not-five v Tending.FlushEntry)
     refl
     refl
     refl

@@ -16,11 +16,8 @@ use Rattle.bank.proofs.Ranges.{wordsOk, stored-ok, locked-ok, flush-ok, flushAt
 use Rattle.registers.specs.declared.Entry.{Entry}
 use Rattle.registers.specs.declared.Registers.{Registers}
 use Rattle.registers.specs.declared.Setting.{Setting}
-use Rattle.registers.specs.declared.Setting.the-variants.{Control, BaseHigh, BaseLow, CamHigh, CamLow, RamHigh, RamLow}
 use Rattle.registers.specs.declared.Tending.{Tending}
-use Rattle.registers.specs.declared.Tending.the-variants.{Lock, Flush, FlushEntry}
 use Rattle.registers.specs.declared.Command.{Command}
-use Rattle.registers.specs.declared.Command.the-variants.{Refused, Nothing, Reset, Set, Tend, Load, Copy, Prefetch, Acknowledge}
 use Rattle.registers.specs.Fields.{halfOk, entryOk, registersOk, freshRegisters, wordsOf, entryOf, camAddress, withControl, withBase, withPrefetch, withStaged, withCopied, setting}
 use Rattle.registers.specs.Table.{listed, controlCommand, lockCommand, loadCommand, whenBit, commandOf, tended}
 use Rattle.registers.proofs.Offsets.{by-offset, command-elsewhere}
@@ -101,13 +98,13 @@ fresh-ok = refl
 
 -- a setting with its kept bits alone
 abbrev pub SettingOk : Setting → Type 0
-SettingOk (Control v) = (v < 64) × (v / 8 % 4 ≡ 0)
-SettingOk (BaseHigh v) = v < 2 ^ 16
-SettingOk (BaseLow v) = (v < 2 ^ 16) × (v % 128 ≡ 0)
-SettingOk (CamHigh v) = v < 4
-SettingOk (CamLow v) = v < 2 ^ 16
-SettingOk (RamHigh v) = v < 2 ^ 16
-SettingOk (RamLow v) = (v < 2 ^ 16) × (v % 256 ≡ 0)
+SettingOk (Setting.Control v) = (v < 64) × (v / 8 % 4 ≡ 0)
+SettingOk (Setting.BaseHigh v) = v < 2 ^ 16
+SettingOk (Setting.BaseLow v) = (v < 2 ^ 16) × (v % 128 ≡ 0)
+SettingOk (Setting.CamHigh v) = v < 4
+SettingOk (Setting.CamLow v) = v < 2 ^ 16
+SettingOk (Setting.RamHigh v) = v < 2 ^ 16
+SettingOk (Setting.RamLow v) = (v < 2 ^ 16) × (v % 256 ≡ 0)
 
 -- every change of registers in range by a part in range leaves them in range
 module _ (r : Registers) (h : registersOk r ≡ true) where
@@ -141,23 +138,23 @@ module _ (r : Registers) (h : registersOk r ≡ true) where
   prefetch-kept-ok v = withPrefetch-ok (v % 2 ^ 14) (omega arith)
 
   pub set-ok : (s : Setting) → SettingOk s → registersOk (setting r s) ≡ true
-  set-ok (Control v) g = withControl-ok v (g .0) (g .1)
-  set-ok (BaseHigh v) g =
+  set-ok (Setting.Control v) g = withControl-ok v (g .0) (g .1)
+  set-ok (Setting.BaseHigh v) g =
       let i = registers-in-range r h in
       withBase-ok (v * 65536 + r .base .0 % 65536) (omega (arith, g)) (omega (arith, i .start))
-  set-ok (BaseLow v) g =
+  set-ok (Setting.BaseLow v) g =
       let i = registers-in-range r h in
       withBase-ok (r .base .0 / 65536 * 65536 + v) (omega (arith, g .0, i .base)) (omega (arith, g .1))
-  set-ok (CamHigh v) g =
+  set-ok (Setting.CamHigh v) g =
       let e = entry-in-range _ (registers-in-range r h .staged) in
       withStaged-ok _ (entry-ranged _ g (e .camlo) (e .ramhi) (e .ramlo) (e .access))
-  set-ok (CamLow v) g =
+  set-ok (Setting.CamLow v) g =
       let e = entry-in-range _ (registers-in-range r h .staged) in
       withStaged-ok _ (entry-ranged _ (e .camhi) g (e .ramhi) (e .ramlo) (e .access))
-  set-ok (RamHigh v) g =
+  set-ok (Setting.RamHigh v) g =
       let e = entry-in-range _ (registers-in-range r h .staged) in
       withStaged-ok _ (entry-ranged _ (e .camhi) (e .camlo) g (e .ramlo) (e .access))
-  set-ok (RamLow v) g =
+  set-ok (Setting.RamLow v) g =
       let e = entry-in-range _ (registers-in-range r h .staged) in
       withStaged-ok _ (entry-ranged _ (e .camhi) (e .camlo) (e .ramhi) (g .0) (g .1))
 
@@ -207,26 +204,26 @@ module _ (b : Bank) (h : bankOk b ≡ true) (r : Registers) (g : registersOk r �
 
 -- a flush keeps them, and a lock base and victim of a slot
 abbrev pub TendingOk : Tending → Type 0
-TendingOk (Lock l v) = (l < slots) × (v < slots)
-TendingOk Flush = Unit {0}
-TendingOk FlushEntry = Unit {0}
+TendingOk (Tending.Lock l v) = (l < slots) × (v < slots)
+TendingOk Tending.Flush = Unit {0}
+TendingOk Tending.FlushEntry = Unit {0}
 
 pub tended-ok : (b : Bank) → bankOk b ≡ true → (staged : Entry) (t : Tending) → TendingOk t → bankOk (tended b staged t) ≡ true
-tended-ok b h staged (Lock l v) g = locked-ok b h l v (g .0) (g .1)
-tended-ok b h staged Flush g = flush-ok b h
-tended-ok b h staged FlushEntry g = flushAt-ok b h (camAddress staged)
+tended-ok b h staged (Tending.Lock l v) g = locked-ok b h l v (g .0) (g .1)
+tended-ok b h staged Tending.Flush g = flush-ok b h
+tended-ok b h staged Tending.FlushEntry g = flushAt-ok b h (camAddress staged)
 
 -- what a write of 16 bits asks for is in range
 abbrev pub CommandOk : Command → Type 0
-CommandOk (Refused k) = Unit {0}
-CommandOk Nothing = Unit {0}
-CommandOk Reset = Unit {0}
-CommandOk (Set s) = SettingOk s
-CommandOk (Tend t) = TendingOk t
-CommandOk Load = Unit {0}
-CommandOk Copy = Unit {0}
-CommandOk (Prefetch v) = Unit {0}
-CommandOk (Acknowledge t) = Unit {0}
+CommandOk (Command.Refused k) = Unit {0}
+CommandOk Command.Nothing = Unit {0}
+CommandOk Command.Reset = Unit {0}
+CommandOk (Command.Set s) = SettingOk s
+CommandOk (Command.Tend t) = TendingOk t
+CommandOk Command.Load = Unit {0}
+CommandOk Command.Copy = Unit {0}
+CommandOk (Command.Prefetch v) = Unit {0}
+CommandOk (Command.Acknowledge t) = Unit {0}
 
 control-ok : (v : ℕ) → CommandOk (controlCommand v)
 unfolding controlCommand
@@ -266,8 +263,8 @@ command-ok v h =
     h
     h
     (omega (arith, h), omega arith)
-    (when-bit-ok v Flush tt)
-    (when-bit-ok v FlushEntry tt)
+    (when-bit-ok v Tending.Flush tt)
+    (when-bit-ok v Tending.FlushEntry tt)
     tt
     tt
     tt
@@ -275,8 +272,8 @@ command-ok v h =
     (λ o g. subst CommandOk (sym (command-elsewhere o v g)) tt)
 
 module _ (o v : ℕ) (h : v < 2 ^ 16) where
-  pub setting-ok : (s : Setting) → commandOf o v ≡ Set s → SettingOk s
+  pub setting-ok : (s : Setting) → commandOf o v ≡ Command.Set s → SettingOk s
   setting-ok s e = subst CommandOk e (command-ok v h o)
 
-  pub tending-ok : (t : Tending) → commandOf o v ≡ Tend t → TendingOk t
+  pub tending-ok : (t : Tending) → commandOf o v ≡ Command.Tend t → TendingOk t
   tending-ok t e = subst CommandOk e (command-ok v h o)

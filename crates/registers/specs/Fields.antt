@@ -3,14 +3,11 @@ use Rattle.page.specs.Ground.{ℕ, _+_, _*_, _/_, _%_, _^_, Bool, true, eqb, lt
 use Rattle.page.specs.Pick.{_and_}
 use Rattle.page.specs.Words.{virtual, physical, limit}
 use Rattle.page.specs.declared.VirtualAddress.{VirtualAddress}
-use Rattle.page.specs.declared.PhysicalAddress.{PhysicalAddress}
 use Rattle.page.specs.declared.Words.{Words}
 use Rattle.registers.specs.declared.Entry.{Entry}
 use Rattle.registers.specs.declared.Registers.{Registers}
 use Rattle.registers.specs.declared.Pending.{Pending}
-use Rattle.registers.specs.declared.Pending.the-variants.{Nothing, Held}
 use Rattle.registers.specs.declared.Setting.{Setting}
-use Rattle.registers.specs.declared.Setting.the-variants.{Control, BaseHigh, BaseLow, CamHigh, CamLow, RamHigh, RamLow}
 
 -- control: 1 enable, 2 walk
 abbrev pub isOn : ℕ → Bool
@@ -43,8 +40,8 @@ registersOk r =
     and entryOk (r .copied)
 
 abbrev pub pendingOk : Pending → Bool
-pendingOk Nothing = true
-pendingOk (Held k va a) = ltb (va .0) limit
+pendingOk Pending.Nothing = true
+pendingOk (Pending.Held k va a) = ltb (va .0) limit
 
 -- a slot's words are the halves of its register form
 abbrev pub wordsOf : Entry → Words
@@ -75,10 +72,10 @@ withCopied r e = record { control = r .control; base = r .base; prefetch = r .pr
 
 -- the registers after a setting
 abbrev pub setting : Registers → Setting → Registers
-setting r (Control v) = withControl r v
-setting r (BaseHigh v) = withBase r (v * 65536 + r .base .0 % 65536)
-setting r (BaseLow v) = withBase r (r .base .0 / 65536 * 65536 + v)
-setting r (CamHigh v) = withStaged r (record { camhi = v; camlo = r .staged .camlo; ramhi = r .staged .ramhi; ramlo = r .staged .ramlo })
-setting r (CamLow v) = withStaged r (record { camhi = r .staged .camhi; camlo = v; ramhi = r .staged .ramhi; ramlo = r .staged .ramlo })
-setting r (RamHigh v) = withStaged r (record { camhi = r .staged .camhi; camlo = r .staged .camlo; ramhi = v; ramlo = r .staged .ramlo })
-setting r (RamLow v) = withStaged r (record { camhi = r .staged .camhi; camlo = r .staged .camlo; ramhi = r .staged .ramhi; ramlo = v })
+setting r (Setting.Control v) = withControl r v
+setting r (Setting.BaseHigh v) = withBase r (v * 65536 + r .base .0 % 65536)
+setting r (Setting.BaseLow v) = withBase r (r .base .0 / 65536 * 65536 + v)
+setting r (Setting.CamHigh v) = withStaged r (record { camhi = v; camlo = r .staged .camlo; ramhi = r .staged .ramhi; ramlo = r .staged .ramlo })
+setting r (Setting.CamLow v) = withStaged r (record { camhi = r .staged .camhi; camlo = v; ramhi = r .staged .ramhi; ramlo = r .staged .ramlo })
+setting r (Setting.RamHigh v) = withStaged r (record { camhi = r .staged .camhi; camlo = r .staged .camlo; ramhi = v; ramlo = r .staged .ramlo })
+setting r (Setting.RamLow v) = withStaged r (record { camhi = r .staged .camhi; camlo = r .staged .camlo; ramhi = r .staged .ramhi; ramlo = v })

@@ -1,5 +1,8 @@
 // The registers: their types and Table 3, what is in range, and a slot in register form.
+pub mod values;
+
 use page::Access;
+use page::LIMIT;
 use page::PhysicalAddress;
 use page::VirtualAddress;
 use page::Words;
@@ -154,7 +157,7 @@ pub fn pending_ok(p: Pending) -> bool
 {
     match p {
         Pending::Nothing => true,
-        Pending::Held(_, va, _) => va.0 < 16777216,
+        Pending::Held(_, va, _) => va.0 < LIMIT,
     }
 }
 

@@ -3,7 +3,7 @@ use mathlib.Core.Path.{_≡_, sym, _∙_, ap, ap₂, subst}
 use native.Mathlib.Omega.{arith}
 use mathlib.Core.Bool.{Bool, true}
 use mathlib.Core.List.{List}
-use Prim.Native.Nat.{ℕ, _+_, _*_, _-_, _<_, _≤_}
+use Prim.Native.Nat.{ℕ, _+_, _*_, _<_, _≤_}
 use lib.ListN.{length}
 use Rattle.page.specs.Pick.{_and_}
 use Rattle.memory.specs.Memory.{Lent, lentOk}
@@ -16,18 +16,18 @@ use Rattle.bill.specs.declared.Bill.{Bill}
 use Rattle.bank.specs.declared.Bank.{Bank}
 use Rattle.registers.specs.declared.Pending.{Pending}
 use Rattle.registers.specs.declared.Registers.{Registers}
-use Rattle.slots.specs.Lanes.{bankOf, Spanned}
+use Rattle.bank.specs.InPlace.{bankOf, Spanned}
 use Rattle.plan.specs.declared.Plan.{Plan}
 use Rattle.perform.specs.Performed.{Done, Fit, Performs, doneOf, performed}
 use Rattle.perform.specs.declared.Performed.{Performed}
 use Rattle.conduct.specs.Refused.{BytesFit}
-use Rattle.forms.specs.declared.Call.{Call}
+use Rattle.calls.specs.declared.Call.{Call}
 use Rattle.calls.specs.Records.{callAt, isGood}
 use Rattle.session.specs.Bench.{stepped}
 use Rattle.session.specs.declared.Bench.{Bench}
 use Rattle.session.specs.declared.Stepped.{Stepped}
-use Rattle.wire.specs.Words.{placed, written}
-use Rattle.answers.specs.Answers.{saidWords}
+use Rattle.wire.specs.Words.{placed, wordsPut}
+use Rattle.run.specs.Answers.{saidWords}
 use Rattle.run.specs.Planned.{partsOk, planOf, benchOf, benchDone}
 use Rattle.run.proofs.Turns.{left, run-turn}
 use Rattle.run.proofs.Planned.{Narrow, narrow-at, planned, planned-stepped, planned-fits, range-same}
@@ -63,7 +63,7 @@ module _ (m : Lent) (p : Prices) (handed : ℕ) (calls : List ℕ) (n : ℕ) (st
   pub going-on : BytesFit m → c ≡ callAt calls (12 * i) → isGood c ≡ true
       → (y : Performed) (cm rm ls hs o : List ℕ) (tm : Meters)
       → Performs (performed m p b r bank q x) y cm rm ls hs
-      → tm ≡ posted t (y .tally) → length o ≡ length out → o ≡ written out (16 * i) (saidWords (y .said))
+      → tm ≡ posted t (y .tally) → length o ≡ length out → o ≡ wordsPut out (16 * i) (saidWords (y .said))
       → Going m p handed calls n start first o (y .registers) cm rm (y .lock) (y .victim) (y .pending) (y .bill) tm ls hs ok (i + 1)
   going-on bytes ce good y cm rm ls hs o tm done te ol w =
       let e : doneOf y cm rm ≡ performed m p b r bank q (planned m p r bank q b c) = done .is ∙ ap (performed m p b r bank q) plan-is in

@@ -6,11 +6,11 @@ use native.Mathlib.Omega.{arith}
 use lib.ListN.{length, length-append}
 use Rattle.memory.specs.Memory.{Lent}
 use Rattle.prices.specs.declared.Prices.{Prices}
-use Rattle.forms.specs.declared.Call.{Call}
+use Rattle.calls.specs.declared.Call.{Call}
 use Rattle.session.specs.Bench.{stepped}
 use Rattle.session.specs.declared.Bench.{Bench}
-use Rattle.answers.specs.Answers.{saidWords}
-use Rattle.answers.proofs.Lengths.{said-length}
+use Rattle.run.specs.Answers.{saidWords}
+use Rattle.run.proofs.Sizes.{said-length}
 use Rattle.state.proofs.Lengths.{state-length}
 use Rattle.run.specs.Run.{sessionWords}
 

@@ -2,3 +2,5 @@ pub mod Lengths
 pub mod Turns
 pub mod Planned
 pub mod Going
+pub mod Sizes
+pub mod Room

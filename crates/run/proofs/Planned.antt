@@ -1,11 +1,10 @@
 -- A call of a run is its plan, performed; it finds and leaves a device in range, or out of range. Assumes nothing.
 use mathlib.Core.Path.{_≡_, refl, sym, _∙_, ap}
-use mathlib.Core.Bool.{Bool, true, false}
+use mathlib.Core.Bool.{Bool, true, false, false≢true}
 use Prim.Native.Nat.{ℕ, _<_}
 use borrow.Author.Tests.{ltb-true}
 use mathlib.Core.List.{List}
-use mathlib.Core.Bool.{false≢true}
-use Rattle.page.specs.Pick.{pick, _and_}
+use Rattle.page.specs.Pick.{pick}
 use Rattle.page.proofs.Picks.{pick-by, and-right}
 use Rattle.memory.specs.Memory.{Lent, lentOk}
 use Rattle.meters.specs.declared.Meters.{Meters}
@@ -24,22 +23,21 @@ use Rattle.unit.proofs.Fitting.{request-fits, write-fits, read-fits, drop-fits,
 use Rattle.unit.proofs.Planned.{request-done, write-done, read-done, drop-done, shift-done}
 use Rattle.conduct.specs.Refused.{BytesFit}
 use Rattle.conduct.proofs.Ranged.{range-kept}
-use Rattle.forms.specs.Forms.{writeBy, readBy, requestBy, dropBy, shiftBy}
-use Rattle.forms.specs.declared.Call.{Call}
-use Rattle.forms.specs.declared.Call.the-variants as C
-use Rattle.kinds.specs.Kinds.{callBy, callFrom}
+use Rattle.calls.specs.Forms.{writeBy, readBy, requestBy, dropBy, shiftBy}
+use Rattle.calls.specs.declared.Call.{Call}
+use Rattle.calls.specs.Kinds.{callBy, callFrom}
 use Rattle.calls.specs.Records.{callOf, callAt, isGood}
 use Rattle.session.specs.Bench.{stepped}
 use Rattle.run.specs.Planned.{partsOk, planOf, benchOf, benchDone}
 
 -- a value of a register write has 16 bits
 abbrev pub Narrow : Call → Type 0
-Narrow (C.Write o v) = v < 65536
-Narrow (C.Read o) = Unit {0}
-Narrow (C.Request va a) = Unit {0}
-Narrow C.Drop = Unit {0}
-Narrow (C.Shift va) = Unit {0}
-Narrow C.Bad = Unit {0}
+Narrow (Call.Write o v) = v < 65536
+Narrow (Call.Read o) = Unit {0}
+Narrow (Call.Request va a) = Unit {0}
+Narrow Call.Drop = Unit {0}
+Narrow (Call.Shift va) = Unit {0}
+Narrow Call.Bad = Unit {0}
 
 call-narrow : (k x a v : ℕ) → Narrow (callBy k x a v)
 unfolding callBy writeBy readBy requestBy dropBy shiftBy
@@ -65,20 +63,20 @@ module _ (m : Lent) (p : Prices) (r : Registers) (k : Bank) (q : Pending) (b : B
   device = record { registers = r; bank = k; pending = q }
 
   pub planned-stepped : (t : Meters) (c : Call) → isGood c ≡ true → benchDone t (left-by c) ≡ stepped m p (benchOf r k q b t) c
-  planned-stepped t (C.Write o v) g = ap (benchDone t) (write-done m p b device v o)
-  planned-stepped t (C.Read o) g = ap (benchDone t) (read-done m p b device o)
-  planned-stepped t (C.Request va a) g = ap (benchDone t) (request-done m p b device va a)
-  planned-stepped t C.Drop g = ap (benchDone t) (drop-done m p b device)
-  planned-stepped t (C.Shift va) g = ap (benchDone t) (shift-done m p b device va)
-  planned-stepped t C.Bad g = absurd (false≢true g)
+  planned-stepped t (Call.Write o v) g = ap (benchDone t) (write-done m p b device v o)
+  planned-stepped t (Call.Read o) g = ap (benchDone t) (read-done m p b device o)
+  planned-stepped t (Call.Request va a) g = ap (benchDone t) (request-done m p b device va a)
+  planned-stepped t Call.Drop g = ap (benchDone t) (drop-done m p b device)
+  planned-stepped t (Call.Shift va) g = ap (benchDone t) (shift-done m p b device va)
+  planned-stepped t Call.Bad g = absurd (false≢true g)
 
   pub planned-fits : (c : Call) → Fit (r .control) (k .cam) (k .lock) (k .victim) (planned c)
-  planned-fits (C.Write o v) = write-fits device _ _ (commandOf o v)
-  planned-fits (C.Read o) = read-fits device _ o
-  planned-fits (C.Request va a) = request-fits device _ _ q va a
-  planned-fits C.Drop = drop-fits device _ q
-  planned-fits (C.Shift va) = shift-fits device _ _ va
-  planned-fits C.Bad = tt
+  planned-fits (Call.Write o v) = write-fits device _ _ (commandOf o v)
+  planned-fits (Call.Read o) = read-fits device _ o
+  planned-fits (Call.Request va a) = request-fits device _ _ q va a
+  planned-fits Call.Drop = drop-fits device _ q
+  planned-fits (Call.Shift va) = shift-fits device _ _ va
+  planned-fits Call.Bad = tt
 
   abbrev after-ok : Done → Bool
   after-ok x = partsOk (x .registers) (x .bank) (x .pending)
@@ -87,20 +85,20 @@ module _ (m : Lent) (p : Prices) (r : Registers) (k : Bank) (q : Pending) (b : B
   refused-kept : (c : Call) (ok : Bool) → ok ≡ false → after-ok (performed m p b r k q (planOf ok (lentOk m) (moneyOk p b) (r .control) q c)) ≡ partsOk r k q
   unfolding pick
   refused-kept c true e = absurd (false≢true (sym e))
-  refused-kept (C.Write o v) false e = refl
-  refused-kept (C.Read o) false e = refl
-  refused-kept (C.Request va a) false e = refl
-  refused-kept C.Drop false e = refl
-  refused-kept (C.Shift va) false e = refl
-  refused-kept C.Bad false e = refl
+  refused-kept (Call.Write o v) false e = refl
+  refused-kept (Call.Read o) false e = refl
+  refused-kept (Call.Request va a) false e = refl
+  refused-kept Call.Drop false e = refl
+  refused-kept (Call.Shift va) false e = refl
+  refused-kept Call.Bad false e = refl
 
   ranged-kept : (c : Call) → isGood c ≡ true → Narrow c → BytesFit m → partsOk r k q ≡ true → after-ok (left-by c) ≡ true
-  ranged-kept (C.Write o v) g w f h = ap after-ok (write-done m p b device v o) ∙ range-kept m device b (M.write o v p) f w h
-  ranged-kept (C.Read o) g w f h = ap after-ok (read-done m p b device o) ∙ range-kept m device b (M.read o) f tt h
-  ranged-kept (C.Request va a) g w f h = ap after-ok (request-done m p b device va a) ∙ range-kept m device b (M.request va a p) f tt h
-  ranged-kept C.Drop g w f h = ap after-ok (drop-done m p b device) ∙ range-kept m device b M.drop-fault f tt h
-  ranged-kept (C.Shift va) g w f h = ap after-ok (shift-done m p b device va) ∙ range-kept m device b (M.shift va) f tt h
-  ranged-kept C.Bad g w f h = absurd (false≢true g)
+  ranged-kept (Call.Write o v) g w f h = ap after-ok (write-done m p b device v o) ∙ range-kept m device b (M.write o v p) f w h
+  ranged-kept (Call.Read o) g w f h = ap after-ok (read-done m p b device o) ∙ range-kept m device b (M.read o) f tt h
+  ranged-kept (Call.Request va a) g w f h = ap after-ok (request-done m p b device va a) ∙ range-kept m device b (M.request va a p) f tt h
+  ranged-kept Call.Drop g w f h = ap after-ok (drop-done m p b device) ∙ range-kept m device b M.drop-fault f tt h
+  ranged-kept (Call.Shift va) g w f h = ap after-ok (shift-done m p b device va) ∙ range-kept m device b (M.shift va) f tt h
+  ranged-kept Call.Bad g w f h = absurd (false≢true g)
 
   -- so whether it is in range stays as it was
   pub range-same : (c : Call) → isGood c ≡ true → Narrow c → BytesFit m → after-ok (left-by c) ≡ partsOk r k q

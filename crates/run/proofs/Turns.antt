@@ -7,15 +7,15 @@ use lib.ListN.{length}
 use Rattle.memory.specs.Memory.{Lent}
 use Rattle.prices.specs.declared.Prices.{Prices}
 use Rattle.calls.specs.Records.{callSize, callAt, callsFrom}
-use Rattle.forms.specs.declared.Call.{Call}
+use Rattle.calls.specs.declared.Call.{Call}
 use Rattle.calls.proofs.Rest.{calls-next, calls-none}
 use Rattle.session.specs.Bench.{stepped}
 use Rattle.session.specs.declared.Bench.{Bench}
 use Rattle.session.specs.declared.Stepped.{Stepped}
-use Rattle.wire.specs.Words.{placed, written}
+use Rattle.wire.specs.Words.{placed, wordsPut}
 use Rattle.wire.proofs.Placing.{placed-then, written-fits}
-use Rattle.answers.specs.Answers.{saidWords}
-use Rattle.answers.proofs.Lengths.{said-length}
+use Rattle.run.specs.Answers.{saidWords}
+use Rattle.run.proofs.Sizes.{said-length}
 use Rattle.state.specs.State.{stateWords}
 use Rattle.state.proofs.Parts.{state-fits}
 use Rattle.run.specs.Run.{sessionWords}
@@ -32,7 +32,7 @@ module _ (m : Lent) (p : Prices) (handed : ℕ) (l : List ℕ) (n : ℕ) where
   calls-length i (suc k) = ap suc (calls-length (i + 1) k)
 
   pub run-turn : (out o : List ℕ) (b : Bench) (i : ℕ) (s : Stepped) → i < n → 16 * n + 328 ≤ length out
-      → s ≡ stepped m p b (callAt l (callSize * i)) → o ≡ written out (16 * i) (saidWords (s .said))
+      → s ≡ stepped m p b (callAt l (callSize * i)) → o ≡ wordsPut out (16 * i) (saidWords (s .said))
       → placed out (16 * i) (left b i) ≡ placed o (16 * (i + 1)) (left (s .bench) (i + 1))
   unfolding sessionWords
   run-turn out o b i s h fits e q =
@@ -46,7 +46,7 @@ module _ (m : Lent) (p : Prices) (handed : ℕ) (l : List ℕ) (n : ℕ) where
       ∙ ap₂ (λ (x : List ℕ) (j : ℕ). placed x j rest) (sym (q ∙ written-fits out (16 * i) (saidWords (s .said)) (omega arith))) (let d : 16 * i + 4 * length (saidWords (s .said)) ≡ 16 * (i + 1) = omega arith in d)
 
   pub run-end : (out : List ℕ) (b : Bench) (i : ℕ) → n ≤ i → i ≤ n → 16 * n + 328 ≤ length out
-      → placed out (16 * i) (left b i) ≡ written out (16 * n) (stateWords handed b)
+      → placed out (16 * i) (left b i) ≡ wordsPut out (16 * n) (stateWords handed b)
   unfolding sessionWords
   run-end out b i h g fits =
       ap₂ (λ (j : ℕ) (cs : List Call). placed out (16 * j) (sessionWords m p handed b cs)) (let e : i ≡ n = omega arith in e) (calls-none l n i h)

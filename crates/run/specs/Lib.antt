@@ -1,2 +1,4 @@
 pub mod Run
 pub mod Planned
+pub mod Answers
+pub mod Asked

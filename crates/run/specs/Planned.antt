@@ -9,24 +9,22 @@ use Rattle.registers.specs.declared.Pending.{Pending}
 use Rattle.registers.specs.declared.Registers.{Registers}
 use Rattle.plan.specs.Plans.{requestPlan, writePlan, readPlan, dropPlan, shiftPlan}
 use Rattle.plan.specs.declared.Plan.{Plan}
-use Rattle.plan.specs.declared.Plan.the-variants as L
 use Rattle.perform.specs.Performed.{Done}
 use Rattle.unit.specs.Device.{inRange}
-use Rattle.forms.specs.declared.Call.{Call}
-use Rattle.forms.specs.declared.Call.the-variants as C
+use Rattle.calls.specs.declared.Call.{Call}
 use Rattle.calls.specs.Records.{allGood}
-use Rattle.asked.specs.Asked.{runSize}
+use Rattle.run.specs.Asked.{runSize}
 use Rattle.session.specs.declared.Bench.{Bench}
 use Rattle.session.specs.declared.Stepped.{Stepped}
 
 -- by what was tested: ok that the device is in range, l that the memories are not refused, x that prices and bill are not
 abbrev pub planOf : Bool → Bool → Bool → ℕ → Pending → Call → Plan
-planOf ok l x c q (C.Write o v) = writePlan ok l x c q (commandOf o v)
-planOf ok l x c q (C.Read o) = readPlan ok o
-planOf ok l x c q (C.Request va a) = requestPlan ok l x q va a
-planOf ok l x c q C.Drop = dropPlan ok q
-planOf ok l x c q (C.Shift va) = shiftPlan ok l va
-planOf ok l x c q C.Bad = L.Done
+planOf ok l x c q (Call.Write o v) = writePlan ok l x c q (commandOf o v)
+planOf ok l x c q (Call.Read o) = readPlan ok o
+planOf ok l x c q (Call.Request va a) = requestPlan ok l x q va a
+planOf ok l x c q Call.Drop = dropPlan ok q
+planOf ok l x c q (Call.Shift va) = shiftPlan ok l va
+planOf ok l x c q Call.Bad = Plan.Done
 
 -- a device of these parts is in range
 abbrev pub partsOk : Registers → Bank → Pending → Bool

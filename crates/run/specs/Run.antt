@@ -4,13 +4,13 @@ use Rattle.page.specs.Pick.{pick}
 use Rattle.memory.specs.Memory.{Lent}
 use Rattle.prices.specs.declared.Prices.{Prices}
 use Rattle.calls.specs.Records.{callsIn}
-use Rattle.forms.specs.declared.Call.{Call}
+use Rattle.calls.specs.declared.Call.{Call}
 use Rattle.session.specs.Bench.{stepped}
 use Rattle.session.specs.declared.Bench.{Bench}
 use Rattle.wire.specs.Words.{placed}
-use Rattle.answers.specs.Answers.{saidWords}
+use Rattle.run.specs.Answers.{saidWords}
 use Rattle.state.specs.State.{stateWords}
-use Rattle.asked.specs.Asked.{runSize, mayRun}
+use Rattle.run.specs.Asked.{runSize, mayRun}
 
 -- what is written: an answer for each call, then the state
 unfoldable pub sessionWords : Lent → Prices → ℕ → Bench → List Call → List ℕ

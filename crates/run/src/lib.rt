@@ -1,7 +1,9 @@
 // A run: every call of a list in order, its answers and the state after the last one written.
+pub mod answers;
+
 use bank::Bank;
 use bill::Bill;
-use forms::Call;
+use calls::Call;
 use plan::Plan;
 use prices::Prices;
 use registers::Pending;
@@ -13,12 +15,10 @@ ghost use Rattle.memory.specs.Memory.{lent};
 ghost use Rattle.bill.specs.Bill.{billOk};
 ghost use Rattle.run.specs.Planned.{planOf, Asked};
 ghost use Rattle.run.specs.Run.{ran, ranFrom, runWith};
+ghost use Rattle.run.specs.Asked.{mayRun};
 
 // The bytes of an answer.
 const ANSWER: usize = 16;
-
-// The bytes of a state.
-const STATE: usize = 328;
 
 // What a call is to do, by what was tested once, the control register, the pending fault and the bill.
 fn plan_of(
@@ -72,8 +72,8 @@ fn run_all<'a>(
     let mut p = d.pending;
     let mut bill = start.bill;
     let mut meters = start.meters;
-    let mut lows = slots::lows(&cam);
-    let mut highs = slots::highs(&cam);
+    let mut lows = bank::slots::lows(&cam);
+    let mut highs = bank::slots::highs(&cam);
     let mut i: usize = 0;
     while i < n {
         let call = calls::decode_known(calls, 12 * i);
@@ -121,7 +121,7 @@ fn run_all<'a>(
         meters: meters,
     };
     state::put_state(out, ANSWER * n, last, handed);
-    (ANSWER * n + STATE) as u64
+    (ANSWER * n + state::SIZE) as u64
 }
 
 // A run from a bench, with prices of two kinds; nothing where it is not answered.
@@ -140,8 +140,27 @@ pub fn run_from<'a>(
 ) -> u64
     ensures { λ r. ⌜ ran r (now (out .exit)) ≡ runWith (lent (now (on .entry)) onbase (now (ext .entry)) extbase) prices onkind extkind handed start (now (calls .entry)) (now (out .entry)) ⌝ }
 {
-    if !asked::may_run(calls, onkind, extkind, out.len()) {
+    if !may_run(calls, onkind, extkind, out.len()) {
         return 0;
     }
     run_all(start, handed, calls, on, onbase, ext, extbase, prices, out)
+}
+
+// Prices of a kind, calls as they must be, and room for what is written.
+pub(crate) fn may_run(calls: &[u8], onkind: u32, extkind: u32, room: usize) -> bool
+    ensures { λ r. ⌜ r ≡ mayRun (now (calls .entry)) onkind extkind room ⌝ }
+{
+    if onkind > 1 {
+        return false;
+    }
+    if extkind > 1 {
+        return false;
+    }
+    if !calls::all_good(calls) {
+        return false;
+    }
+    if room < state::SIZE {
+        return false;
+    }
+    calls::count(calls) <= (room - state::SIZE) / ANSWER
 }

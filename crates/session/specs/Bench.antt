@@ -2,16 +2,14 @@
 use Rattle.meters.specs.Posted.{noMeters, posted}
 use Rattle.meters.specs.declared.Meters.{Meters}
 use Rattle.bill.specs.Bill.{freshBill}
-use Rattle.registers.specs.declared.Answer.the-variants.{Done}
+use Rattle.registers.specs.declared.Answer.{Answer}
 use Rattle.unit.specs.Types.{Lent, Prices}
 use Rattle.unit.specs.Device.{freshDevice}
 use Rattle.unit.specs.Machine as M
 use Rattle.unit.specs.Machine.{Step, step}
-use Rattle.forms.specs.declared.Call.{Call}
-use Rattle.forms.specs.declared.Call.the-variants as C
+use Rattle.calls.specs.declared.Call.{Call}
 use Rattle.session.specs.declared.Bench.{Bench}
 use Rattle.decision.specs.declared.Said.{Said}
-use Rattle.decision.specs.declared.Said.the-variants.{Answered, Reported}
 use Rattle.session.specs.declared.Stepped.{Stepped}
 
 -- a fresh device, bill and meters
@@ -20,8 +18,8 @@ freshBench = record { device = freshDevice; bill = freshBill; meters = noMeters 
 
 -- what the machine says
 abbrev pub saidOf : M.Said → Said
-saidOf (M.answered r) = Answered r
-saidOf (M.reported s) = Reported s
+saidOf (M.answered r) = Said.Answered r
+saidOf (M.reported s) = Said.Reported s
 
 -- a step of the machine, its tally posted to the meters
 abbrev pub made : Meters → Step → Stepped
@@ -32,9 +30,9 @@ made t s = record {
 
 -- a call with its prices; a record that is none changes nothing
 abbrev pub stepped : Lent → Prices → Bench → Call → Stepped
-stepped m p b (C.Write o v) = made (b .meters) (step m (b .device) (b .bill) (M.write o v p))
-stepped m p b (C.Read o) = made (b .meters) (step m (b .device) (b .bill) (M.read o))
-stepped m p b (C.Request va a) = made (b .meters) (step m (b .device) (b .bill) (M.request va a p))
-stepped m p b C.Drop = made (b .meters) (step m (b .device) (b .bill) M.drop-fault)
-stepped m p b (C.Shift va) = made (b .meters) (step m (b .device) (b .bill) (M.shift va))
-stepped m p b C.Bad = record { bench = b; said = Answered Done }
+stepped m p b (Call.Write o v) = made (b .meters) (step m (b .device) (b .bill) (M.write o v p))
+stepped m p b (Call.Read o) = made (b .meters) (step m (b .device) (b .bill) (M.read o))
+stepped m p b (Call.Request va a) = made (b .meters) (step m (b .device) (b .bill) (M.request va a p))
+stepped m p b Call.Drop = made (b .meters) (step m (b .device) (b .bill) M.drop-fault)
+stepped m p b (Call.Shift va) = made (b .meters) (step m (b .device) (b .bill) (M.shift va))
+stepped m p b Call.Bad = record { bench = b; said = Said.Answered Answer.Done }

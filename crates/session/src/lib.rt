@@ -1,7 +1,7 @@
 // A session on the bench: a device, a bill and meters, and one call after another.
 use bill::Bill;
+use calls::Call;
 use decision::Said;
-use forms::Call;
 use meters::Meters;
 use meters::Tally;
 use prices::Prices;

@@ -10,21 +10,23 @@ use Rattle.page.specs.Pick.{pick, _and_, _or_}
 use Rattle.page.proofs.Picks.{and-left, and-right}
 use Rattle.page.specs.Low.{upper, joined}
 use Rattle.page.specs.Words.{kindOf, wordMatches, madeCam, madeRam, megabytes}
-use Rattle.memory.specs.Memory.{memoryOk, apart, memoriesOk, holds, placeWithin, placeIn, wordOf}
+use Rattle.memory.specs.Memory.{memoryOk, apart, memoriesOk, holds, placeWithin, placeIn}
+use Rattle.wire.specs.Words.{wordOf}
 use Rattle.walk.specs.Walk.{firstAt, coarseAt, fineAt, readIn, walkFrom}
 use Rattle.records.specs.Mappings.{mappings, mappingsFrom, mappingOf, byteOf, overlap}
-use Rattle.lists.specs.Meanings.{holder}
+use Rattle.records.specs.Meanings.{holder}
 use Rattle.records.specs.Mappings as M
 use Rattle.records.specs.Checks.{multiple, proper, wellFormed}
-use Rattle.lists.specs.Refusals.{bad, clashes, overlapping, checkedFrom, checked}
-use Rattle.tables.specs.Tables.{hasKind, tableOf, tableEnd, tableStart, imageLength}
-use Rattle.words.specs.Words.{firstWord, pageWord, secondWord, inTables, imageWord}
-use Rattle.image.specs.Image.{image}
+use Rattle.records.specs.Refusals.{bad, clashes, overlapping, checkedFrom, checked}
+use Rattle.tables.specs.Tables.{tableOf, tableEnd, tableStart, imageLength}
+use Rattle.records.specs.Noted.{hasKind}
+use Rattle.tables.specs.Words.{firstWord, pageWord, secondWord, inTables, imageWord}
+use Rattle.builder.specs.Image.{image}
 use Rattle.builder.specs.Build.{leaves, roomOk, answerOf, buildOf}
 use Rattle.prices.specs.Prices.{figureOk, every}
 use Rattle.bill.specs.Bill.{moneyOk}
 use Rattle.bank.specs.Slots.{bankOk}
-use Rattle.descriptors.specs.Descriptors.{firstOf, secondOf}
+use Rattle.walk.specs.Descriptors.{firstOf, secondOf}
 use Rattle.lanes.specs.Lanes.{lookedFrom, allFrom}
 use Rattle.bank.specs.Changes.{nextSlot, nextVictim, filled}
 use Rattle.registers.specs.Fields.{entryOk, registersOk}

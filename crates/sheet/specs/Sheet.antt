@@ -2,13 +2,11 @@
 use Rattle.page.specs.Ground.{ℕ, zero, suc, _+_, _-_, _*_, _/_, _≡_, Bool, true, false, List, [], _∷_, _++_, eqb, getD, take, drop, replicate}
 use Rattle.page.specs.Pick.{_and_}
 use Rattle.page.specs.Words.{virtual, wordValid}
-use Rattle.page.specs.declared.Access.the-variants.{Read, Write}
-use Rattle.memory.specs.Memory.{wordOf}
+use Rattle.wire.specs.Words.{wordOf}
 use Rattle.memory.specs.Reads.{sources}
 use Rattle.memory.specs.declared.Source.{Source}
-use Rattle.descriptors.specs.Descriptors.{firstOf}
-use Rattle.descriptors.specs.declared.First.{First}
-use Rattle.descriptors.specs.declared.First.the-variants as F
+use Rattle.walk.specs.Descriptors.{firstOf}
+use Rattle.walk.specs.declared.First.{First}
 use Rattle.builder.specs.declared.Built.{Built}
 use Rattle.builder.specs.Build.{answerOf, builtNumber, builtValue}
 use Rattle.bill.specs.Bill.{freshBill}
@@ -74,7 +72,7 @@ abbrev pub line : Question → List ℕ → List Line
 line q expected = (q, expected) ∷ []
 
 abbrev pub both : (Access → Question) → List ℕ → List Line
-both q expected = (q Read, expected) ∷ (q Write, expected) ∷ []
+both q expected = (q Access.Read, expected) ∷ (q Access.Write, expected) ∷ []
 
 -- the large page of list A in a slot
 abbrev pub largeA : List ℕ
@@ -91,8 +89,8 @@ sheet =
     ++ both (request 0x012345) (address 0x10022345)
     ++ both (lastWord 0x012345) (0x20000448 ∷ [])
     ++ both (slot 0 0x012345) largeA
-    ++ line (request 0x3ABCDE Read) (address 0x112ABCDE)
-    ++ line (request 0x3ABCDE Write) (fault 23)
+    ++ line (request 0x3ABCDE Access.Read) (address 0x112ABCDE)
+    ++ line (request 0x3ABCDE Access.Write) (fault 23)
     ++ both (request 0x5007FF) (address 0x10000FFF)
     ++ both (request 0x500800) (fault 21)
     ++ both (request 0xFFFFFF) (fault 21)
@@ -148,17 +146,17 @@ module _ (bytes : List ℕ) where
 
   -- of the coarse table that a first-level word names; none where it names no such table
   abbrev pub coarseWords : First → ℕ → ℕ → List ℕ
-  coarseWords F.Fault j k = []
-  coarseWords (F.Coarse t) j k = tableWords (t .0) j k
-  coarseWords (F.Whole p) j k = []
-  coarseWords (F.Fine t) j k = []
+  coarseWords First.Fault j k = []
+  coarseWords (First.Coarse t) j k = tableWords (t .0) j k
+  coarseWords (First.Whole p) j k = []
+  coarseWords (First.Fine t) j k = []
 
   -- of the fine one
   abbrev pub fineWords : First → ℕ → ℕ → List ℕ
-  fineWords F.Fault j k = []
-  fineWords (F.Coarse t) j k = []
-  fineWords (F.Whole p) j k = []
-  fineWords (F.Fine t) j k = tableWords (t .0) j k
+  fineWords First.Fault j k = []
+  fineWords (First.Coarse t) j k = []
+  fineWords (First.Whole p) j k = []
+  fineWords (First.Fine t) j k = tableWords (t .0) j k
 
   -- the device that each line starts from, and the same locked
   abbrev pub begun : Device

@@ -2,8 +2,8 @@
 // hand. A line ends in a number (0 for a length or an address, else the paper's) and a value.
 use bank::Bank;
 use builder::Built;
+use calls::Call;
 use decision::Said;
-use forms::Call;
 use libc::STDOUT_FILENO;
 use page::Access;
 use page::VirtualAddress;
@@ -71,7 +71,7 @@ fn built(b: Built) {
 
 // The words of the sheet: what is built, the words of an image, requests, and slots.
 fn label(n: u32) {
-    labels::part(
+    show::part(
         b"list A in 8192 bytes|list A in 8188 bytes|empty list in 64 bytes|word |coarse word|fine word \
           |read |write |locked read |  words read|  slot 0|  slot 31",
         n,
@@ -189,7 +189,7 @@ fn asked(ext: &[u8], n: u32, lock: u16, va: u32) -> Bench {
 // What a call said, as a number and a value.
 fn tell(said: Said) {
     let mut out = [0u8; 16];
-    answers::put_said(&mut out, 0, said);
+    run::answers::put_said(&mut out, 0, said);
     show::said(
         number(wire::word_at(&out, 0)),
         wire::word_at(&out, 8) as u64,

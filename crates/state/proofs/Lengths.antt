@@ -6,11 +6,10 @@ use native.Mathlib.Omega.{arith}
 use lib.ListN.{length, length-append}
 use Rattle.lanes.specs.Lanes.{slots}
 use Rattle.registers.specs.declared.Pending.{Pending}
-use Rattle.registers.specs.declared.Pending.the-variants.{Nothing, Held}
 use Rattle.unit.specs.declared.Device.{Device}
 use Rattle.session.specs.declared.Bench.{Bench}
 use Rattle.state.specs.State.{slotWords, pendingWords, deviceWords, stateWords}
-use Rattle.parts.specs.Parts.{meterWords, billWords}
+use Rattle.state.specs.Parts.{meterWords, billWords}
 
 pub slots-length : (cam ram : List ℕ) (i n : ℕ) → length (slotWords cam ram i n) ≡ 2 * n
 unfolding slotWords
@@ -18,8 +17,8 @@ slots-length cam ram i zero = refl
 slots-length cam ram i (suc n) = let r = slots-length cam ram (i + 1) n in omega arith
 
 pub pending-length : (p : Pending) → length (pendingWords p) ≡ 2
-pending-length Nothing = refl
-pending-length (Held k va a) = refl
+pending-length Pending.Nothing = refl
+pending-length (Pending.Held k va a) = refl
 
 pub device-length : (handed : ℕ) (d : Device) → length (deviceWords handed d) ≡ 73
 device-length handed d =

@@ -1,3 +1,5 @@
 pub mod Lengths
 pub mod Turns
 pub mod Parts
+pub mod Figures
+pub mod Lanes

@@ -7,7 +7,7 @@ use lib.ListN.{length, length-append}
 use borrow.Author.Tests.{lt-leb}
 use Rattle.page.proofs.Picks.{pick-no}
 use Rattle.session.specs.declared.Bench.{Bench}
-use Rattle.wire.specs.Words.{placed, written}
+use Rattle.wire.specs.Words.{placed, wordsPut}
 use Rattle.wire.proofs.Placing.{followed, written-fits}
 use Rattle.state.specs.State.{stateWords}
 use Rattle.state.proofs.Lengths.{state-length}
@@ -15,7 +15,7 @@ use Rattle.state.proofs.Lengths.{state-length}
 -- registers, slots and the pending fault
 pub three : (l k m n r s p : List ℕ) (at : ℕ) → length r ≡ 7 → length s ≡ 64 → length p ≡ 2
     → at + 292 ≤ length l → length k ≡ length l → length m ≡ length k
-    → k ≡ written l at r → m ≡ placed k (at + 28) s → n ≡ written m (at + 284) p → n ≡ placed l at (r ++ (s ++ p))
+    → k ≡ wordsPut l at r → m ≡ placed k (at + 28) s → n ≡ wordsPut m (at + 284) p → n ≡ placed l at (r ++ (s ++ p))
 three l k m n r s p at er es ep h a b u v w =
     let x = length-append s p in
     followed l k n at (at + 28) r (s ++ p) (omega arith) (omega arith) (u ∙ written-fits l at r (omega arith))
@@ -23,15 +23,15 @@ three l k m n r s p at er es ep h a b u v w =
 
 -- the device, and the meters with the bill
 pub two : (l m n d r : List ℕ) (at : ℕ) → length d ≡ 73 → length r ≡ 9 → at + 328 ≤ length l → length m ≡ length l
-    → m ≡ placed l at d → n ≡ written m (at + 292) r → n ≡ placed l at (d ++ r)
+    → m ≡ placed l at d → n ≡ wordsPut m (at + 292) r → n ≡ placed l at (d ++ r)
 two l m n d r at ed er h a u w =
     followed l m n at (at + 292) d r (omega arith) (omega arith) u (w ∙ written-fits m (at + 292) r (omega arith))
 
 -- the whole state, where it has room and where it has none
 module _ (l : List ℕ) (at handed : ℕ) (b : Bench) where
-  pub state-fits : at + 328 ≤ length l → written l at (stateWords handed b) ≡ placed l at (stateWords handed b)
+  pub state-fits : at + 328 ≤ length l → wordsPut l at (stateWords handed b) ≡ placed l at (stateWords handed b)
   state-fits h = let e = state-length handed b in written-fits l at (stateWords handed b) (omega arith)
 
-  pub state-unfit : length l < at + 328 → written l at (stateWords handed b) ≡ l
-  unfolding written
+  pub state-unfit : length l < at + 328 → wordsPut l at (stateWords handed b) ≡ l
+  unfolding wordsPut
   state-unfit h = let e = state-length handed b in pick-no _ _ _ (lt-leb (at + 4 * length (stateWords handed b)) (length l) (omega arith))

@@ -5,7 +5,7 @@ use Prim.Native.Nat.{ℕ, suc, _+_, _*_, _-_, _<_, _≤_}
 use native.Mathlib.Omega.{arith}
 use lib.ListN.{length, getD}
 use Rattle.lanes.specs.Lanes.{slots}
-use Rattle.wire.specs.Words.{placed, written, swapped}
+use Rattle.wire.specs.Words.{placed, wordsPut, swapped}
 use Rattle.wire.proofs.Placing.{placed-none, placed-then, written-fits}
 use Rattle.state.specs.State.{slotWords}
 use Rattle.state.proofs.Lengths.{slots-length}
@@ -20,7 +20,7 @@ unfolding slotWords
 slots-next cam ram i h = ap (slotWords cam ram i) (let e : slots - i ≡ suc (slots - (i + 1)) = omega arith in e)
 
 pub slots-turn : (cam ram out n : List ℕ) (at i a b : ℕ) → i < slots → at + 256 ≤ length out
-    → a ≡ swapped (getD cam i 0) → b ≡ swapped (getD ram i 0) → n ≡ written out (at + 8 * i) (a ∷ b ∷ [])
+    → a ≡ swapped (getD cam i 0) → b ≡ swapped (getD ram i 0) → n ≡ wordsPut out (at + 8 * i) (a ∷ b ∷ [])
     → placed out (at + 8 * i) (slotsLeft cam ram i) ≡ placed n (at + 8 * (i + 1)) (slotsLeft cam ram (i + 1))
 slots-turn cam ram out n at i a b h fits ea eb p =
     let k = at + 8 * i in

@@ -1,1 +1,4 @@
 pub mod State
+pub mod Parts
+pub mod Taken
+pub mod Handed

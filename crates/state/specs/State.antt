@@ -1,16 +1,14 @@
 -- The state of a bench as 82 words.
 use Rattle.page.specs.Ground.{ℕ, zero, suc, _+_, _*_, List, [], _∷_, _++_, getD}
 use Rattle.page.specs.declared.Access.{Access}
-use Rattle.page.specs.declared.Access.the-variants as X
 use Rattle.lanes.specs.Lanes.{slots}
 use Rattle.registers.specs.Answers.{faultBit}
 use Rattle.registers.specs.declared.Registers.{Registers}
 use Rattle.registers.specs.declared.Pending.{Pending}
-use Rattle.registers.specs.declared.Pending.the-variants.{Nothing, Held}
 use Rattle.unit.specs.declared.Device.{Device}
 use Rattle.session.specs.declared.Bench.{Bench}
 use Rattle.wire.specs.Words.{halves, swapped}
-use Rattle.parts.specs.Parts.{entryWords, lockWord, meterWords, billWords}
+use Rattle.state.specs.Parts.{entryWords, lockWord, meterWords, billWords}
 
 -- prefetch, control; base; lock base, victim; the staged entry and the read registers
 abbrev pub registerWords : Registers → ℕ → List ℕ
@@ -23,13 +21,13 @@ slotWords cam ram i zero = []
 slotWords cam ram i (suc n) = swapped (getD cam i 0) ∷ swapped (getD ram i 0) ∷ slotWords cam ram (i + 1) n
 
 abbrev pub accessNumber : Access → ℕ
-accessNumber X.Read = 0
-accessNumber X.Write = 1
+accessNumber Access.Read = 0
+accessNumber Access.Write = 1
 
 -- status, access, two zero bytes; address
 abbrev pub pendingWords : Pending → List ℕ
-pendingWords Nothing = 0 ∷ 0 ∷ []
-pendingWords (Held k va a) = (faultBit k + 256 * accessNumber a) ∷ va .0 ∷ []
+pendingWords Pending.Nothing = 0 ∷ 0 ∷ []
+pendingWords (Pending.Held k va a) = (faultBit k + 256 * accessNumber a) ∷ va .0 ∷ []
 
 -- registers, slots, the pending fault
 abbrev pub deviceWords : ℕ → Device → List ℕ
@@ -40,3 +38,6 @@ deviceWords handed d =
 -- the device, the meters, the bill
 abbrev pub stateWords : ℕ → Bench → List ℕ
 stateWords handed b = deviceWords handed (b .device) ++ (meterWords (b .meters) ++ billWords (b .bill))
+
+abbrev pub stateSize : ℕ
+stateSize = 328

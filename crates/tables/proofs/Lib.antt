@@ -1,2 +1,5 @@
 pub mod Places
 pub mod Notes
+pub mod Offsets
+pub mod Fits
+pub mod Regions

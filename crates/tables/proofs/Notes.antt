@@ -1,64 +1,23 @@
 -- The kinds of page of each megabyte, noted one mapping after the other. Assumes nothing.
-use mathlib.Core.Path.{_≡_, refl, sym, ap, ap₂, _∙_}
+use mathlib.Core.Path.{_≡_, refl, ap₂}
 use mathlib.Core.Bool.{Bool, true, false, _||_, true≢false}
-use mathlib.Core.List.{List, []}
-use Prim.Native.Nat.{ℕ, zero, suc, _+_, _*_, _/_, _^_, _<_}
-use native.Mathlib.Omega.{arith}
-use native.Mathlib.Decide.{ℕ-discrete}
-use borrow.Author.Tests.{eq-eqb, ne-eqb}
-use lib.ListN.{length, getD, set, replicate}
-use lib.Seq.{getD-set-same, getD-set-other}
+use mathlib.Core.List.{List}
+use Prim.Native.Nat.{ℕ, _+_, _<_}
+use lib.ListN.{getD}
 use Rattle.page.specs.Pick.{pick, _or_}
-use Rattle.page.specs.Words.{typeOf, megabytes}
+use Rattle.page.specs.Words.{megabytes}
 use Rattle.page.specs.declared.Kind.{Kind}
-use Rattle.page.specs.declared.Kind.the-variants.{Section, Large, Small, Tiny}
-use Rattle.page.proofs.Picks.{and-yes, and-no, or-yes, or-no}
 use Rattle.records.specs.declared.Mapping.{Mapping}
-use Rattle.tables.specs.declared.Table.the-variants.{Fine, Coarse, Absent}
-use Rattle.tables.specs.Tables.{isIn, hasKind, tableOf}
-use Rattle.tables.specs.Kinds.{Blank, noteAt, Kinds, tableBy, hasTable}
-
-pub type-lt : (k : Kind) → typeOf k < 4
-type-lt Section = omega arith
-type-lt Large = omega arith
-type-lt Small = omega arith
-type-lt Tiny = omega arith
-
--- an array of one value has it everywhere
-pub same-at : {A : Type 0} (n k : ℕ) (d : A) → getD (replicate n d) k d ≡ d
-same-at zero k d = refl
-same-at (suc n) zero d = refl
-same-at (suc n) (suc k) d = same-at n k d
-
--- nothing noted is the notes of no mappings
-pub noted-none : (seen : List Bool) → Blank seen → Kinds [] seen
-unfolding hasKind
-noted-none seen e k i l = ap (λ (s : List Bool). getD s (16 * typeOf k + i) false) e ∙ same-at 64 (16 * typeOf k + i) false
-
--- one mapping more is noted, wherever it stands in the list
-pub noted-more : (m : Mapping) (ms ns : List Mapping) (seen : List Bool) → m .at .0 < 16777216 → length seen ≡ 64
-    → ((i : ℕ) (k : Kind) → hasKind ns i k ≡ (isIn i k m or hasKind ms i k)) → Kinds ms seen → Kinds ns (set seen (noteAt m) true)
-noted-more m ms ns seen lt room more f k i l = elim (ℕ-discrete (16 * typeOf k + i) (noteAt m)) [
-  | yes g ↦
-      let a : m .at .0 / 2 ^ 20 ≡ i = omega arith in
-      let b : typeOf (m .kind) ≡ typeOf k = omega arith in
-      ap (λ (y : ℕ). getD (set seen (noteAt m) true) y false) g
-      ∙ getD-set-same seen (noteAt m) true false (omega (arith, type-lt k))
-      ∙ sym (more i k ∙ or-yes _ _ (and-yes _ _ (eq-eqb _ _ a) ∙ eq-eqb _ _ b))
-  | no g ↦
-      getD-set-other seen (noteAt m) (16 * typeOf k + i) true false g
-      ∙ f k i l
-      ∙ sym (more i k ∙ or-no _ _ (elim (ℕ-discrete (m .at .0 / 2 ^ 20) i) [
-        | yes a ↦ and-yes _ _ (eq-eqb _ _ a) ∙ ne-eqb (typeOf (m .kind)) (typeOf k) (λ b. g (omega arith))
-        | no a ↦ and-no _ _ (ne-eqb _ _ a)
-      ]))
-]
+use Rattle.tables.specs.declared.Second.{Second}
+use Rattle.tables.specs.Tables.{tableOf}
+use Rattle.records.specs.Noted.{Kinds}
+use Rattle.tables.specs.Kinds.{tableBy, hasTable}
 
 -- the tables that a list's notes give are the list's
 pub by-kinds : (ms : List Mapping) (seen : List Bool) (i : ℕ) → i < megabytes → Kinds ms seen → tableBy seen i ≡ tableOf ms i
 unfolding tableBy tableOf
 by-kinds ms seen i l f =
-    ap₂ (λ (a b : Bool). pick a Fine (pick b Coarse Absent)) (f Tiny i l) (ap₂ (λ (a b : Bool). a or b) (f Large i l) (f Small i l))
+    ap₂ (λ (a b : Bool). pick a Second.Fine (pick b Second.Coarse Second.Absent)) (f Kind.Tiny i l) (ap₂ (λ (a b : Bool). a or b) (f Kind.Large i l) (f Kind.Small i l))
 
 -- the machine's or is that of the definitions
 pub or-is : (p q : Bool) → (p || q) ≡ (p or q)
@@ -67,12 +26,12 @@ or-is true q = refl
 or-is false q = refl
 
 -- a megabyte that the notes give no table
-absent-by : (d c : Bool) → (d or c) ≡ false → pick c Fine (pick d Coarse Absent) ≡ Absent
+absent-by : (d c : Bool) → (d or c) ≡ false → pick c Second.Fine (pick d Second.Coarse Second.Absent) ≡ Second.Absent
 unfolding pick _or_
 absent-by true c e = absurd (true≢false e)
 absent-by false true e = absurd (true≢false e)
 absent-by false false e = refl
 
-pub no-table : (seen : List Bool) (i : ℕ) → hasTable seen i ≡ false → tableBy seen i ≡ Absent
+pub no-table : (seen : List Bool) (i : ℕ) → hasTable seen i ≡ false → tableBy seen i ≡ Second.Absent
 unfolding hasTable tableBy
 no-table seen i e = absent-by (getD seen (16 + i) false or getD seen (32 + i) false) (getD seen (48 + i) false) e

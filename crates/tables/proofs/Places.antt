@@ -7,35 +7,34 @@ use native.Mathlib.Nat.{le-refl}
 use native.Mathlib.Numerals.{add-one}
 use lib.Dec.{lit≤}
 use Rattle.records.specs.declared.Mapping.{Mapping}
-use Rattle.tables.specs.declared.Table.{Table}
-use Rattle.tables.specs.declared.Table.the-variants.{Fine, Coarse, Absent}
+use Rattle.tables.specs.declared.Second.{Second}
 use Rattle.tables.specs.Tables.{tableOf, tableSize, startAfter, tableEnd, tableStart, imageLength}
 
 -- a table begins no earlier than the offset that it follows, less than its own size later, at a multiple of 4
-pub start-ge : (t : Table) (e : ℕ) → e ≤ startAfter t e
-start-ge Fine e = omega arith
-start-ge Coarse e = omega arith
-start-ge Absent e = le-refl e
+pub start-ge : (t : Second) (e : ℕ) → e ≤ startAfter t e
+start-ge Second.Fine e = omega arith
+start-ge Second.Coarse e = omega arith
+start-ge Second.Absent e = le-refl e
 
-pub start-le : (t : Table) (e : ℕ) → startAfter t e ≤ e + 4095
-start-le Fine e = omega arith
-start-le Coarse e = omega arith
-start-le Absent e = omega arith
+pub start-le : (t : Second) (e : ℕ) → startAfter t e ≤ e + 4095
+start-le Second.Fine e = omega arith
+start-le Second.Coarse e = omega arith
+start-le Second.Absent e = omega arith
 
-pub start-4 : (t : Table) (e : ℕ) → e % 4 ≡ 0 → startAfter t e % 4 ≡ 0
-start-4 Fine e h = omega arith
-start-4 Coarse e h = omega arith
-start-4 Absent e h = h
+pub start-4 : (t : Second) (e : ℕ) → e % 4 ≡ 0 → startAfter t e % 4 ≡ 0
+start-4 Second.Fine e h = omega arith
+start-4 Second.Coarse e h = omega arith
+start-4 Second.Absent e h = h
 
-pub size-le : (t : Table) → tableSize t ≤ 4096
-size-le Fine = lit≤ tt
-size-le Coarse = lit≤ tt
-size-le Absent = lit≤ tt
+pub size-le : (t : Second) → tableSize t ≤ 4096
+size-le Second.Fine = lit≤ tt
+size-le Second.Coarse = lit≤ tt
+size-le Second.Absent = lit≤ tt
 
-pub size-4 : (t : Table) → tableSize t % 4 ≡ 0
-size-4 Fine = refl
-size-4 Coarse = refl
-size-4 Absent = refl
+pub size-4 : (t : Second) → tableSize t % 4 ≡ 0
+size-4 Second.Fine = refl
+size-4 Second.Coarse = refl
+size-4 Second.Absent = refl
 
 module _ (n : ℕ) (ms : List Mapping) where
   pub end-start : (i : ℕ) → tableEnd n ms i ≤ tableStart n ms i
@@ -76,11 +75,11 @@ module _ (n : ℕ) (ms : List Mapping) where
   end-4 (suc i) = omega (arith, start-4 (tableOf ms i) (tableEnd n ms i) (end-4 i), size-4 (tableOf ms i))
 
   -- the code's turn from one megabyte to the next
-  pub turn-start : (i e s : ℕ) (t : Table) → t ≡ tableOf ms i → e ≡ tableEnd n ms i → s ≡ startAfter t e → s ≡ tableStart n ms i
+  pub turn-start : (i e s : ℕ) (t : Second) → t ≡ tableOf ms i → e ≡ tableEnd n ms i → s ≡ startAfter t e → s ≡ tableStart n ms i
   unfolding tableStart
   turn-start i e s t p q r = r ∙ ap₂ startAfter p q
 
-  pub turn-end : (i s z : ℕ) (t : Table) → t ≡ tableOf ms i → s ≡ tableStart n ms i → z ≡ tableSize t → s + z ≡ tableEnd n ms (i + 1)
+  pub turn-end : (i s z : ℕ) (t : Second) → t ≡ tableOf ms i → s ≡ tableStart n ms i → z ≡ tableSize t → s + z ≡ tableEnd n ms (i + 1)
   turn-end i s z t p q r =
       ap₂ (λ (a b : ℕ). a + b) q (r ∙ ap tableSize p) ∙ sym (end-next i) ∙ ap (tableEnd n ms) (sym (add-one i))
 

@@ -17,28 +17,28 @@ use Rattle.page.specs.declared.VirtualAddress.{VirtualAddress}
 use Rattle.page.proofs.Picks.{pick-yes, pick-no, pick-by, and-yes}
 use Rattle.page.proofs.Lower.{upper-le, joined-lt}
 use Rattle.page.proofs.Slot.{lowBits-le, start-1024, typeOf-lt}
-use Rattle.memory.specs.Memory.{Lent, lentOk, holds, placeWithin, placeIn, partAt, littleEndian, wordOf}
+use Rattle.memory.specs.Memory.{Lent, lentOk, holds, placeWithin, placeIn, partAt}
+use Rattle.wire.specs.Words.{littleEndian, wordOf, wordBytes}
 use Rattle.memory.specs.declared.Place.{Place}
-use Rattle.memory.specs.declared.Place.the-variants.{OnChip, External}
 use Rattle.memory.proofs.Places.{place-ok, held-once}
-use Rattle.walk.specs.declared.Read.the-variants as R
+use Rattle.walk.specs.declared.Read.{Read}
 use Rattle.walk.specs.Walk.{readAt, readIn}
 use Rattle.records.specs.declared.Mapping.{Mapping}
-use Rattle.lists.specs.declared.Held.{Held}
-use Rattle.lists.specs.declared.Held.the-variants.{By, Nobody}
+use Rattle.records.specs.declared.Held.{Held}
 use Rattle.records.specs.Mappings.{byteOf}
-use Rattle.lists.specs.Meanings.{holder}
+use Rattle.records.specs.Meanings.{holder}
 use Rattle.records.specs.Mappings as M
 use Rattle.records.proofs.Alls.{All}
-use Rattle.lists.proofs.Holders.{OnHeld, all-holder}
-use Rattle.tables.specs.declared.Table as B
-use Rattle.tables.specs.declared.Table.the-variants.{Fine, Coarse, Absent}
+use Rattle.records.proofs.Holders.{OnHeld, all-holder}
+use Rattle.tables.specs.declared.Second.{Second}
+use Rattle.tables.specs.declared.Second.{Second}
 use Rattle.tables.specs.Tables.{tableOf, tableSize, tableStart, imageLength}
-use Rattle.words.specs.Words.{sectionWord, firstBy, firstWord, writtenAs, pageWord, secondBy, addressOf, secondWord, inTables, imageWord}
-use Rattle.image.specs.Image.{wordBytes, image, bytesOf}
-use Rattle.image.proofs.Splices.{bytes-at, bytes-length}
+use Rattle.tables.specs.Words.{sectionWord, firstBy, firstWord, writtenAs, pageWord, secondBy, addressOf, secondWord, inTables, imageWord}
+use Rattle.builder.specs.Image.{image}
+use Rattle.wire.specs.Spliced.{bytesBy}
+use Rattle.wire.proofs.Splices.{bytes-at, bytes-length}
 use Rattle.tables.proofs.Places.{end-next, end-last, image-4}
-use Rattle.image.proofs.Whole.{image-length-is}
+use Rattle.builder.proofs.Whole.{image-length-is}
 use Rattle.translates.specs.Statements.{Has, Standing}
 use Rattle.translates.proofs.Over.{Stands}
 
@@ -52,16 +52,16 @@ page-fits k m a h =
     let p : byteOf m a .0 < 2 ^ 32 = joined-lt (lowBits (m .kind)) 32 (m .to .0) (a .0) (omega (arith, lowBits-le (m .kind))) h in
     omega (arith, upper-le (lowBits k) (byteOf m a .0), start-1024 k (byteOf m a .0), typeOf-lt k)
 
-second-fits : (t : B.Table) (a va : VirtualAddress) (h : Held) → OnHeld (λ m. Phys m × (M.holds m va ≡ true)) h → secondBy t h a < 2 ^ 32
-second-fits t a va (By m) o = page-fits (writtenAs t (m .kind)) m a (o .0)
-second-fits t a va Nobody o = lit< tt
+second-fits : (t : Second) (a va : VirtualAddress) (h : Held) → OnHeld (λ m. Phys m × (M.holds m va ≡ true)) h → secondBy t h a < 2 ^ 32
+second-fits t a va (Held.By m) o = page-fits (writtenAs t (m .kind)) m a (o .0)
+second-fits t a va Held.Nobody o = lit< tt
 
 section-fits : (va : VirtualAddress) (h : Held) → OnHeld (λ m. Phys m × (M.holds m va ≡ true)) h → sectionWord h < 2 ^ 32
 unfolding upper
-section-fits va (By m) o = omega (arith, o .0)
-section-fits va Nobody o = lit< tt
+section-fits va (Held.By m) o = omega (arith, o .0)
+section-fits va Held.Nobody o = lit< tt
 
-word-fits : (ms : List Mapping) → All Phys ms → (t : B.Table) (i j : ℕ) → secondWord ms t i j < 2 ^ 32
+word-fits : (ms : List Mapping) → All Phys ms → (t : Second) (i j : ℕ) → secondWord ms t i j < 2 ^ 32
 unfolding secondWord
 word-fits ms phys t i j =
     second-fits t (addressOf t i j) (addressOf t i j) (holder ms (addressOf t i j)) (all-holder Phys ms (addressOf t i j) phys)
@@ -76,13 +76,13 @@ module _ (n : ℕ) (ms : List Mapping) (phys : All Phys ms) (base : ℕ) (room :
   unfolding firstWord
   first-fits i h = by-table (tableOf ms i) refl
     where
-      ends : (t : B.Table) → tableOf ms i ≡ t → tableStart n ms i + tableSize t ≤ imageLength n ms
+      ends : (t : Second) → tableOf ms i ≡ t → tableStart n ms i + tableSize t ≤ imageLength n ms
       ends t e = omega (arith, ap tableSize e, end-next n ms i, end-last n ms (suc i) (omega arith))
 
-      by-table : (t : B.Table) → tableOf ms i ≡ t → firstBy t (base + tableStart n ms i) (holder ms (virtual (i * 2 ^ 20))) < 2 ^ 32
-      by-table Fine e = omega (arith, ends Fine e)
-      by-table Coarse e = omega (arith, ends Coarse e)
-      by-table Absent e = section-fits (virtual (i * 2 ^ 20)) (holder ms (virtual (i * 2 ^ 20))) (all-holder Phys ms (virtual (i * 2 ^ 20)) phys)
+      by-table : (t : Second) → tableOf ms i ≡ t → firstBy t (base + tableStart n ms i) (holder ms (virtual (i * 2 ^ 20))) < 2 ^ 32
+      by-table Second.Fine e = omega (arith, ends Second.Fine e)
+      by-table Second.Coarse e = omega (arith, ends Second.Coarse e)
+      by-table Second.Absent e = section-fits (virtual (i * 2 ^ 20)) (holder ms (virtual (i * 2 ^ 20))) (all-holder Phys ms (virtual (i * 2 ^ 20)) phys)
 
   image-fits : (k : ℕ) → imageWord n ms base k < 2 ^ 32
   unfolding imageWord
@@ -106,7 +106,7 @@ word-value w h =
     four d0 d1 d2 d3 x1 x2 w e1 e2 e3 = omega arith
 
 -- word k of the words of f, read back from their bytes among others
-module _ (f : ℕ → ℕ) (n k : ℕ) (l : List ℕ) (k₀ : ℕ) (h : k < n) (e : take (4 * n) (drop k₀ l) ≡ bytesOf f n) where
+module _ (f : ℕ → ℕ) (n k : ℕ) (l : List ℕ) (k₀ : ℕ) (h : k < n) (e : take (4 * n) (drop k₀ l) ≡ bytesBy f n) where
   pub room-of : k₀ + 4 * n ≤ length l
   room-of =
       let a = ap length e ∙ bytes-length f n in
@@ -146,7 +146,7 @@ module _ (n : ℕ) (ms : List Mapping) (phys : All Phys ms) (base : ℕ) (room :
       let len = image-length-is n ms base in
       let full : take (imageLength n ms) (drop (base - b) l) ≡ image n ms base = ap (λ (x : ℕ). take x (drop (base - b) l)) (sym len) ∙ h .1 in
       let four : 4 * (imageLength n ms / 4) ≡ imageLength n ms = omega (arith, image-4 n ms) in
-      let e : take (4 * (imageLength n ms / 4)) (drop (base - b) l) ≡ bytesOf (imageWord n ms base) (imageLength n ms / 4) = ap (λ (x : ℕ). take x (drop (base - b) l)) four ∙ full in
+      let e : take (4 * (imageLength n ms / 4)) (drop (base - b) l) ≡ bytesBy (imageWord n ms base) (imageLength n ms / 4) = ap (λ (x : ℕ). take x (drop (base - b) l)) four ∙ full in
       let lt : k < imageLength n ms / 4 = omega arith in
       let r = room-of (imageWord n ms base) (imageLength n ms / 4) k l (base - b) lt e in (
         and-yes _ _ (le-leb b (base + 4 * k) (omega (arith, h .0))) ∙ le-leb (base + 4 * k + 4) (b + length l) (omega (arith, h .0)),
@@ -155,11 +155,11 @@ module _ (n : ℕ) (ms : List Mapping) (phys : All Phys ms) (base : ℕ) (room :
       )
 
   -- where the word lies
-  on-chip : (k : ℕ) → holds (m .onbase) (length (m .on)) (base + 4 * k) ≡ true → placeIn m (base + 4 * k) ≡ OnChip (base + 4 * k - m .onbase)
+  on-chip : (k : ℕ) → holds (m .onbase) (length (m .on)) (base + 4 * k) ≡ true → placeIn m (base + 4 * k) ≡ Place.OnChip (base + 4 * k - m .onbase)
   unfolding placeWithin
   on-chip k h = place-ok m (base + 4 * k) ok ∙ pick-yes _ _ _ h
 
-  external : (k : ℕ) → holds (m .extbase) (length (m .ext)) (base + 4 * k) ≡ true → placeIn m (base + 4 * k) ≡ External (base + 4 * k - m .extbase)
+  external : (k : ℕ) → holds (m .extbase) (length (m .ext)) (base + 4 * k) ≡ true → placeIn m (base + 4 * k) ≡ Place.External (base + 4 * k - m .extbase)
   unfolding placeWithin
   external k h = place-ok m (base + 4 * k) ok ∙ pick-no _ _ _ (other (holds (m .onbase) (length (m .on)) (base + 4 * k)) refl) ∙ pick-yes _ _ _ h
     where
@@ -167,15 +167,15 @@ module _ (n : ℕ) (ms : List Mapping) (phys : All Phys ms) (base : ℕ) (room :
       other false e = refl
       other true e = absurd (true≢false (sym h ∙ held-once m (base + 4 * k) ok e))
 
-  reads : (k : ℕ) (p : Place) → placeIn m (base + 4 * k) ≡ p → readAt (wordOf (partAt m p)) p ≡ R.Word (imageWord n ms base k) p
-      → readIn m (base + 4 * k) ≡ R.Word (imageWord n ms base k) (placeIn m (base + 4 * k))
+  reads : (k : ℕ) (p : Place) → placeIn m (base + 4 * k) ≡ p → readAt (wordOf (partAt m p)) p ≡ Read.Word (imageWord n ms base k) p
+      → readIn m (base + 4 * k) ≡ Read.Word (imageWord n ms base k) (placeIn m (base + 4 * k))
   unfolding readIn
-  reads k p e f = ap (λ (x : Place). readAt (wordOf (partAt m x)) x) e ∙ f ∙ ap (R.Word (imageWord n ms base k)) (sym e)
+  reads k p e f = ap (λ (x : Place). readAt (wordOf (partAt m x)) x) e ∙ f ∙ ap (Read.Word (imageWord n ms base k)) (sym e)
 
   pub stands : Standing m base (image n ms base) → Stands (readIn m) (placeIn m) n ms base
   stands (inl h) k fits =
       let p = part (m .on) (m .onbase) k h fits in
-      reads k (OnChip (base + 4 * k - m .onbase)) (on-chip k (p .0)) (ap (λ (w : ℕ). R.Word w (OnChip (base + 4 * k - m .onbase))) (p .1))
+      reads k (Place.OnChip (base + 4 * k - m .onbase)) (on-chip k (p .0)) (ap (λ (w : ℕ). Read.Word w (Place.OnChip (base + 4 * k - m .onbase))) (p .1))
   stands (inr h) k fits =
       let p = part (m .ext) (m .extbase) k h fits in
-      reads k (External (base + 4 * k - m .extbase)) (external k (p .0)) (ap (λ (w : ℕ). R.Word w (External (base + 4 * k - m .extbase))) (p .1))
+      reads k (Place.External (base + 4 * k - m .extbase)) (external k (p .0)) (ap (λ (w : ℕ). Read.Word w (Place.External (base + 4 * k - m .extbase))) (p .1))

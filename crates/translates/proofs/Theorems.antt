@@ -15,23 +15,23 @@ use Rattle.page.specs.Words.{lowBits, megabytes, limit}
 use Rattle.page.specs.declared.VirtualAddress.{VirtualAddress}
 use Rattle.page.proofs.Picks.{pick-by, and-right, or-no}
 use Rattle.page.proofs.Slot.{lowBits-le}
-use Rattle.memory.specs.Memory.{Lent, lentOk, placeIn, wordOf}
+use Rattle.memory.specs.Memory.{Lent, lentOk, placeIn}
+use Rattle.wire.specs.Words.{wordOf}
 use Rattle.walk.specs.declared.Walked.{Walked}
-use Rattle.descriptors.specs.Descriptors.{firstOf}
+use Rattle.walk.specs.Descriptors.{firstOf}
 use Rattle.walk.specs.Walk.{readIn, walkFrom}
 use Rattle.walk.proofs.Indices.{first-at-legal}
 use Rattle.records.specs.declared.Mapping.{Mapping}
 use Rattle.records.specs.Mappings.{recordAt, mappingOf, mappings}
-use Rattle.lists.specs.Meanings.{holder}
+use Rattle.records.specs.Meanings.{holder}
 use Rattle.records.specs.Checks.{proper}
 use Rattle.records.proofs.Alls.{All, all-map}
-use Rattle.lists.proofs.Accepted.{accepted-proper, accepted-disjoint, all-records, Disjoint}
+use Rattle.records.proofs.Accepted.{accepted-proper, accepted-disjoint, all-records, Disjoint}
 use Rattle.records.proofs.Bits.{agree-up}
-use Rattle.tables.specs.declared.Table as B
+use Rattle.tables.specs.declared.Second.{Second}
 use Rattle.builder.specs.declared.Built.{Built}
-use Rattle.builder.specs.declared.Built.the-variants.{Length}
 use Rattle.tables.specs.Tables.{tableOf, tableStart, imageLength}
-use Rattle.image.specs.Image.{image}
+use Rattle.builder.specs.Image.{image}
 use Rattle.builder.specs.Build.{answerOf, leaves, buildOf}
 use Rattle.builder.proofs.Answers.{room-unit, room-memory, accepted}
 use Rattle.translates.specs.Statements.{lookIn, Gives, Inside, Has, Standing, Translates, Bytes, ImageTranslates, LeavesImage}
@@ -73,7 +73,7 @@ phys-of rs h k =
 -- a list without bad or overlapping records, its image at a base that is a multiple of 4,096 and ends by 2^32, in memories that are not refused
 module _ (ms : List Mapping) (narrow : All Narrow ms) (apart : Disjoint ms) (phys : All Phys ms) (base : ℕ) (unit : base % 4096 ≡ 0)
     (room : base + imageLength megabytes ms ≤ 2 ^ 32) (m : Lent) (ok : lentOk m ≡ true) (standing : Standing m base (image megabytes ms base)) where
-  abbrev t : VirtualAddress → B.Table
+  abbrev t : VirtualAddress → Second
   t va = tableOf ms (va .0 / 2 ^ 20)
 
   look-is : (va : VirtualAddress) → va .0 < limit
@@ -113,7 +113,7 @@ unfolding buildOf
 leaves-image rs base len before e = ap (λ (b : Built). leaves b (image megabytes (mappings rs) base) before) e
 
 -- so the memory that was built in has it, lent at the base
-pub built-has : (rs : List ℕ) (base len : ℕ) (before : List ℕ) → answerOf rs base (length before) ≡ Length len
+pub built-has : (rs : List ℕ) (base len : ℕ) (before : List ℕ) → answerOf rs base (length before) ≡ Built.Length len
     → Has (buildOf rs base before .memory) base base (image megabytes (mappings rs) base)
 built-has rs base len before e =
     let img : List ℕ = image megabytes (mappings rs) base in (

@@ -11,29 +11,24 @@ use Rattle.page.specs.Low.{upper, joined}
 use Rattle.page.specs.Pick.{pick}
 use Rattle.page.specs.Words.{physical, lowBits, typeOf}
 use Rattle.page.specs.declared.Kind.{Kind}
-use Rattle.page.specs.declared.Kind.the-variants.{Section, Large, Small, Tiny}
 use Rattle.page.specs.declared.VirtualAddress.{VirtualAddress}
 use Rattle.page.proofs.Picks.{pick-yes, pick-no}
 use Rattle.page.proofs.Lower.{joined-high}
 use Rattle.page.proofs.Slot.{lowBits-ge, lowBits-le, typeOf-lt}
-use Rattle.descriptors.specs.declared.Page.{Page}
-use Rattle.descriptors.specs.declared.First.{First}
-use Rattle.descriptors.specs.declared.First.the-variants as F
-use Rattle.descriptors.specs.declared.Table.{Table}
-use Rattle.descriptors.specs.declared.Table.the-variants as T
-use Rattle.descriptors.specs.declared.Found.{Found}
-use Rattle.descriptors.specs.declared.Found.the-variants as D
-use Rattle.descriptors.specs.Descriptors.{firstOf, pageOf, secondOf}
+use Rattle.walk.specs.declared.Page.{Page}
+use Rattle.walk.specs.declared.First.{First}
+use Rattle.walk.specs.declared.Table.{Table}
+use Rattle.walk.specs.declared.Found.{Found}
+use Rattle.walk.specs.Descriptors.{firstOf, pageOf, secondOf}
 use Rattle.records.specs.declared.Mapping.{Mapping}
-use Rattle.lists.specs.declared.Held.{Held}
-use Rattle.lists.specs.declared.Held.the-variants.{By, Nobody}
+use Rattle.records.specs.declared.Held.{Held}
 use Rattle.records.specs.Mappings.{holds, byteOf}
-use Rattle.lists.proofs.Holders.{OnHeld}
+use Rattle.records.proofs.Holders.{OnHeld}
 use Rattle.records.proofs.Bits.{agree-up, joined-start}
-use Rattle.tables.specs.declared.Table as B
-use Rattle.tables.specs.declared.Table.the-variants.{Fine, Coarse, Absent}
-use Rattle.words.specs.Words.{sectionWord, writtenAs, pageWord, secondBy, stepBits, addressOf}
-use Rattle.words.proofs.Regions.{inside}
+use Rattle.tables.specs.declared.Second.{Second}
+use Rattle.tables.specs.declared.Second.{Second}
+use Rattle.tables.specs.Words.{sectionWord, writtenAs, pageWord, secondBy, stepBits, addressOf}
+use Rattle.tables.proofs.Regions.{inside}
 
 -- the fields of a word of q upper-free low bits: type below, access in bits 5:4, the rest above
 module _ (q X acc k : ℕ) (h : 10 ≤ q) (ha : acc < 4) (hk : k < 4) where
@@ -59,35 +54,35 @@ module _ (q X acc k : ℕ) (h : 10 ≤ q) (ha : acc < 4) (hk : k < 4) where
       ap (λ (z : ℕ). z / 2 ^ q) (let e : w ≡ X * 2 ^ q + (16 * acc + k) = omega arith in e) ∙ high X q small
 
 -- the page as which a table gives a mapping at an address, and what is found where it may be held by none
-abbrev pub pageFor : B.Table → Mapping → VirtualAddress → Page
+abbrev pub pageFor : Second → Mapping → VirtualAddress → Page
 pageFor t m va = record
     { kind = writtenAs t (m .kind); frame = physical (upper (lowBits (writtenAs t (m .kind))) (byteOf m va .0)); access = m .access }
 
-abbrev pub foundFor : B.Table → Held → VirtualAddress → Found
-foundFor t (By m) va = D.Page (pageFor t m va)
-foundFor t Nobody va = D.NoPage
+abbrev pub foundFor : Second → Held → VirtualAddress → Found
+foundFor t (Held.By m) va = Found.Page (pageFor t m va)
+foundFor t Held.Nobody va = Found.NoPage
 
 -- which kinds a table of the walk has
 abbrev Allows : Table → Kind → Type 0
-Allows T.Coarse Section = ⊥
-Allows T.Coarse Large = Unit
-Allows T.Coarse Small = Unit
-Allows T.Coarse Tiny = ⊥
-Allows T.Fine Section = ⊥
-Allows T.Fine Large = ⊥
-Allows T.Fine Small = ⊥
-Allows T.Fine Tiny = Unit
+Allows Table.Coarse Kind.Section = ⊥
+Allows Table.Coarse Kind.Large = Unit
+Allows Table.Coarse Kind.Small = Unit
+Allows Table.Coarse Kind.Tiny = ⊥
+Allows Table.Fine Kind.Section = ⊥
+Allows Table.Fine Kind.Large = ⊥
+Allows Table.Fine Kind.Small = ⊥
+Allows Table.Fine Kind.Tiny = Unit
 
-second-kind : (t : Table) (k : Kind) (w : ℕ) → Allows t k → w % 4 ≡ typeOf k → secondOf t w ≡ D.Page (pageOf k w)
+second-kind : (t : Table) (k : Kind) (w : ℕ) → Allows t k → w % 4 ≡ typeOf k → secondOf t w ≡ Found.Page (pageOf k w)
 unfolding secondOf
-second-kind T.Coarse Large w a e = pick-yes _ _ _ (eq-eqb _ _ e)
-second-kind T.Coarse Small w a e = pick-no _ _ _ (ne-eqb (w % 4) 1 (λ q. omega (arith, q, e))) ∙ pick-yes _ _ _ (eq-eqb _ _ e)
-second-kind T.Fine Tiny w a e = pick-yes _ _ _ (eq-eqb _ _ e)
-second-kind T.Coarse Section w a e = absurd a
-second-kind T.Coarse Tiny w a e = absurd a
-second-kind T.Fine Section w a e = absurd a
-second-kind T.Fine Large w a e = absurd a
-second-kind T.Fine Small w a e = absurd a
+second-kind Table.Coarse Kind.Large w a e = pick-yes _ _ _ (eq-eqb _ _ e)
+second-kind Table.Coarse Kind.Small w a e = pick-no _ _ _ (ne-eqb (w % 4) 1 (λ q. omega (arith, q, e))) ∙ pick-yes _ _ _ (eq-eqb _ _ e)
+second-kind Table.Fine Kind.Tiny w a e = pick-yes _ _ _ (eq-eqb _ _ e)
+second-kind Table.Coarse Kind.Section w a e = absurd a
+second-kind Table.Coarse Kind.Tiny w a e = absurd a
+second-kind Table.Fine Kind.Section w a e = absurd a
+second-kind Table.Fine Kind.Large w a e = absurd a
+second-kind Table.Fine Kind.Small w a e = absurd a
 
 abbrev page : Kind → ℕ → ℕ → Page
 page k f a = record { kind = k; frame = physical f; access = a }
@@ -106,21 +101,21 @@ page-read k m a h =
     )
 
 -- a table is written in pages no smaller than its step and no larger than the mapping's
-pub written-step : (t : B.Table) (k : Kind) → stepBits t ≤ lowBits k → stepBits t ≤ lowBits (writtenAs t k)
-written-step Fine k h = lit≤ tt
-written-step Coarse Section h = lit≤ tt
-written-step Coarse Large h = lit≤ tt
-written-step Coarse Small h = lit≤ tt
-written-step Coarse Tiny h = absurd (omega arith)
-written-step Absent k h = h
+pub written-step : (t : Second) (k : Kind) → stepBits t ≤ lowBits k → stepBits t ≤ lowBits (writtenAs t k)
+written-step Second.Fine k h = lit≤ tt
+written-step Second.Coarse Kind.Section h = lit≤ tt
+written-step Second.Coarse Kind.Large h = lit≤ tt
+written-step Second.Coarse Kind.Small h = lit≤ tt
+written-step Second.Coarse Kind.Tiny h = absurd (omega arith)
+written-step Second.Absent k h = h
 
-pub written-le : (t : B.Table) (k : Kind) → stepBits t ≤ lowBits k → lowBits (writtenAs t k) ≤ lowBits k
-written-le Fine k h = h
-written-le Coarse Section h = lit≤ tt
-written-le Coarse Large h = lit≤ tt
-written-le Coarse Small h = lit≤ tt
-written-le Coarse Tiny h = absurd (omega arith)
-written-le Absent k h = le-refl _
+pub written-le : (t : Second) (k : Kind) → stepBits t ≤ lowBits k → lowBits (writtenAs t k) ≤ lowBits k
+written-le Second.Fine k h = h
+written-le Second.Coarse Kind.Section h = lit≤ tt
+written-le Second.Coarse Kind.Large h = lit≤ tt
+written-le Second.Coarse Kind.Small h = lit≤ tt
+written-le Second.Coarse Kind.Tiny h = absurd (omega arith)
+written-le Second.Absent k h = le-refl _
 
 -- the part of a mapping is the same at every address of a written page: the fact about repeated words, over the number of low bits
 pub part-same : (q : ℕ) (m : Mapping) (a va : VirtualAddress) → q ≤ lowBits (m .kind) → a .0 / 2 ^ q ≡ va .0 / 2 ^ q → upper q (byteOf m a .0) ≡ upper q (byteOf m va .0)
@@ -128,7 +123,7 @@ unfolding byteOf
 part-same q m a va h e = joined-start q (lowBits (m .kind)) (m .to .0) (a .0) (va .0) h e
 
 -- so 2^r words stand equal wherever a page has 2^r times the addresses of a word: a large page's sixteen in a coarse table
-pub repeated-words : (t : B.Table) (k : Kind) (m : Mapping) (i j j′ r : ℕ) → lowBits k ≡ stepBits t + r → lowBits k ≤ lowBits (m .kind) → j / 2 ^ r ≡ j′ / 2 ^ r
+pub repeated-words : (t : Second) (k : Kind) (m : Mapping) (i j j′ r : ℕ) → lowBits k ≡ stepBits t + r → lowBits k ≤ lowBits (m .kind) → j / 2 ^ r ≡ j′ / 2 ^ r
     → pageWord k m (addressOf t i j) ≡ pageWord k m (addressOf t i j′)
 unfolding pageWord
 repeated-words t k m i j j′ r e h same =
@@ -144,75 +139,75 @@ repeated-words t k m i j j′ r e h same =
     agrees x = inside (lowBits k) i (x * 2 ^ stepBits t) (lowBits-le k) ∙ ap (λ (z : ℕ). i * 2 ^ (20 - lowBits k) + z) (steps x)
 
 -- what is known of the mapping that holds an address
-abbrev pub Known : B.Table → VirtualAddress → Mapping → Type 0
+abbrev pub Known : Second → VirtualAddress → Mapping → Type 0
 Known t va m = (m .access < 4) × (stepBits t ≤ lowBits (m .kind)) × (holds m va ≡ true)
 
 -- a second-level word for an address that agrees with va above the table's step is read as what is found at va
-module _ (t : B.Table) (u : Table) (allows : (k : Kind) → stepBits t ≤ lowBits k → Allows u (writtenAs t k)) (none : secondOf u 0 ≡ D.NoPage)
+module _ (t : Second) (u : Table) (allows : (k : Kind) → stepBits t ≤ lowBits k → Allows u (writtenAs t k)) (none : secondOf u 0 ≡ Found.NoPage)
     (a va : VirtualAddress) (same : a .0 / 2 ^ stepBits t ≡ va .0 / 2 ^ stepBits t) where
   second-found : (h : Held) → OnHeld (Known t va) h → secondOf u (secondBy t h a) ≡ foundFor t h va
-  second-found (By m) o =
+  second-found (Held.By m) o =
       let k : Kind = writtenAs t (m .kind) in
       let r = page-read k m a (o .0) in
       let low : a .0 / 2 ^ lowBits k ≡ va .0 / 2 ^ lowBits k = agree-up (stepBits t) (lowBits k) (a .0) (va .0) (written-step t (m .kind) (o .1)) same in
       second-kind u k (pageWord k m a) (allows (m .kind) (o .1)) (r .0)
-      ∙ ap D.Page (r .1 ∙ ap (λ (f : ℕ). page k f (m .access)) (part-same (lowBits k) m a va (written-le t (m .kind) (o .1)) low))
-  second-found Nobody o = none
+      ∙ ap Found.Page (r .1 ∙ ap (λ (f : ℕ). page k f (m .access)) (part-same (lowBits k) m a va (written-le t (m .kind) (o .1)) low))
+  second-found Held.Nobody o = none
 
-coarse-allows : (k : Kind) → 12 ≤ lowBits k → Allows T.Coarse (writtenAs Coarse k)
-coarse-allows Section h = tt
-coarse-allows Large h = tt
-coarse-allows Small h = tt
-coarse-allows Tiny h = tt
+coarse-allows : (k : Kind) → 12 ≤ lowBits k → Allows Table.Coarse (writtenAs Second.Coarse k)
+coarse-allows Kind.Section h = tt
+coarse-allows Kind.Large h = tt
+coarse-allows Kind.Small h = tt
+coarse-allows Kind.Tiny h = tt
 
-pub fine-found : (a va : VirtualAddress) → a .0 / 2 ^ 10 ≡ va .0 / 2 ^ 10 → (h : Held) → OnHeld (Known Fine va) h → secondOf T.Fine (secondBy Fine h a) ≡ foundFor Fine h va
+pub fine-found : (a va : VirtualAddress) → a .0 / 2 ^ 10 ≡ va .0 / 2 ^ 10 → (h : Held) → OnHeld (Known Second.Fine va) h → secondOf Table.Fine (secondBy Second.Fine h a) ≡ foundFor Second.Fine h va
 unfolding secondOf pick
-fine-found a va e h o = second-found Fine T.Fine (λ _ _. tt) refl a va e h o
+fine-found a va e h o = second-found Second.Fine Table.Fine (λ _ _. tt) refl a va e h o
 
-pub coarse-found : (a va : VirtualAddress) → a .0 / 2 ^ 12 ≡ va .0 / 2 ^ 12 → (h : Held) → OnHeld (Known Coarse va) h → secondOf T.Coarse (secondBy Coarse h a) ≡ foundFor Coarse h va
+pub coarse-found : (a va : VirtualAddress) → a .0 / 2 ^ 12 ≡ va .0 / 2 ^ 12 → (h : Held) → OnHeld (Known Second.Coarse va) h → secondOf Table.Coarse (secondBy Second.Coarse h a) ≡ foundFor Second.Coarse h va
 unfolding secondOf pick
-coarse-found a va e h o = second-found Coarse T.Coarse coarse-allows refl a va e h o
+coarse-found a va e h o = second-found Second.Coarse Table.Coarse coarse-allows refl a va e h o
 
 -- the words of the first level: a table's address, a section, or none
-pub first-fine : (w b : ℕ) → w ≡ b + 3 → b % 4096 ≡ 0 → firstOf w ≡ F.Fine (physical b)
+pub first-fine : (w b : ℕ) → w ≡ b + 3 → b % 4096 ≡ 0 → firstOf w ≡ First.Fine (physical b)
 unfolding firstOf upper
 first-fine w b e h =
     pick-no _ _ _ (ne-eqb (w % 4) 0 (λ q. omega (arith, q)))
     ∙ pick-no _ _ _ (ne-eqb (w % 4) 1 (λ q. omega (arith, q)))
     ∙ pick-no _ _ _ (ne-eqb (w % 4) 2 (λ q. omega (arith, q)))
-    ∙ ap (λ (z : ℕ). F.Fine (physical z)) (let z : w / 2 ^ 12 * 2 ^ 12 ≡ b = omega arith in z)
+    ∙ ap (λ (z : ℕ). First.Fine (physical z)) (let z : w / 2 ^ 12 * 2 ^ 12 ≡ b = omega arith in z)
 
-pub first-coarse : (w b : ℕ) → w ≡ b + 1 → b % 1024 ≡ 0 → firstOf w ≡ F.Coarse (physical b)
+pub first-coarse : (w b : ℕ) → w ≡ b + 1 → b % 1024 ≡ 0 → firstOf w ≡ First.Coarse (physical b)
 unfolding firstOf upper
 first-coarse w b e h =
     pick-no _ _ _ (ne-eqb (w % 4) 0 (λ q. omega (arith, q)))
     ∙ pick-yes _ _ _ (eq-eqb (w % 4) 1 (omega arith))
-    ∙ ap (λ (z : ℕ). F.Coarse (physical z)) (let z : w / 2 ^ 10 * 2 ^ 10 ≡ b = omega arith in z)
+    ∙ ap (λ (z : ℕ). First.Coarse (physical z)) (let z : w / 2 ^ 10 * 2 ^ 10 ≡ b = omega arith in z)
 
 abbrev pub firstFor : Held → VirtualAddress → First
-firstFor (By m) va = F.Whole (pageFor Absent m va)
-firstFor Nobody va = F.Fault
+firstFor (Held.By m) va = First.Whole (pageFor Second.Absent m va)
+firstFor Held.Nobody va = First.Fault
 
-whole : (k : Kind) → 20 ≤ lowBits k → k ≡ Section
-whole Section h = refl
-whole Large h = absurd (omega arith)
-whole Small h = absurd (omega arith)
-whole Tiny h = absurd (omega arith)
+whole : (k : Kind) → 20 ≤ lowBits k → k ≡ Kind.Section
+whole Kind.Section h = refl
+whole Kind.Large h = absurd (omega arith)
+whole Kind.Small h = absurd (omega arith)
+whole Kind.Tiny h = absurd (omega arith)
 
-section-is : (X acc w : ℕ) → acc < 4 → w ≡ X * 2 ^ 20 + 1024 * (acc % 4) + 2 → firstOf w ≡ F.Whole (page Section (X * 2 ^ 20) acc)
+section-is : (X acc w : ℕ) → acc < 4 → w ≡ X * 2 ^ 20 + 1024 * (acc % 4) + 2 → firstOf w ≡ First.Whole (page Kind.Section (X * 2 ^ 20) acc)
 unfolding firstOf upper
 section-is X acc w h e =
     pick-no _ _ _ (ne-eqb (w % 4) 0 (λ q. omega (arith, q)))
     ∙ pick-no _ _ _ (ne-eqb (w % 4) 1 (λ q. omega (arith, q)))
     ∙ pick-yes _ _ _ (eq-eqb (w % 4) 2 (omega arith))
-    ∙ ap₂ (λ (f a : ℕ). F.Whole (page Section f a)) (let z : w / 2 ^ 20 * 2 ^ 20 ≡ X * 2 ^ 20 = omega arith in z) (let z : w / 2 ^ 10 % 4 ≡ acc = omega arith in z)
+    ∙ ap₂ (λ (f a : ℕ). First.Whole (page Kind.Section f a)) (let z : w / 2 ^ 20 * 2 ^ 20 ≡ X * 2 ^ 20 = omega arith in z) (let z : w / 2 ^ 10 % 4 ≡ acc = omega arith in z)
 
-pub section-found : (va : VirtualAddress) (h : Held) → OnHeld (Known Absent va) h → firstOf (sectionWord h) ≡ firstFor h va
+pub section-found : (va : VirtualAddress) (h : Held) → OnHeld (Known Second.Absent va) h → firstOf (sectionWord h) ≡ firstFor h va
 unfolding firstOf pick upper byteOf
-section-found va (By m) o =
-    let s : m .kind ≡ Section = whole (m .kind) (o .1) in
+section-found va (Held.By m) o =
+    let s : m .kind ≡ Kind.Section = whole (m .kind) (o .1) in
     section-is (m .to .0 / 2 ^ 20) (m .access) _ (o .0) refl
-    ∙ ap₂ (λ (k : Kind) (f : ℕ). F.Whole (page k f (m .access))) (sym s)
+    ∙ ap₂ (λ (k : Kind) (f : ℕ). First.Whole (page k f (m .access))) (sym s)
     (ap (λ (z : ℕ). z * 2 ^ 20) (sym (joined-high 20 (m .to .0) (va .0)))
     ∙ ap (λ (k : Kind). upper (lowBits k) (joined (lowBits k) (m .to .0) (va .0))) (sym s))
-section-found va Nobody o = refl
+section-found va Held.Nobody o = refl

@@ -6,21 +6,18 @@ use Rattle.page.specs.declared.VirtualAddress.{VirtualAddress}
 use Rattle.memory.specs.Memory.{Lent, lentOk}
 use Rattle.memory.specs.declared.Source.{Source}
 use Rattle.memory.specs.declared.Reads.{Reads}
-use Rattle.memory.specs.declared.Reads.the-variants.{Nothing, One, Two}
-use Rattle.descriptors.specs.declared.Page.{Page}
-use Rattle.descriptors.specs.declared.Found.{Found}
-use Rattle.descriptors.specs.declared.Found.the-variants as D
+use Rattle.walk.specs.declared.Page.{Page}
+use Rattle.walk.specs.declared.Found.{Found}
 use Rattle.walk.specs.Uniform.{Look, Uniform}
-use Rattle.descriptors.specs.Descriptors.{physicalOf}
+use Rattle.walk.specs.Descriptors.{physicalOf}
 use Rattle.walk.specs.Walk.{walkIn}
 use Rattle.records.specs.declared.Mapping.{Mapping}
-use Rattle.lists.specs.declared.Held.{Held}
-use Rattle.lists.specs.declared.Held.the-variants.{By, Nobody}
+use Rattle.records.specs.declared.Held.{Held}
 use Rattle.records.specs.Mappings.{mappings, byteOf}
-use Rattle.lists.specs.Meanings.{holder}
-use Rattle.builder.specs.declared.Built.the-variants.{Length}
+use Rattle.records.specs.Meanings.{holder}
+use Rattle.builder.specs.declared.Built.{Built}
 use Rattle.tables.specs.Tables.{imageLength}
-use Rattle.image.specs.Image.{image}
+use Rattle.builder.specs.Image.{image}
 use Rattle.builder.specs.Build.{answerOf, buildOf}
 use mathlib.Core.Logic.{_⊎_}
 
@@ -29,12 +26,12 @@ lookIn m base va = walkIn m base (va .0)
 
 -- what is found has the byte and the access of the mapping that holds the address; where none does, no page is found
 abbrev pub Gives : Held → VirtualAddress → Found → Type 0
-Gives (By m) va (D.Page p) = (physicalOf p va ≡ byteOf m va) × (p .access ≡ m .access)
-Gives (By m) va D.NoPage = ⊥
-Gives (By m) va D.Missing = ⊥
-Gives Nobody va (D.Page p) = ⊥
-Gives Nobody va D.NoPage = Unit
-Gives Nobody va D.Missing = ⊥
+Gives (Held.By m) va (Found.Page p) = (physicalOf p va ≡ byteOf m va) × (p .access ≡ m .access)
+Gives (Held.By m) va Found.NoPage = ⊥
+Gives (Held.By m) va Found.Missing = ⊥
+Gives Held.Nobody va (Found.Page p) = ⊥
+Gives Held.Nobody va Found.NoPage = Unit
+Gives Held.Nobody va Found.Missing = ⊥
 
 -- a word lies in the n bytes at base
 abbrev pub Within : ℕ → ℕ → Source → Type 0
@@ -42,9 +39,9 @@ Within base n s = (base ≤ s .at .0) × (s .at .0 + 4 ≤ base + n)
 
 -- a walk read one or two words, and they lie in the n bytes at base
 abbrev pub Inside : ℕ → ℕ → Reads → Type 0
-Inside base n Nothing = ⊥
-Inside base n (One s) = Within base n s
-Inside base n (Two s t) = Within base n s × Within base n t
+Inside base n Reads.Nothing = ⊥
+Inside base n (Reads.One s) = Within base n s
+Inside base n (Reads.Two s t) = Within base n s × Within base n t
 
 -- a memory lent at b has bytes at an address, among others
 abbrev pub Has : List ℕ → ℕ → ℕ → List ℕ → Type 0
@@ -67,11 +64,11 @@ Bytes l = (i : ℕ) → getD l i 0 < 256
 -- every accepted list, wherever its image stands in memories that are not refused
 abbrev pub ImageTranslates : Type 0
 ImageTranslates =
-    (rs : List ℕ) (base room len : ℕ) (m : Lent) → Bytes rs → answerOf rs base room ≡ Length len → lentOk m ≡ true →
+    (rs : List ℕ) (base room len : ℕ) (m : Lent) → Bytes rs → answerOf rs base room ≡ Built.Length len → lentOk m ≡ true →
     Standing m base (image megabytes (mappings rs) base) → Translates m base (mappings rs)
 
 -- an accepted list's image is what a build leaves, and every later byte as it was
 abbrev pub LeavesImage : Type 0
 LeavesImage =
-    (rs : List ℕ) (base len : ℕ) (before : List ℕ) → answerOf rs base (length before) ≡ Length len →
+    (rs : List ℕ) (base len : ℕ) (before : List ℕ) → answerOf rs base (length before) ≡ Built.Length len →
     buildOf rs base before .memory ≡ image megabytes (mappings rs) base ++ drop len before

@@ -6,18 +6,16 @@ use Prim.Native.Nat.{ℕ}
 use borrow.Author.Tests.{not-true}
 use Rattle.page.specs.Pick.{_and_}
 use Rattle.page.proofs.Picks.{pick-no, and-left, and-right}
-use Rattle.descriptors.specs.declared.Found.the-variants as D
 use Rattle.walk.specs.Walk.{walkWithin}
-use Rattle.descriptors.specs.Statements.{isMissing}
+use Rattle.walk.specs.Distances.{isMissing}
 use Rattle.walk.proofs.Walks.{walk-ok}
 use Rattle.lanes.specs.Lanes.{lookedUp}
-use Rattle.lanes.specs.declared.Matched.the-variants as M
-use Rattle.registers.specs.declared.Pending.the-variants.{Held}
+use Rattle.registers.specs.declared.Pending.{Pending}
 use Rattle.registers.specs.Answers.{isPrefetch}
 use Rattle.registers.specs.Fields.{isOn, isWalking}
 use Rattle.decision.specs.Decisions.{byFound}
 use Rattle.decision.specs.Prefetches.{pageAt, prefetchFound, shiftBy}
-use Rattle.decision.specs.declared.Shift.the-variants as H
+use Rattle.decision.specs.declared.Shift.{Shift}
 use Rattle.decision.proofs.Joins.{decided-walk, prefetch-on}
 use Rattle.unit.specs.Types.{Access, VirtualAddress, Lent, lentOk, Found, Walked, Bill, Prices, Matched, Fault, Device}
 use Rattle.unit.specs.Refusals.{refuses}
@@ -25,14 +23,14 @@ use Rattle.unit.specs.Device.{refusedWith, look, concluded, attemptOf}
 use Rattle.unit.specs.Calls.{noMatch, lacks, retryLacks, prefetchEnds, prefetched, heldRetried}
 use Rattle.unit.proofs.Refusing.{last-same}
 
-matched-nothing : (x : Matched) → noMatch x ≡ true → x ≡ M.Nothing
-matched-nothing (M.At i) h = absurd (false≢true h)
-matched-nothing M.Nothing h = refl
+matched-nothing : (x : Matched) → noMatch x ≡ true → x ≡ Matched.Nothing
+matched-nothing (Matched.At i) h = absurd (false≢true h)
+matched-nothing Matched.Nothing h = refl
 
-found-missing : (f : Found) → isMissing f ≡ true → f ≡ D.Missing
-found-missing (D.Page p) h = absurd (false≢true h)
-found-missing D.NoPage h = absurd (false≢true h)
-found-missing D.Missing h = refl
+found-missing : (f : Found) → isMissing f ≡ true → f ≡ Found.Missing
+found-missing (Found.Page p) h = absurd (false≢true h)
+found-missing Found.NoPage h = absurd (false≢true h)
+found-missing Found.Missing h = refl
 
 -- memories that were tried lose nothing by being tried again
 pub look-ok : (m : Lent) (d : Device) (va : VirtualAddress) → lentOk m ≡ true → walkWithin m (d .registers .base .0) (va .0) ≡ look m d va
@@ -58,7 +56,7 @@ module _ (m : Lent) (p : Prices) (b : Bill) (again : Bool) (d : Device) (va : Vi
 
 -- the fault that is pending, retried
 module _ (m : Lent) (p : Prices) (b : Bill) (d : Device) (k : Fault) (va : VirtualAddress) (a : Access) where
-  pub lacks-retry : retryLacks m d (Held k va a) ≡ true → heldRetried m p b d k va a ≡ refusedWith d b 3
+  pub lacks-retry : retryLacks m d (Pending.Held k va a) ≡ true → heldRetried m p b d k va a ≡ refusedWith d b 3
   lacks-retry h =
       let t = not (isPrefetch k) in
       pick-no _ _ _ (not-true (isPrefetch k) (and-left t (lacks m d va) h))
@@ -75,12 +73,12 @@ module _ (m : Lent) (p : Prices) (b : Bill) (d : Device) (v : ℕ) where
       let none = noMatch (lookedUp (d .bank .cam) (pageAt v)) in
       let gone = isMissing (look m d (pageAt v) .found) in
       ap (prefetchEnds p b d v)
-      (prefetch-on (look m d (pageAt v)) (d .bank .cam) (pageAt v) M.Nothing (matched-nothing (lookedUp (d .bank .cam) (pageAt v)) (and-left none gone h))
+      (prefetch-on (look m d (pageAt v)) (d .bank .cam) (pageAt v) Matched.Nothing (matched-nothing (lookedUp (d .bank .cam) (pageAt v)) (and-left none gone h))
       ∙ ap (prefetchFound (pageAt v) (look m d (pageAt v) .reads)) (found-missing (look m d (pageAt v) .found) (and-right none gone h)))
 
 -- the shift report
 module _ (m : Lent) (d : Device) (va : VirtualAddress) where
-  pub shift-last : lentOk m ≡ true → shiftBy va (walkWithin m (d .registers .base .0) (va .0) .found) ≡ refuses ((isMissing (look m d va .found), 3) ∷ []) H.Refused (shiftBy va (look m d va .found))
+  pub shift-last : lentOk m ≡ true → shiftBy va (walkWithin m (d .registers .base .0) (va .0) .found) ≡ refuses ((isMissing (look m d va .found), 3) ∷ []) Shift.Refused (shiftBy va (look m d va .found))
   shift-last h =
       last-same _ _ _ _ _ (ap (λ (w : Walked). shiftBy va (w .found)) (look-ok m d va h))
       (λ q. ap (shiftBy va) (found-missing (look m d va .found) q))

@@ -8,10 +8,6 @@ use Rattle.page.specs.Words.{limit}
 use Rattle.page.proofs.Picks.{pick-by, and-left, and-right}
 use Rattle.bank.specs.Slots.{bankOk}
 use Rattle.registers.specs.Fields.{pendingOk}
-use Rattle.registers.specs.declared.Command.the-variants as C
-use Rattle.registers.specs.declared.Pending.the-variants.{Nothing, Held}
-use Rattle.registers.specs.declared.Setting.the-variants.{Control, BaseHigh, BaseLow, CamHigh, CamLow, RamHigh, RamLow}
-use Rattle.registers.specs.declared.Tending.the-variants as T
 use Rattle.plan.specs.Plans.{requestPlan, pendingPlan, settingPlan, tendPlan, commandPlan, writePlan, readPlan, dropPlan, shiftPlan}
 use Rattle.plan.specs.declared.Plan.{Plan}
 use Rattle.plan.specs.declared.Reason.{Reason}
@@ -57,39 +53,39 @@ module _ (d : Device) where
       (λ _. tt)
 
   pending-fits : inRange d ≡ true → (q : Pending) → pendingOk q ≡ true → Fitted (pendingPlan q)
-  pending-fits h Nothing e = tt
-  pending-fits h (Held k va a) e = pick-by Fitted _ _ _ (λ _. tt) (λ _. fits h _ va tt (ltb-true (va .0) limit e))
+  pending-fits h Pending.Nothing e = tt
+  pending-fits h (Pending.Held k va a) e = pick-by Fitted _ _ _ (λ _. tt) (λ _. fits h _ va tt (ltb-true (va .0) limit e))
 
   setting-fits : (s : Setting) → Fitted (settingPlan s)
-  setting-fits (Control v) = tt
-  setting-fits (BaseHigh v) = tt
-  setting-fits (BaseLow v) = tt
-  setting-fits (CamHigh v) = tt
-  setting-fits (CamLow v) = tt
-  setting-fits (RamHigh v) = tt
-  setting-fits (RamLow v) = tt
+  setting-fits (Setting.Control v) = tt
+  setting-fits (Setting.BaseHigh v) = tt
+  setting-fits (Setting.BaseLow v) = tt
+  setting-fits (Setting.CamHigh v) = tt
+  setting-fits (Setting.CamLow v) = tt
+  setting-fits (Setting.RamHigh v) = tt
+  setting-fits (Setting.RamLow v) = tt
 
   tend-fits : (t : Tending) → Fitted (tendPlan t)
-  tend-fits (T.Lock l v) = tt
-  tend-fits T.Flush = tt
-  tend-fits T.FlushEntry = tt
+  tend-fits (Tending.Lock l v) = tt
+  tend-fits Tending.Flush = tt
+  tend-fits Tending.FlushEntry = tt
 
   command-fits : (l o : Bool) → inRange d ≡ true → (c : Command) → Fitted (commandPlan l o (d .registers .control) (d .pending) c)
-  command-fits l o h (C.Refused k) = tt
-  command-fits l o h C.Nothing = tt
-  command-fits l o h C.Reset = tt
-  command-fits l o h (C.Set s) = setting-fits s
-  command-fits l o h (C.Tend t) = tend-fits t
-  command-fits l o h C.Load = pick-by Fitted _ _ _ (λ _. tt) (λ _. victim-lt h)
-  command-fits l o h C.Copy = pick-by Fitted _ _ _ (λ _. tt) (λ _. victim-lt h)
-  command-fits l o h (C.Prefetch v) =
+  command-fits l o h (Command.Refused k) = tt
+  command-fits l o h Command.Nothing = tt
+  command-fits l o h Command.Reset = tt
+  command-fits l o h (Command.Set s) = setting-fits s
+  command-fits l o h (Command.Tend t) = tend-fits t
+  command-fits l o h Command.Load = pick-by Fitted _ _ _ (λ _. tt) (λ _. victim-lt h)
+  command-fits l o h Command.Copy = pick-by Fitted _ _ _ (λ _. tt) (λ _. victim-lt h)
+  command-fits l o h (Command.Prefetch v) =
       pick-by Fitted _ _ _
       (λ _. pick-by Fitted _ _ _
       (λ _. pick-by Fitted _ _ _
       (λ _. pick-by Fitted _ _ _
       (λ on. pick-by Fitted _ _ _ (λ walking. fits h _ _ (on, walking) (omega arith)) (λ _. tt)) (λ _. tt)) (λ _. tt)) (λ _. tt))
       (λ _. tt)
-  command-fits l o h (C.Acknowledge go) =
+  command-fits l o h (Command.Acknowledge go) =
       pick-by Fitted _ _ _ (λ _. pick-by Fitted _ _ _ (λ _. pending-fits h (d .pending) (pending-ok h)) (λ _. tt)) (λ _. tt)
 
   pub write-fits : (l o : Bool) (c : Command) → Fitted (writePlan (inRange d) l o (d .registers .control) (d .pending) c)

@@ -8,35 +8,26 @@ use lib.Dec.{eqb, ltb, leb}
 use borrow.Author.Tests.{eqb-true, eqb-false, ltb-true, lt-leb, eq-eqb, ne-eqb}
 use Rattle.page.specs.Pick.{pick, _and_, _or_}
 use Rattle.page.specs.Words.{limit}
-use Rattle.page.specs.declared.Access.the-variants.{Read}
 use Rattle.page.proofs.Picks.{pick-yes, pick-no, pick-by, and-left, and-right, or-no}
 use Rattle.bill.specs.Bill.{moneyOk}
 use Rattle.lanes.specs.Lanes.{slots}
 use Rattle.registers.specs.Answers.{idle, isPrefetch}
 use Rattle.registers.specs.Fields.{isOn, isWalking, withPrefetch}
 use Rattle.registers.specs.Table.{listed, noRegister, controlCommand, lockCommand, loadCommand, whenBit, commandOf, valueAt}
-use Rattle.registers.specs.declared.Answer.the-variants as A
-use Rattle.registers.specs.declared.Command.the-variants as C
-use Rattle.registers.specs.declared.Pending.the-variants.{Nothing, Held}
-use Rattle.registers.specs.declared.Setting.the-variants.{Control}
-use Rattle.registers.specs.declared.Tending.the-variants.{Flush, FlushEntry}
+use Rattle.registers.specs.declared.Setting.{Setting}
 use Rattle.registers.proofs.Offsets.{by-offset, command-elsewhere, value-elsewhere}
-use Rattle.descriptors.specs.Statements.{isMissing}
+use Rattle.walk.specs.Distances.{isMissing}
 use Rattle.decision.specs.Prefetches.{pageAt, prefetchDecided, prefetchKept, shiftBy}
-use Rattle.decision.specs.declared.Said.the-variants.{Reported}
-use Rattle.decision.specs.declared.Shift.the-variants as H
+use Rattle.decision.specs.declared.Said.{Said}
 use Rattle.plan.specs.Plans.{settingAt, requestPlan, retryPlan, pendingPlan, commandPlan, writePlan, readPlan, dropPlan, shiftPlan}
 use Rattle.plan.specs.declared.Plan.{Plan}
-use Rattle.plan.specs.declared.Plan.the-variants as L
 use Rattle.plan.specs.declared.Reason.{Reason}
-use Rattle.plan.specs.declared.Reason.the-variants as E
 use Rattle.perform.specs.Performed.{Done, quietly, endedFor, decidedFor, performed}
 use Rattle.unit.specs.Types.{Access, VirtualAddress, Lent, lentOk, Walked, Bill, Prices, Fault, Pending, Answer, Tending, Command, Shift, Device, Outcome}
 use Rattle.unit.specs.Refusals.{Refusing, Refusals, refuses}
 use Rattle.unit.specs.Device.{inRange, cleared, told, toldRefused, doneWith, refusedWith, look, attemptOf}
 use Rattle.unit.specs.Acts.{doneBy, doneTold}
-use Rattle.unit.specs.Calls.{lacks, retryLacks, writeLacks, isMalformed, isUntimely, writeRefusals, readRefusals}
-use Rattle.unit.specs.Calls.{requestOf, writeOf, readOf, dropOf, shiftOf, prefetched, heldRetried, retried, carried}
+use Rattle.unit.specs.Calls.{lacks, retryLacks, writeLacks, isMalformed, isUntimely, writeRefusals, readRefusals, requestOf, writeOf, readOf, dropOf, shiftOf, prefetched, heldRetried, retried, carried}
 use Rattle.unit.proofs.Refusing.{refused-here, passed, last-same}
 use Rattle.unit.proofs.Attempts.{look-ok, lacks-attempt, lacks-retry, prefetchLacks, lacks-prefetch, shift-last}
 
@@ -74,14 +65,14 @@ module _ (m : Lent) (p : Prices) (b : Bill) (d : Device) where
   run x = performed m p b (d .registers) (d .bank) (d .pending) x
 
   abbrev say : ℕ → Done
-  say n = run (L.Refused n)
+  say n = run (Plan.Refused n)
 
   -- tests as plans nest them are a list of refusals
   module _ (rs : Refusals) (x : Plan) (y : Done) where
     gate :
         (l o : Bool)
         → (l ≡ true → run x ≡ refuses rs say y)
-        → (let k = pick l (pick o 0 9) 4 in run (pick (eqb k 0) x (L.Refused k))) ≡ refuses ((not l, 4) ∷ (not o, 9) ∷ rs) say y
+        → (let k = pick l (pick o 0 9) 4 in run (pick (eqb k 0) x (Plan.Refused k))) ≡ refuses ((not l, 4) ∷ (not o, 9) ∷ rs) say y
     unfolding pick refuses
     gate false o h = refl
     gate true false h = refl
@@ -91,7 +82,7 @@ module _ (m : Lent) (p : Prices) (b : Bill) (d : Device) where
         (e s i on w : Bool)
         → e ≡ not s
         → run x ≡ refuses rs say y
-        → run (pick e (pick i (pick on (pick w x (L.Refused 7)) (L.Refused 7)) (L.Refused 2)) (L.Refused 8)) ≡ refuses ((s, 8) ∷ (not i, 2) ∷ (not (on and w), 7) ∷ rs) say y
+        → run (pick e (pick i (pick on (pick w x (Plan.Refused 7)) (Plan.Refused 7)) (Plan.Refused 2)) (Plan.Refused 8)) ≡ refuses ((s, 8) ∷ (not i, 2) ∷ (not (on and w), 7) ∷ rs) say y
     unfolding pick _and_ refuses
     ready e true i on w h f = ap run (pick-no e _ _ h)
     ready e false false on w h f = ap run (pick-yes e _ _ h)
@@ -102,7 +93,7 @@ module _ (m : Lent) (p : Prices) (b : Bill) (d : Device) where
     firstly :
         (ok v l o i : Bool)
         → (l ≡ true → run x ≡ refuses rs say y)
-        → run (pick ok (pick v (L.Refused 1) (pick l (pick o (pick i x (L.Refused 2)) (L.Refused 9)) (L.Refused 4))) (L.Refused 8))
+        → run (pick ok (pick v (Plan.Refused 1) (pick l (pick o (pick i x (Plan.Refused 2)) (Plan.Refused 9)) (Plan.Refused 4))) (Plan.Refused 8))
         ≡ refuses ((not ok, 8) ∷ (v, 1) ∷ (not l, 4) ∷ (not o, 9) ∷ (not i, 2) ∷ rs) say y
     unfolding pick refuses
     firstly false v l o i h = refl
@@ -112,7 +103,7 @@ module _ (m : Lent) (p : Prices) (b : Bill) (d : Device) where
     firstly true false true true false h = refl
     firstly true false true true true h = h refl
 
-    within : (ok : Bool) → run x ≡ refuses rs say y → run (pick ok x (L.Refused 8)) ≡ refuses ((not ok, 8) ∷ rs) say y
+    within : (ok : Bool) → run x ≡ refuses rs say y → run (pick ok x (Plan.Refused 8)) ≡ refuses ((not ok, 8) ∷ rs) say y
     unfolding pick refuses
     within true h = h
     within false h = refl
@@ -126,27 +117,27 @@ module _ (m : Lent) (p : Prices) (b : Bill) (d : Device) where
   tried e va a w = endedFor p b e (d .registers) (d .bank) (d .pending) va a (decidedFor e w (d .registers .control) (d .bank .cam) (d .bank .ram) va a)
 
   -- a request or a retry
-  request-last : (va : VirtualAddress) (a : Access) → lentOk m ≡ true → run (L.Attempt a E.Request va) ≡ refuses ((lacks m d va, 3) ∷ []) say (doneBy (attemptOf m p b false d va a))
+  request-last : (va : VirtualAddress) (a : Access) → lentOk m ≡ true → run (Plan.Attempt a Reason.Request va) ≡ refuses ((lacks m d va, 3) ∷ []) say (doneBy (attemptOf m p b false d va a))
   request-last va a h =
       lastly _ _ (attemptOf m p b false d va a)
-      (ap (tried E.Request va a) (look-ok m d va h))
+      (ap (tried Reason.Request va a) (look-ok m d va h))
       (lacks-attempt m p b false d va a)
 
   retry-ok : (k : Fault) (va : VirtualAddress) (a : Access) → lentOk m ≡ true → run (retryPlan k va a) ≡ doneBy (heldRetried m p b d k va a)
   unfolding pick
   retry-ok k va a h = by (isPrefetch k)
     where
-      by : (t : Bool) → run (pick t L.Drop (L.Attempt a E.Retry va)) ≡ doneBy (pick t (doneWith b (cleared d)) (attemptOf m p b true d va a))
+      by : (t : Bool) → run (pick t Plan.Drop (Plan.Attempt a Reason.Retry va)) ≡ doneBy (pick t (doneWith b (cleared d)) (attemptOf m p b true d va a))
       by true = refl
-      by false = ap (tried E.Retry va a) (look-ok m d va h)
+      by false = ap (tried Reason.Retry va a) (look-ok m d va h)
 
   -- a prefetch
-  prefetch-ok : (v : ℕ) → lentOk m ≡ true → run (L.Attempt Read E.Prefetch (pageAt v)) ≡ doneBy (prefetched m p b d v)
+  prefetch-ok : (v : ℕ) → lentOk m ≡ true → run (Plan.Attempt Access.Read Reason.Prefetch (pageAt v)) ≡ doneBy (prefetched m p b d v)
   prefetch-ok v h =
       let x = prefetchDecided (look m d (pageAt v)) (d .bank .cam) (pageAt v) in
-      let y = tried E.Prefetch (pageAt v) Read (look m d (pageAt v)) in
+      let y = tried Reason.Prefetch (pageAt v) Access.Read (look m d (pageAt v)) in
       let e : pageAt v .0 / 1024 % 16384 ≡ v % 2 ^ 14 = omega arith in
-      ap (tried E.Prefetch (pageAt v) Read) (look-ok m d (pageAt v) h)
+      ap (tried Reason.Prefetch (pageAt v) Access.Read) (look-ok m d (pageAt v) h)
       ∙ ap (λ (n : ℕ). record {
         registers = withPrefetch (d .registers) (prefetchKept n (d .registers .prefetch) (x .answer));
         bank = y .bank;
@@ -160,7 +151,7 @@ module _ (m : Lent) (p : Prices) (b : Bill) (d : Device) where
   pub request-done : (va : VirtualAddress) (a : Access) → run (requestPlan (inRange d) (lentOk m) (moneyOk p b) (d .pending) va a) ≡ doneBy (requestOf m p b d va a)
   unfolding requestOf
   request-done va a =
-      firstly _ (L.Attempt a E.Request va) (doneBy (attemptOf m p b false d va a)) (inRange d) (leb limit (va .0)) (lentOk m) (moneyOk p b) (idle (d .pending)) (request-last va a)
+      firstly _ (Plan.Attempt a Reason.Request va) (doneBy (attemptOf m p b false d va a)) (inRange d) (leb limit (va .0)) (lentOk m) (moneyOk p b) (idle (d .pending)) (request-last va a)
       ∙ sym (refuses-map doneBy _ (refusedWith d b) (attemptOf m p b false d va a))
 
   -- a write by its command, past the device's own 8
@@ -171,7 +162,7 @@ module _ (m : Lent) (p : Prices) (b : Bill) (d : Device) where
   abbrev Same : Command → Type 0
   Same c = obeyed c ≡ doneBy (carried m p b d c)
 
-  set-same : (v : ℕ) → Same (C.Set (Control v))
+  set-same : (v : ℕ) → Same (Command.Set (Setting.Control v))
   unfolding settingAt pick
   set-same v = refl
 
@@ -179,7 +170,7 @@ module _ (m : Lent) (p : Prices) (b : Bill) (d : Device) where
   unfolding controlCommand
   control-same v = pick-by Same _ _ _ (λ _. set-same _) (λ _. refl)
 
-  bit-same : (v : ℕ) (t : Tending) → obeyed (C.Tend t) ≡ doneBy (carried m p b d (C.Tend t)) → Same (whenBit v t)
+  bit-same : (v : ℕ) (t : Tending) → obeyed (Command.Tend t) ≡ doneBy (carried m p b d (Command.Tend t)) → Same (whenBit v t)
   unfolding whenBit
   bit-same v t h = pick-by Same _ _ _ (λ _. h) (λ _. refl)
 
@@ -196,9 +187,9 @@ module _ (m : Lent) (p : Prices) (b : Bill) (d : Device) where
 
   -- 8 and 7 of the load register
   abbrev loadBy : ℕ → Command
-  loadBy r = pick (eqb r 0) C.Nothing (pick (eqb r 1) C.Load (pick (eqb r 2) C.Copy (C.Refused 8)))
+  loadBy r = pick (eqb r 0) Command.Nothing (pick (eqb r 1) Command.Load (pick (eqb r 2) Command.Copy (Command.Refused 8)))
 
-  walking-pick : (t : Bool) (x : Plan) → run (pick t (L.Refused 7) x) ≡ pick (t or false) (say 7) (run x)
+  walking-pick : (t : Bool) (x : Plan) → run (pick t (Plan.Refused 7) x) ≡ pick (t or false) (say 7) (run x)
   unfolding pick _or_
   walking-pick true x = refl
   walking-pick false x = refl
@@ -207,8 +198,8 @@ module _ (m : Lent) (p : Prices) (b : Bill) (d : Device) where
       → obeyed (loadBy r) ≡ refuses ((eqb r 3, 8) ∷ (((eqb r 1 or eqb r 2) and isWalking (d .registers .control)) or false, 7) ∷ []) say (doneBy (carried m p b d (loadBy r)))
   unfolding pick _and_ _or_ refuses
   load-same zero h = refl
-  load-same (suc zero) h = walking-pick (isWalking (d .registers .control)) L.Load
-  load-same (suc (suc zero)) h = walking-pick (isWalking (d .registers .control)) L.Copy
+  load-same (suc zero) h = walking-pick (isWalking (d .registers .control)) Plan.Load
+  load-same (suc (suc zero)) h = walking-pick (isWalking (d .registers .control)) Plan.Copy
   load-same (suc (suc (suc zero))) h = refl
   load-same (suc (suc (suc (suc r)))) h = absurd (omega (arith, h))
 
@@ -216,19 +207,19 @@ module _ (m : Lent) (p : Prices) (b : Bill) (d : Device) where
   retry-same :
       (q : Pending) (go : Bool)
       → lentOk m ≡ true
-      → run (pick go (pendingPlan q) L.Done)
+      → run (pick go (pendingPlan q) Plan.Done)
       ≡ refuses ((go and idle q, 7) ∷ (go and retryLacks m d q, 3) ∷ []) say (doneBy (pick go (retried m p b d q) (doneWith b d)))
   unfolding pick _and_ refuses
   retry-same q false h = refl
-  retry-same Nothing true h = refl
-  retry-same (Held k va a) true h = lastly (retryLacks m d (Held k va a)) _ (heldRetried m p b d k va a) (retry-ok k va a h) (lacks-retry m p b d k va a)
+  retry-same Pending.Nothing true h = refl
+  retry-same (Pending.Held k va a) true h = lastly (retryLacks m d (Pending.Held k va a)) _ (heldRetried m p b d k va a) (retry-ok k va a h) (lacks-retry m p b d k va a)
 
   acknowledge-same :
       (go : Bool)
-      → obeyed (C.Acknowledge go)
+      → obeyed (Command.Acknowledge go)
       ≡ refuses ((not (lentOk m), 4) ∷ (not (moneyOk p b), 9) ∷ (go and idle (d .pending), 7) ∷ (go and retryLacks m d (d .pending), 3) ∷ [])
-      say (doneBy (carried m p b d (C.Acknowledge go)))
-  acknowledge-same go = gate _ (pick go (pendingPlan (d .pending)) L.Done) _ (lentOk m) (moneyOk p b) (retry-same (d .pending) go)
+      say (doneBy (carried m p b d (Command.Acknowledge go)))
+  acknowledge-same go = gate _ (pick go (pendingPlan (d .pending)) Plan.Done) _ (lentOk m) (moneyOk p b) (retry-same (d .pending) go)
 
   -- 8, 2, 7 and 3 of the prefetch register
   abbrev both : Bool
@@ -236,14 +227,14 @@ module _ (m : Lent) (p : Prices) (b : Bill) (d : Device) where
 
   prefetch-same :
       (v : ℕ)
-      → obeyed (C.Prefetch v)
+      → obeyed (Command.Prefetch v)
       ≡ refuses ((not (lentOk m), 4) ∷ (not (moneyOk p b), 9) ∷ (eqb (v / 2 ^ 14 % 2) 1 or false, 8)
       ∷ (not (idle (d .pending)), 2) ∷ (not both or false, 7) ∷ (prefetchLacks m p b d v or false, 3) ∷ [])
-      say (doneBy (carried m p b d (C.Prefetch v)))
+      say (doneBy (carried m p b d (Command.Prefetch v)))
   prefetch-same v =
       rw (or-none (eqb (v / 2 ^ 14 % 2) 1), or-none (not both), or-none (prefetchLacks m p b d v))
       (gate _ _ _ (lentOk m) (moneyOk p b)
-      (λ h. ready _ (L.Attempt Read E.Prefetch (pageAt v)) _ _ _ _ _ _ (bit-clear (v / 2 ^ 14))
+      (λ h. ready _ (Plan.Attempt Access.Read Reason.Prefetch (pageAt v)) _ _ _ _ _ _ (bit-clear (v / 2 ^ 14))
       (lastly (prefetchLacks m p b d v) _ (prefetched m p b d v) (prefetch-ok v h) (lacks-prefetch m p b d v))))
 
 module _ (m : Lent) (p : Prices) (b : Bill) (d : Device) (v : ℕ) where
@@ -273,8 +264,8 @@ module _ (m : Lent) (p : Prices) (b : Bill) (d : Device) (v : ℕ) where
       refl
       refl
       refl
-      (bit-same m p b d v Flush refl)
-      (bit-same m p b d v FlushEntry refl)
+      (bit-same m p b d v Tending.Flush refl)
+      (bit-same m p b d v Tending.FlushEntry refl)
       refl
       refl
       refl
@@ -323,22 +314,22 @@ module _ (m : Lent) (p : Prices) (b : Bill) (d : Device) where
   unfolding dropOf pick refuses
   drop-done = by (inRange d) (idle (d .pending))
     where
-      by : (ok i : Bool) → run m p b d (pick ok (pick i (L.Refused 7) L.Drop) (L.Refused 8)) ≡ doneTold b (refuses ((not ok, 8) ∷ (i, 7) ∷ []) (toldRefused d) (told (cleared d) A.Done))
+      by : (ok i : Bool) → run m p b d (pick ok (pick i (Plan.Refused 7) Plan.Drop) (Plan.Refused 8)) ≡ doneTold b (refuses ((not ok, 8) ∷ (i, 7) ∷ []) (toldRefused d) (told (cleared d) Answer.Done))
       by true true = refl
       by true false = refl
       by false i = refl
 
   -- a shift report
   abbrev pub reporting : Shift → Done
-  reporting s = quietly (d .registers) (d .bank) (d .pending) b (Reported s)
+  reporting s = quietly (d .registers) (d .bank) (d .pending) b (Said.Reported s)
 
   pub shift-done : (va : VirtualAddress) → run m p b d (shiftPlan (inRange d) (lentOk m) va) ≡ reporting (shiftOf m d va)
   unfolding shiftOf pick refuses
   shift-done va = by (inRange d) (leb limit (va .0)) (lentOk m) refl
     where
       by : (ok v l : Bool) → lentOk m ≡ l
-          → run m p b d (pick ok (pick v (L.Unreported 1) (pick l (L.Shift va) (L.Unreported 4))) (L.Unreported 8))
-          ≡ reporting (refuses ((not ok, 8) ∷ (v, 1) ∷ (not l, 4) ∷ (isMissing (look m d va .found), 3) ∷ []) H.Refused (shiftBy va (look m d va .found)))
+          → run m p b d (pick ok (pick v (Plan.Unreported 1) (pick l (Plan.Shift va) (Plan.Unreported 4))) (Plan.Unreported 8))
+          ≡ reporting (refuses ((not ok, 8) ∷ (v, 1) ∷ (not l, 4) ∷ (isMissing (look m d va .found), 3) ∷ []) Shift.Refused (shiftBy va (look m d va .found)))
       by false v l h = refl
       by true true l h = refl
       by true false false h = refl

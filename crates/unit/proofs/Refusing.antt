@@ -1,6 +1,6 @@
 -- A list of refusals: the first condition that holds is answered, one that does not hold is passed. Assumes nothing.
 use mathlib.Core.Path.{_≡_, refl, _∙_}
-use mathlib.Core.Bool.{Bool, true, false, not}
+use mathlib.Core.Bool.{Bool, true, false}
 use mathlib.Core.List.{[], _∷_}
 use Prim.Native.Nat.{ℕ}
 use Rattle.page.proofs.Picks.{pick-yes, pick-no, pick-by}

@@ -2,10 +2,7 @@
 use Rattle.page.specs.Ground.{_≡_}
 use Rattle.plan.specs.declared.Plan.{Plan}
 use Rattle.perform.specs.Performed.{Done, quietly, performed, Fit}
-use Rattle.registers.specs.declared.Answer.the-variants as A
 use Rattle.decision.specs.declared.Said.{Said}
-use Rattle.decision.specs.declared.Said.the-variants.{Answered, Reported}
-use Rattle.decision.specs.declared.Shift.the-variants as H
 use Rattle.unit.specs.Types.{Lent, Bill, Prices, Answer, Shift, Device, Outcome, Told}
 use Rattle.unit.specs.declared.Acted.{Acted}
 
@@ -32,12 +29,12 @@ pub record Alone (d : Device) (x : Plan) (y : Done) : Type 0 where
 
 -- the answer and the shift in what is said
 abbrev pub answerOf : Said → Answer
-answerOf (Answered r) = r
-answerOf (Reported s) = A.Done
+answerOf (Said.Answered r) = r
+answerOf (Said.Reported s) = Answer.Done
 
 abbrev pub shiftIn : Said → Shift
-shiftIn (Answered r) = H.Fault
-shiftIn (Reported s) = s
+shiftIn (Said.Answered r) = Shift.Fault
+shiftIn (Said.Reported s) = s
 
 abbrev pub toldOf : Done → Told
 toldOf x = record { device = record { registers = x .registers; bank = x .bank; pending = x .pending }; answer = answerOf (x .said) }
@@ -58,8 +55,8 @@ doneBy x = record {
   pending = x .device .pending;
   bill = x .bill;
   tally = x .tally;
-  said = Answered (x .answer);
+  said = Said.Answered (x .answer);
 }
 
 abbrev pub doneTold : Bill → Told → Done
-doneTold b x = quietly (x .device .registers) (x .device .bank) (x .device .pending) b (Answered (x .answer))
+doneTold b x = quietly (x .device .registers) (x .device .bank) (x .device .pending) b (Said.Answered (x .answer))

@@ -1,9 +1,8 @@
 -- Each call: its refusals in the paper's order, then what it does (01, "Registers", "When the unit says no").
 use Rattle.page.specs.Ground.{ℕ, _/_, _%_, _^_, Bool, true, false, not, List, [], _∷_, eqb, leb}
 use Rattle.page.specs.Pick.{pick, _and_, _or_}
-use Rattle.page.specs.declared.Access.the-variants.{Read}
 use Rattle.memory.specs.Reads.{wordCount}
-use Rattle.descriptors.specs.Statements.{isMissing}
+use Rattle.walk.specs.Distances.{isMissing}
 use Rattle.bank.specs.Changes.{loaded, copied}
 use Rattle.bill.specs.Bill.{moneyOk}
 use Rattle.lanes.specs.Lanes.{slots, lookedUp}
@@ -11,11 +10,7 @@ use Rattle.registers.specs.Answers.{idle, isPrefetch}
 use Rattle.page.specs.Words.{limit}
 use Rattle.registers.specs.Fields.{isOn, isWalking, setting, withPrefetch, withCopied, wordsOf, entryOf}
 use Rattle.registers.specs.Table.{noRegister, commandOf, valueAt, tended}
-use Rattle.lanes.specs.declared.Matched.the-variants as M
-use Rattle.registers.specs.declared.Pending.the-variants.{Nothing, Held}
-use Rattle.registers.specs.declared.Answer.the-variants as A
-use Rattle.registers.specs.declared.Command.the-variants as C
-use Rattle.decision.specs.declared.Shift.the-variants as H
+use Rattle.registers.specs.declared.Answer.{Answer}
 use Rattle.decision.specs.Decisions.{billed}
 use Rattle.decision.specs.Prefetches.{pageAt, prefetchDecided, prefetchKept, shiftBy}
 use Rattle.unit.specs.Types.{Access, VirtualAddress, Lent, lentOk, Bill, Prices, Matched, Fault, Pending, Decision, Shift, Command, Device, Outcome, Told}
@@ -30,8 +25,8 @@ oneOf (k ∷ ks) o = eqb o k or oneOf ks o
 
 -- no slot matches
 abbrev pub noMatch : Matched → Bool
-noMatch (M.At i) = false
-noMatch M.Nothing = true
+noMatch (Matched.At i) = false
+noMatch Matched.Nothing = true
 
 -- refusal 3 of a request or a retry: it walks, and a descriptor that the walk needs is in neither memory
 unfoldable pub lacks : Lent → Device → VirtualAddress → Bool
@@ -79,8 +74,8 @@ isUntimely d o v =
 
 -- 3: a prefetch or a retry that walks
 abbrev pub retryLacks : Lent → Device → Pending → Bool
-retryLacks m d Nothing = false
-retryLacks m d (Held k va a) = not (isPrefetch k) and lacks m d va
+retryLacks m d Pending.Nothing = false
+retryLacks m d (Pending.Held k va a) = not (isPrefetch k) and lacks m d va
 
 unfoldable pub writeLacks : Lent → Device → ℕ → ℕ → Bool
 writeLacks m d o v =
@@ -104,7 +99,7 @@ writeRefusals m p b d o v =
 -- prefetch: no effect on a match, else a walk; the register keeps what was written, words are metered, it is no request
 abbrev pub prefetchEnds : Prices → Bill → Device → ℕ → Decision → Outcome
 prefetchEnds p b d v x = record {
-  device = applied (setRegisters d (withPrefetch (d .registers) (prefetchKept (v % 2 ^ 14) (d .registers .prefetch) (x .answer)))) (x .fill) (x .answer) (pageAt v) Read;
+  device = applied (setRegisters d (withPrefetch (d .registers) (prefetchKept (v % 2 ^ 14) (d .registers .prefetch) (x .answer)))) (x .fill) (x .answer) (pageAt v) Access.Read;
   bill = billed p b x;
   tally = record { fresh = 0; retries = 0; words = wordCount (x .reads) };
   answer = x .answer;
@@ -118,8 +113,8 @@ abbrev pub heldRetried : Lent → Prices → Bill → Device → Fault → Virtu
 heldRetried m p b d k va a = pick (isPrefetch k) (doneWith b (cleared d)) (attemptOf m p b true d va a)
 
 abbrev pub retried : Lent → Prices → Bill → Device → Pending → Outcome
-retried m p b d Nothing = doneWith b d
-retried m p b d (Held k va a) = heldRetried m p b d k va a
+retried m p b d Pending.Nothing = doneWith b d
+retried m p b d (Pending.Held k va a) = heldRetried m p b d k va a
 
 -- load stores the staged entry in the victim slot, copy reads that slot back
 abbrev pub withLoaded : Device → Device
@@ -130,15 +125,15 @@ withCopy d = setRegisters d (withCopied (d .registers) (entryOf (copied (d .bank
 
 -- what a write does past its refusals, by its command
 abbrev pub carried : Lent → Prices → Bill → Device → Command → Outcome
-carried m p b d (C.Refused k) = refusedWith d b k
-carried m p b d C.Nothing = doneWith b d
-carried m p b d C.Reset = doneWith b freshDevice
-carried m p b d (C.Set s) = doneWith b (setRegisters d (setting (d .registers) s))
-carried m p b d (C.Tend t) = doneWith b (setBank d (tended (d .bank) (d .registers .staged) t))
-carried m p b d C.Load = doneWith b (withLoaded d)
-carried m p b d C.Copy = doneWith b (withCopy d)
-carried m p b d (C.Prefetch v) = prefetched m p b d v
-carried m p b d (C.Acknowledge go) = pick go (retried m p b d (d .pending)) (doneWith b d)
+carried m p b d (Command.Refused k) = refusedWith d b k
+carried m p b d Command.Nothing = doneWith b d
+carried m p b d Command.Reset = doneWith b freshDevice
+carried m p b d (Command.Set s) = doneWith b (setRegisters d (setting (d .registers) s))
+carried m p b d (Command.Tend t) = doneWith b (setBank d (tended (d .bank) (d .registers .staged) t))
+carried m p b d Command.Load = doneWith b (withLoaded d)
+carried m p b d Command.Copy = doneWith b (withCopy d)
+carried m p b d (Command.Prefetch v) = prefetched m p b d v
+carried m p b d (Command.Acknowledge go) = pick go (retried m p b d (d .pending)) (doneWith b d)
 
 unfoldable pub writeOf : Lent → Prices → Bill → Device → ℕ → ℕ → Outcome
 writeOf m p b d o v = refuses (writeRefusals m p b d o v) (refusedWith d b) (carried m p b d (commandOf o v))
@@ -157,7 +152,7 @@ abbrev pub dropRefusals : Device → Refusals
 dropRefusals d = (not (inRange d), 8) ∷ (idle (d .pending), 7) ∷ []
 
 unfoldable pub dropOf : Device → Told
-dropOf d = refuses (dropRefusals d) (toldRefused d) (told (cleared d) A.Done)
+dropOf d = refuses (dropRefusals d) (toldRefused d) (told (cleared d) Answer.Done)
 
 -- the shift report: 8, then 1, 4, 3; it changes nothing
 abbrev pub shiftRefusals : Lent → Device → VirtualAddress → Refusals
@@ -169,4 +164,4 @@ shiftRefusals m d va =
     ∷ []
 
 unfoldable pub shiftOf : Lent → Device → VirtualAddress → Shift
-shiftOf m d va = refuses (shiftRefusals m d va) H.Refused (shiftBy va (look m d va .found))
+shiftOf m d va = refuses (shiftRefusals m d va) Shift.Refused (shiftBy va (look m d va .found))

@@ -7,14 +7,13 @@ use Rattle.meters.specs.Posted.{noTally}
 use Rattle.bank.specs.Slots.{freshBank, bankOk}
 use Rattle.bank.specs.Changes.{entryFilled}
 use Rattle.registers.specs.Fields.{freshRegisters, registersOk, pendingOk}
-use Rattle.registers.specs.declared.Pending.the-variants as P
-use Rattle.registers.specs.declared.Answer.the-variants as A
+use Rattle.registers.specs.declared.Pending.{Pending}
 use Rattle.decision.specs.Decisions.{decided, settled, tallyOf, billed}
 use Rattle.unit.specs.Types.{Access, VirtualAddress, Lent, Walked, Bill, Prices, Bank, Fill, Answer, Decision, Shift, Registers, Device, Outcome, Told, Reported}
 
 -- a fresh device is all zero
 abbrev pub freshDevice : Device
-freshDevice = record { registers = freshRegisters; bank = freshBank; pending = P.Nothing }
+freshDevice = record { registers = freshRegisters; bank = freshBank; pending = Pending.Nothing }
 
 -- every field is in its range; where one is not, every call answers 8
 unfoldable pub inRange : Device → Bool
@@ -28,17 +27,17 @@ abbrev pub setBank : Device → Bank → Device
 setBank d b = record { registers = d .registers; bank = b; pending = d .pending }
 
 abbrev pub cleared : Device → Device
-cleared d = record { registers = d .registers; bank = d .bank; pending = P.Nothing }
+cleared d = record { registers = d .registers; bank = d .bank; pending = Pending.Nothing }
 
 -- what a call hands back: accepted with nothing to say, or refused, and then nothing changes
 abbrev pub told : Device → Answer → Told
 told d r = record { device = d; answer = r }
 
 abbrev pub toldRefused : Device → ℕ → Told
-toldRefused d k = told d (A.Refused k)
+toldRefused d k = told d (Answer.Refused k)
 
 abbrev pub toldDone : Device → Told
-toldDone d = told d A.Done
+toldDone d = told d Answer.Done
 
 abbrev pub reported : Device → Shift → Reported
 reported d s = record { device = d; shift = s }

@@ -72,8 +72,8 @@ fn act<'a>(
     let p = d.pending;
     let mut cam = b.cam;
     let mut ram = b.ram;
-    let mut lows = slots::lows(&cam);
-    let mut highs = slots::highs(&cam);
+    let mut lows = bank::slots::lows(&cam);
+    let mut highs = bank::slots::highs(&cam);
     let x = perform::perform(
         plan,
         &mut cam,

@@ -1,3 +1,5 @@
 pub mod Indices
 pub mod Walks
 pub mod Words
+pub mod Difference
+pub mod Laws

@@ -2,33 +2,31 @@
 use mathlib.Core.Path.{_≡_, refl, sym, _∙_, ap}
 use mathlib.Core.Bool.{true, false}
 use Prim.Native.Nat.{ℕ}
-use Rattle.memory.specs.Memory.{Lent, lentOk, partAt, wordOf}
+use Rattle.memory.specs.Memory.{Lent, lentOk, partAt}
+use Rattle.wire.specs.Words.{wordOf}
 use Rattle.memory.specs.declared.Place.{Place}
 use Rattle.memory.specs.declared.Source.{Source}
 use Rattle.memory.proofs.Places.{place-ok, place-refused}
-use Rattle.descriptors.specs.declared.First.{First}
-use Rattle.descriptors.specs.declared.First.the-variants.{Fault, Coarse, Whole, Fine}
+use Rattle.walk.specs.declared.First.{First}
 use Rattle.walk.specs.declared.Read.{Read}
-use Rattle.walk.specs.declared.Read.the-variants.{Word, Missing}
-use Rattle.descriptors.specs.declared.Table.{Table}
-use Rattle.descriptors.specs.declared.Table.the-variants as T
-use Rattle.descriptors.specs.Descriptors.{firstOf}
+use Rattle.walk.specs.declared.Table.{Table}
+use Rattle.walk.specs.Descriptors.{firstOf}
 use Rattle.walk.specs.Walk.{coarseAt, fineAt, readAt, readIn, readWithin, sourceAt, missing, afterSecond, byFirst, afterFirst, walkFrom, walkOf, walkIn, walkWithin}
-use Rattle.descriptors.specs.Statements.{ProperFirst, Proper}
+use Rattle.walk.specs.Distances.{ProperFirst, Proper}
 use Rattle.walk.specs.Statements.{bare, AgreeBelow, AgreeAfter}
-use Rattle.descriptors.proofs.Laws.{first-proper, second-proper}
+use Rattle.walk.proofs.Laws.{first-proper, second-proper}
 
 -- readings that agree at the words read walk alike
 module _ (rd rd′ : ℕ → Read) (dec : ℕ → First) (va a : ℕ) where
   below : (s : Source) (d : First) → AgreeBelow rd rd′ va d → byFirst rd va s d ≡ byFirst rd′ va s d
-  below s Fault e = refl
-  below s (Whole p) e = refl
-  below s (Coarse t) e = ap (afterSecond T.Coarse s (coarseAt t va)) e
-  below s (Fine t) e = ap (afterSecond T.Fine s (fineAt t va)) e
+  below s First.Fault e = refl
+  below s (First.Whole p) e = refl
+  below s (First.Coarse t) e = ap (afterSecond Table.Coarse s (coarseAt t va)) e
+  below s (First.Fine t) e = ap (afterSecond Table.Fine s (fineAt t va)) e
 
   after : (r : Read) → AgreeAfter rd rd′ dec va r → afterFirst rd dec va a r ≡ afterFirst rd′ dec va a r
-  after Missing e = refl
-  after (Word w p) e = below (sourceAt a p) (dec w) e
+  after Read.Missing e = refl
+  after (Read.Word w p) e = below (sourceAt a p) (dec w) e
 
   pub alike-at : rd a ≡ rd′ a → AgreeAfter rd rd′ dec va (rd a) → walkFrom rd dec va a ≡ walkFrom rd′ dec va a
   unfolding walkFrom
@@ -37,14 +35,14 @@ module _ (rd rd′ : ℕ → Read) (dec : ℕ → First) (va a : ℕ) where
 -- readings that agree everywhere walk alike
 module _ (rd rd′ : ℕ → Read) (e : (x : ℕ) → rd x ≡ rd′ x) (dec : ℕ → First) (va a : ℕ) where
   agree-below : (d : First) → AgreeBelow rd rd′ va d
-  agree-below Fault = tt
-  agree-below (Whole p) = tt
-  agree-below (Coarse t) = e (coarseAt t va)
-  agree-below (Fine t) = e (fineAt t va)
+  agree-below First.Fault = tt
+  agree-below (First.Whole p) = tt
+  agree-below (First.Coarse t) = e (coarseAt t va)
+  agree-below (First.Fine t) = e (fineAt t va)
 
   agree-after : (r : Read) → AgreeAfter rd rd′ dec va r
-  agree-after Missing = tt
-  agree-after (Word w p) = agree-below (dec w)
+  agree-after Read.Missing = tt
+  agree-after (Read.Word w p) = agree-below (dec w)
 
   pub alike : walkFrom rd dec va a ≡ walkFrom rd′ dec va a
   alike = alike-at rd rd′ dec va a (e a) (agree-after (rd a))
@@ -52,18 +50,18 @@ module _ (rd rd′ : ℕ → Read) (e : (x : ℕ) → rd x ≡ rd′ x) (dec : �
 -- what a walk finds depends on the words alone, not on the places that hold them
 module _ (rd : ℕ → Read) (dec : ℕ → First) (va a : ℕ) where
   second-bare : (t : Table) (s s′ : Source) (b : ℕ) (r : Read) → afterSecond t s b r .found ≡ afterSecond t s′ b (bare r) .found
-  second-bare t s s′ b Missing = refl
-  second-bare t s s′ b (Word w p) = refl
+  second-bare t s s′ b Read.Missing = refl
+  second-bare t s s′ b (Read.Word w p) = refl
 
   first-bare : (s s′ : Source) (d : First) → byFirst rd va s d .found ≡ byFirst (λ x. bare (rd x)) va s′ d .found
-  first-bare s s′ Fault = refl
-  first-bare s s′ (Whole p) = refl
-  first-bare s s′ (Coarse t) = second-bare T.Coarse s s′ (coarseAt t va) (rd (coarseAt t va))
-  first-bare s s′ (Fine t) = second-bare T.Fine s s′ (fineAt t va) (rd (fineAt t va))
+  first-bare s s′ First.Fault = refl
+  first-bare s s′ (First.Whole p) = refl
+  first-bare s s′ (First.Coarse t) = second-bare Table.Coarse s s′ (coarseAt t va) (rd (coarseAt t va))
+  first-bare s s′ (First.Fine t) = second-bare Table.Fine s s′ (fineAt t va) (rd (fineAt t va))
 
   after-bare : (r : Read) → afterFirst rd dec va a r .found ≡ afterFirst (λ x. bare (rd x)) dec va a (bare r) .found
-  after-bare Missing = refl
-  after-bare (Word w p) = first-bare _ _ (dec w)
+  after-bare Read.Missing = refl
+  after-bare (Read.Word w p) = first-bare _ _ (dec w)
 
   pub found-bare : walkFrom rd dec va a .found ≡ walkFrom (λ x. bare (rd x)) dec va a .found
   unfolding walkFrom
@@ -78,18 +76,18 @@ same-words rd rd′ e dec va a =
 -- a page that a walk finds starts at its frame and has two bits of access
 module _ (rd : ℕ → Read) (va : ℕ) where
   proper-second : (t : Table) (s : Source) (b : ℕ) (r : Read) → Proper (afterSecond t s b r .found)
-  proper-second t s b Missing = tt
-  proper-second t s b (Word w p) = second-proper t w
+  proper-second t s b Read.Missing = tt
+  proper-second t s b (Read.Word w p) = second-proper t w
 
   proper-first : (s : Source) (d : First) → ProperFirst d → Proper (byFirst rd va s d .found)
-  proper-first s Fault h = tt
-  proper-first s (Whole p) h = h
-  proper-first s (Coarse t) h = proper-second T.Coarse s (coarseAt t va) (rd (coarseAt t va))
-  proper-first s (Fine t) h = proper-second T.Fine s (fineAt t va) (rd (fineAt t va))
+  proper-first s First.Fault h = tt
+  proper-first s (First.Whole p) h = h
+  proper-first s (First.Coarse t) h = proper-second Table.Coarse s (coarseAt t va) (rd (coarseAt t va))
+  proper-first s (First.Fine t) h = proper-second Table.Fine s (fineAt t va) (rd (fineAt t va))
 
   proper-after : (dec : ℕ → First) → ((w : ℕ) → ProperFirst (dec w)) → (a : ℕ) (r : Read) → Proper (afterFirst rd dec va a r .found)
-  proper-after dec h a Missing = tt
-  proper-after dec h a (Word w p) = proper-first (sourceAt a p) (dec w) (h w)
+  proper-after dec h a Read.Missing = tt
+  proper-after dec h a (Read.Word w p) = proper-first (sourceAt a p) (dec w) (h w)
 
   pub walk-proper : (base : ℕ) → Proper (walkOf rd base va .found)
   unfolding walkFrom
@@ -101,7 +99,7 @@ module _ (m : Lent) where
   unfolding readIn readWithin
   read-ok h a = ap (λ (p : Place). readAt (wordOf (partAt m p)) p) (place-ok m a h)
 
-  pub read-refused : lentOk m ≡ false → (a : ℕ) → readIn m a ≡ Missing
+  pub read-refused : lentOk m ≡ false → (a : ℕ) → readIn m a ≡ Read.Missing
   unfolding readIn
   read-refused h a = ap (λ (p : Place). readAt (wordOf (partAt m p)) p) (place-refused m a h)
 

@@ -5,44 +5,40 @@ use lib.Dec.{eqb}
 use Rattle.memory.specs.Memory.{Lent, placeIn, placeWithin}
 use Rattle.memory.specs.Reads.{wordCount}
 use Rattle.memory.specs.declared.Place.{Place}
-use Rattle.memory.specs.declared.Place.the-variants.{OnChip, External, Nowhere}
 use Rattle.memory.specs.declared.Source.{Source}
-use Rattle.descriptors.proofs.Laws.{second-there}
-use Rattle.descriptors.specs.declared.First.{First}
-use Rattle.descriptors.specs.declared.First.the-variants.{Fault, Coarse, Whole, Fine}
+use Rattle.walk.proofs.Laws.{second-there}
+use Rattle.walk.specs.declared.First.{First}
 use Rattle.walk.specs.declared.Read.{Read}
-use Rattle.walk.specs.declared.Read.the-variants.{Word, Missing}
-use Rattle.descriptors.specs.declared.Table.{Table}
-use Rattle.descriptors.specs.declared.Table.the-variants as T
-use Rattle.descriptors.specs.Descriptors.{firstOf}
+use Rattle.walk.specs.declared.Table.{Table}
+use Rattle.walk.specs.Descriptors.{firstOf}
 use Rattle.walk.specs.Walk.{coarseAt, fineAt, readAt, readIn, readWithin, sourceAt, afterSecond, byFirst, afterFirst, walkFrom, walkIn, walkWithin}
-use Rattle.descriptors.specs.Statements.{isMissing}
+use Rattle.walk.specs.Distances.{isMissing}
 use Rattle.walk.specs.Statements.{PlacedRead, PlacedAt, Placed}
 
 -- a word lies where the reading found it
 module _ (place : ℕ → Place) (rd : ℕ → Read) (h : (x : ℕ) → PlacedRead place x (rd x)) (va : ℕ) where
   placed-second : (t : Table) (s : Source) (b : ℕ) (r : Read) → PlacedAt place s → PlacedRead place b r → Placed place (afterSecond t s b r .reads)
-  placed-second t s b Missing e f = tt
-  placed-second t s b (Word w p) e f = (e, f)
+  placed-second t s b Read.Missing e f = tt
+  placed-second t s b (Read.Word w p) e f = (e, f)
 
   placed-first : (s : Source) (d : First) → PlacedAt place s → Placed place (byFirst rd va s d .reads)
-  placed-first s Fault e = e
-  placed-first s (Whole p) e = e
-  placed-first s (Coarse t) e = placed-second T.Coarse s (coarseAt t va) (rd (coarseAt t va)) e (h (coarseAt t va))
-  placed-first s (Fine t) e = placed-second T.Fine s (fineAt t va) (rd (fineAt t va)) e (h (fineAt t va))
+  placed-first s First.Fault e = e
+  placed-first s (First.Whole p) e = e
+  placed-first s (First.Coarse t) e = placed-second Table.Coarse s (coarseAt t va) (rd (coarseAt t va)) e (h (coarseAt t va))
+  placed-first s (First.Fine t) e = placed-second Table.Fine s (fineAt t va) (rd (fineAt t va)) e (h (fineAt t va))
 
   placed-after : (dec : ℕ → First) (a : ℕ) (r : Read) → PlacedRead place a r → Placed place (afterFirst rd dec va a r .reads)
-  placed-after dec a Missing e = tt
-  placed-after dec a (Word w p) e = placed-first (sourceAt a p) (dec w) e
+  placed-after dec a Read.Missing e = tt
+  placed-after dec a (Read.Word w p) e = placed-first (sourceAt a p) (dec w) e
 
   pub placed : (dec : ℕ → First) (a : ℕ) → Placed place (walkFrom rd dec va a .reads)
   unfolding walkFrom
   placed dec a = placed-after dec a (rd a) (h a)
 
 read-placed : (place : ℕ → Place) (a w : ℕ) (p : Place) → p ≡ place a → PlacedRead place a (readAt w p)
-read-placed place a w (OnChip k) e = e
-read-placed place a w (External k) e = e
-read-placed place a w Nowhere e = tt
+read-placed place a w (Place.OnChip k) e = e
+read-placed place a w (Place.External k) e = e
+read-placed place a w Place.Nowhere e = tt
 
 read-in-placed : (m : Lent) (x : ℕ) → PlacedRead (placeIn m) x (readIn m x)
 unfolding readIn
@@ -61,18 +57,18 @@ walk-within-placed m base va = placed (placeWithin m) (readWithin m) (read-withi
 -- no word counts as read exactly where one is missing
 module _ (rd : ℕ → Read) (va : ℕ) where
   counted-second : (t : Table) (s : Source) (b : ℕ) (r : Read) → eqb (wordCount (afterSecond t s b r .reads)) 0 ≡ isMissing (afterSecond t s b r .found)
-  counted-second t s b Missing = refl
-  counted-second t s b (Word w p) = second-there t w
+  counted-second t s b Read.Missing = refl
+  counted-second t s b (Read.Word w p) = second-there t w
 
   counted-first : (s : Source) (d : First) → eqb (wordCount (byFirst rd va s d .reads)) 0 ≡ isMissing (byFirst rd va s d .found)
-  counted-first s Fault = refl
-  counted-first s (Whole p) = refl
-  counted-first s (Coarse t) = counted-second T.Coarse s (coarseAt t va) (rd (coarseAt t va))
-  counted-first s (Fine t) = counted-second T.Fine s (fineAt t va) (rd (fineAt t va))
+  counted-first s First.Fault = refl
+  counted-first s (First.Whole p) = refl
+  counted-first s (First.Coarse t) = counted-second Table.Coarse s (coarseAt t va) (rd (coarseAt t va))
+  counted-first s (First.Fine t) = counted-second Table.Fine s (fineAt t va) (rd (fineAt t va))
 
   counted-after : (dec : ℕ → First) (a : ℕ) (r : Read) → eqb (wordCount (afterFirst rd dec va a r .reads)) 0 ≡ isMissing (afterFirst rd dec va a r .found)
-  counted-after dec a Missing = refl
-  counted-after dec a (Word w p) = counted-first (sourceAt a p) (dec w)
+  counted-after dec a Read.Missing = refl
+  counted-after dec a (Read.Word w p) = counted-first (sourceAt a p) (dec w)
 
   pub none-where-missing : (dec : ℕ → First) (a : ℕ) → eqb (wordCount (walkFrom rd dec va a .reads)) 0 ≡ isMissing (walkFrom rd dec va a .found)
   unfolding walkFrom

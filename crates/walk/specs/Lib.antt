@@ -1,3 +1,5 @@
 pub mod Walk
 pub mod Statements
 pub mod Uniform
+pub mod Descriptors
+pub mod Distances

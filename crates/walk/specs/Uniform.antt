@@ -2,8 +2,8 @@
 use Rattle.page.specs.Ground.{ℕ, _/_, _^_, _<_, _≡_}
 use Rattle.page.specs.Words.{lowBits}
 use Rattle.page.specs.declared.VirtualAddress.{VirtualAddress}
-use Rattle.descriptors.specs.declared.Page.{Page}
-use Rattle.descriptors.specs.declared.Found.the-variants as D
+use Rattle.walk.specs.declared.Page.{Page}
+use Rattle.walk.specs.declared.Found.{Found}
 use Rattle.walk.specs.declared.Walked.{Walked}
 
 -- what a walk comes to at each address
@@ -13,5 +13,5 @@ Look = VirtualAddress → Walked
 -- where a walk below an end finds a page, it finds the same page at every address of that page
 abbrev pub Uniform : ℕ → Look → Type 0
 Uniform end look =
-    (va va′ : VirtualAddress) (p : Page) → va .0 < end → look va .found ≡ D.Page p →
-    va′ .0 / 2 ^ lowBits (p .kind) ≡ va .0 / 2 ^ lowBits (p .kind) → look va′ .found ≡ D.Page p
+    (va va′ : VirtualAddress) (p : Page) → va .0 < end → look va .found ≡ Found.Page p →
+    va′ .0 / 2 ^ lowBits (p .kind) ≡ va .0 / 2 ^ lowBits (p .kind) → look va′ .found ≡ Found.Page p

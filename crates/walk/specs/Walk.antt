@@ -3,20 +3,16 @@ use Rattle.page.specs.Ground.{ℕ, _+_, _*_, _/_, _%_, _^_}
 use Rattle.page.specs.Low.{upper}
 use Rattle.page.specs.Words.{physical, megabytes}
 use Rattle.page.specs.declared.PhysicalAddress.{PhysicalAddress}
-use Rattle.memory.specs.Memory.{Lent, placeWithin, placeIn, fetchedWithin, fetchedIn, wordOf}
+use Rattle.memory.specs.Memory.{Lent, placeWithin, placeIn, fetchedWithin, fetchedIn}
+use Rattle.wire.specs.Words.{wordOf}
 use Rattle.memory.specs.declared.Place.{Place}
-use Rattle.memory.specs.declared.Place.the-variants.{OnChip, External, Nowhere}
 use Rattle.memory.specs.declared.Source.{Source}
-use Rattle.memory.specs.declared.Reads.the-variants.{Nothing, One, Two}
-use Rattle.descriptors.specs.Descriptors.{firstOf, secondOf}
-use Rattle.descriptors.specs.declared.First.{First}
-use Rattle.descriptors.specs.declared.First.the-variants as F
-use Rattle.descriptors.specs.declared.Table.{Table}
-use Rattle.descriptors.specs.declared.Table.the-variants as T
-use Rattle.descriptors.specs.declared.Found.{Found}
-use Rattle.descriptors.specs.declared.Found.the-variants as D
+use Rattle.memory.specs.declared.Reads.{Reads}
+use Rattle.walk.specs.Descriptors.{firstOf, secondOf}
+use Rattle.walk.specs.declared.First.{First}
+use Rattle.walk.specs.declared.Table.{Table}
+use Rattle.walk.specs.declared.Found.{Found}
 use Rattle.walk.specs.declared.Read.{Read}
-use Rattle.walk.specs.declared.Read.the-variants as R
 use Rattle.walk.specs.declared.Walked.{Walked}
 
 -- the first-level table starts at a multiple of 2^7, and has a word for each megabyte
@@ -37,9 +33,9 @@ fineAt table va = table .0 + 4 * (va / 2 ^ 10 % 2 ^ 10)
 
 -- a word and the place that holds it, or that there is none
 abbrev pub readAt : ℕ → Place → Read
-readAt w (OnChip k) = R.Word w (OnChip k)
-readAt w (External k) = R.Word w (External k)
-readAt w Nowhere = R.Missing
+readAt w (Place.OnChip k) = Read.Word w (Place.OnChip k)
+readAt w (Place.External k) = Read.Word w (Place.External k)
+readAt w Place.Nowhere = Read.Missing
 
 -- what two lent memories read at an address, with no look at refusal 4
 unfoldable pub readWithin : Lent → ℕ → Read
@@ -55,28 +51,28 @@ sourceAt a p = record { at = physical a; place = p }
 
 -- a walk that misses a word counts none as read
 abbrev pub missing : Walked
-missing = record { found = D.Missing; reads = Nothing }
+missing = record { found = Found.Missing; reads = Reads.Nothing }
 
 -- a walk that ends with its first word
 abbrev pub ended : Found → Source → Walked
-ended f s = record { found = f; reads = One s }
+ended f s = record { found = f; reads = Reads.One s }
 
 -- after the first word s, the second stands at b of a table
 abbrev pub afterSecond : Table → Source → ℕ → Read → Walked
-afterSecond t s b R.Missing = missing
-afterSecond t s b (R.Word w p) = record { found = secondOf t w; reads = Two s (sourceAt b p) }
+afterSecond t s b Read.Missing = missing
+afterSecond t s b (Read.Word w p) = record { found = secondOf t w; reads = Reads.Two s (sourceAt b p) }
 
 -- after the first word s, by what it says
 abbrev pub byFirst : (ℕ → Read) → ℕ → Source → First → Walked
-byFirst rd va s F.Fault = ended D.NoPage s
-byFirst rd va s (F.Whole p) = ended (D.Page p) s
-byFirst rd va s (F.Coarse t) = afterSecond T.Coarse s (coarseAt t va) (rd (coarseAt t va))
-byFirst rd va s (F.Fine t) = afterSecond T.Fine s (fineAt t va) (rd (fineAt t va))
+byFirst rd va s First.Fault = ended Found.NoPage s
+byFirst rd va s (First.Whole p) = ended (Found.Page p) s
+byFirst rd va s (First.Coarse t) = afterSecond Table.Coarse s (coarseAt t va) (rd (coarseAt t va))
+byFirst rd va s (First.Fine t) = afterSecond Table.Fine s (fineAt t va) (rd (fineAt t va))
 
 -- after the first word at a, by a decoding of it
 abbrev pub afterFirst : (ℕ → Read) → (ℕ → First) → ℕ → ℕ → Read → Walked
-afterFirst rd dec va a R.Missing = missing
-afterFirst rd dec va a (R.Word w p) = byFirst rd va (sourceAt a p) (dec w)
+afterFirst rd dec va a Read.Missing = missing
+afterFirst rd dec va a (Read.Word w p) = byFirst rd va (sourceAt a p) (dec w)
 
 -- the walk over any reading and decoding whose first word stands at a
 unfoldable pub walkFrom : (ℕ → Read) → (ℕ → First) → ℕ → ℕ → Walked

@@ -1,15 +1,15 @@
 // The plain walk of two lent memories.
-use descriptors::First;
-use descriptors::Found;
-use descriptors::Table;
+pub mod descriptors;
+
 use memory::Place;
 use memory::Reads;
 use memory::Source;
+use page::Kind;
 use page::PhysicalAddress;
 use page::VirtualAddress;
 ghost use mathlib.Core.Path.{_≡_};
 ghost use Rattle.memory.specs.Memory.{lent};
-ghost use Rattle.descriptors.specs.Descriptors.{Room};
+ghost use Rattle.walk.specs.Descriptors.{Room};
 ghost use Rattle.walk.specs.Walk.{missing, ended, readWithin, afterSecond, byFirst, walkIn, walkWithin};
 
 // A descriptor word and the place that holds it, or that neither memory does.
@@ -22,6 +22,34 @@ pub enum Read {
 pub struct Walked {
     pub found: Found,
     pub reads: Reads,
+}
+
+// A page that a descriptor gives.
+pub struct Page {
+    pub kind: Kind,
+    pub frame: PhysicalAddress,
+    pub access: u32,
+}
+
+// A first-level word.
+pub enum First {
+    Fault,
+    Coarse(PhysicalAddress),
+    Whole(Page),
+    Fine(PhysicalAddress),
+}
+
+// The two kinds of second-level table.
+pub enum Table {
+    Coarse,
+    Fine,
+}
+
+// What a walk finds.
+pub enum Found {
+    Page(Page),
+    NoPage,
+    Missing,
 }
 
 // A walk that misses a word.
@@ -56,7 +84,7 @@ pub fn read_word<'a>(
 {
     let place = memory::locate_within(on, onbase, ext, extbase, at);
     let part = memory::fetch_within(on, onbase, ext, extbase, at);
-    let w = memory::word_of(part);
+    let w = wire::word_of(part);
     match place {
         Place::OnChip(k) => {
             return Read::Word(w, Place::OnChip(k));

@@ -1,2 +1,4 @@
 pub mod Placing
 pub mod Reading
+pub mod Complement
+pub mod Splices

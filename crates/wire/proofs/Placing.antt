@@ -10,8 +10,7 @@ use borrow.Author.Tests.{le-leb, lt-leb}
 use Rattle.page.proofs.Picks.{pick-yes}
 use lib.ListN.{length, getD, take, drop, length-append, length-drop, take-append-drop}
 use lib.Seq.{length-take-le, take-at, drop-cons, drop-nil, drop-append-add, drop-drop}
-use Rattle.image.specs.Image.{wordBytes}
-use Rattle.wire.specs.Words.{bytesOf, placed, written}
+use Rattle.wire.specs.Words.{wordBytes, bytesOf, placed, wordsPut}
 
 pub bytes-length : (ws : List ℕ) → length (bytesOf ws) ≡ 4 * length ws
 unfolding bytesOf
@@ -59,8 +58,8 @@ followed l m n at k ws vs e h p q =
     q ∙ ap₂ (λ (x : List ℕ) (i : ℕ). placed x i vs) p e ∙ placed-then l at ws (omega arith) vs h
 
 -- words that have room are placed
-pub written-fits : (l : List ℕ) (at : ℕ) (ws : List ℕ) → at + 4 * length ws ≤ length l → written l at ws ≡ placed l at ws
-unfolding written
+pub written-fits : (l : List ℕ) (at : ℕ) (ws : List ℕ) → at + 4 * length ws ≤ length l → wordsPut l at ws ≡ placed l at ws
+unfolding wordsPut
 written-fits l at ws h = pick-yes _ _ _ (le-leb _ _ h)
 
 -- one word of a list, and those that are left

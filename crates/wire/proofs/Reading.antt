@@ -6,8 +6,7 @@ use native.Mathlib.Omega.{arith}
 use lib.ListN.{length, take, drop, length-take, length-drop}
 use borrow.Author.Tests.{lt-leb}
 use Rattle.page.proofs.Picks.{pick-no}
-use Rattle.memory.specs.Memory.{wordOf}
-use Rattle.wire.specs.Words.{wordAt}
+use Rattle.wire.specs.Words.{wordOf, wordAt}
 
 pub word-none : (s : List ℕ) (at : ℕ) → length s < at + 4 → wordAt s at ≡ 0
 unfolding wordOf

@@ -1,8 +1,18 @@
 -- Words and bytes in a buffer; all numbers are little-endian.
-use Rattle.page.specs.Ground.{ℕ, _+_, _*_, _/_, _%_, _^_, List, [], _∷_, _++_, leb, length, take, drop}
+use Rattle.page.specs.Ground.{ℕ, _+_, _*_, _/_, _%_, _^_, List, [], _∷_, _++_, leb, length, take, drop, getD}
 use Rattle.page.specs.Pick.{pick}
-use Rattle.memory.specs.Memory.{wordOf}
-use Rattle.image.specs.Image.{wordBytes}
+
+-- four bytes as a number, little-endian
+abbrev pub littleEndian : ℕ → ℕ → ℕ → ℕ → ℕ
+littleEndian a b c d = a + 256 * b + 65536 * c + 16777216 * d
+
+-- the word that a part's first four bytes are; 0 where there are fewer
+unfoldable pub wordOf : List ℕ → ℕ
+wordOf s = pick (leb 4 (length s)) (littleEndian (getD s 0 0) (getD s 1 0) (getD s 2 0) (getD s 3 0)) 0
+
+-- a word's four bytes, little-endian
+abbrev pub wordBytes : ℕ → List ℕ
+wordBytes w = w % 256 ∷ w / 256 % 256 ∷ w / 65536 % 256 ∷ w / 16777216 % 256 ∷ []
 
 -- the bytes of words, one behind the other
 unfoldable pub bytesOf : List ℕ → List ℕ
@@ -14,8 +24,8 @@ unfoldable pub placed : List ℕ → ℕ → List ℕ → List ℕ
 placed l at ws = take at l ++ (bytesOf ws ++ drop (at + 4 * length ws) l)
 
 -- the same where there is room for them, nothing where there is not
-unfoldable pub written : List ℕ → ℕ → List ℕ → List ℕ
-written l at ws = pick (leb (at + 4 * length ws) (length l)) (placed l at ws) l
+unfoldable pub wordsPut : List ℕ → ℕ → List ℕ → List ℕ
+wordsPut l at ws = pick (leb (at + 4 * length ws) (length l)) (placed l at ws) l
 
 -- a number of 8 bytes as two words
 abbrev pub wide : ℕ → List ℕ

@@ -4,7 +4,25 @@ ghost use mathlib.Core.List.{[], _∷_};
 ghost use Prim.Native.Nat.{_+_, _*_, _≤_};
 ghost use lib.Dec.{leb};
 ghost use lib.ListN.{length, getD};
-ghost use Rattle.wire.specs.Words.{placed, written, halves, swapped, wordAt, lowAt, highAt};
+ghost use Rattle.wire.specs.Words.{littleEndian, wordOf, placed, wordsPut, halves, swapped, wordAt, lowAt, highAt};
+ghost use Rattle.wire.specs.Signed.{twos};
+
+// Four bytes as a number, little-endian.
+pub fn word(a: u8, b: u8, c: u8, d: u8) -> u32
+    ensures { λ r. ⌜ r ≡ littleEndian a b c d ⌝ }
+{
+    a as u32 + 256 * (b as u32) + 65536 * (c as u32) + 16777216 * (d as u32)
+}
+
+// The word that a part's first four bytes are; 0 where there are fewer.
+pub fn word_of(s: &[u8]) -> u32
+    ensures { λ r. ⌜ r ≡ wordOf (now (s .entry)) ⌝ }
+{
+    if s.len() < 4 {
+        return 0;
+    }
+    word(s[0], s[1], s[2], s[3])
+}
 
 // Two numbers of 16 bits, as they lie one behind the other.
 pub fn halves(a: u16, b: u16) -> u32
@@ -56,7 +74,7 @@ fn put_all(out: &mut [u8], at: usize, words: &[u32])
 
 // Words from an offset on, where they have room.
 pub fn put(out: &mut [u8], at: usize, words: &[u32])
-    ensures { λ _. ⌜ now (out .exit) ≡ written (now (out .entry)) at (now (words .entry)) ⌝ }
+    ensures { λ _. ⌜ now (out .exit) ≡ wordsPut (now (out .entry)) at (now (words .entry)) ⌝ }
 {
     if room(out.len(), at, words.len()) {
         put_all(out, at, words);
@@ -80,7 +98,7 @@ pub fn word_at(s: &[u8], at: usize) -> u32
     if !room(s.len(), at, 1) {
         return 0;
     }
-    memory::word_of(&s[at..at + 4])
+    word_of(&s[at..at + 4])
 }
 
 // The first and the second 16 bits of the word at an offset.
@@ -94,4 +112,14 @@ pub fn high_at(s: &[u8], at: usize) -> u16
     ensures { λ r. ⌜ r ≡ highAt (now (s .entry)) at ⌝ }
 {
     (word_at(s, at) / 65536) as u16
+}
+
+// A number in two's complement.
+pub fn twos(d: i64) -> u64
+    ensures { λ r. ⌜ r ≡ twos d ⌝ }
+{
+    if d < 0 {
+        return 18446744073709551615 - (-1 - d) as u64;
+    }
+    d as u64
 }

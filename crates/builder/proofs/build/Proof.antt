@@ -2,8 +2,8 @@ use mathlib.Core.Path.{refl, sym, _∙_, ap}
 use borrow.Author.Tests.{not-true, not-false}
 use native.Mathlib.Omega.{arith}
 use Prim.Native.Nat.{ℕ}
-use Rattle.image.proofs.Whole.{written-short, written-image}
-use Rattle.builder.specs.declared.Built.the-variants.{Length, TooLong}
+use Rattle.builder.proofs.Whole.{written-short, written-image}
+use Rattle.builder.specs.declared.Built.{Built}
 use Rattle.builder.specs.Build.{outcome}
 use Rattle.builder.proofs.Answers.{answer-memory, answer-record, answer-overlap, answer-long, answer-length, outcome-is}
 use borrow.Author.Needs.{needs}
@@ -43,7 +43,7 @@ returns-2 c =
     let k = c .before .before .before .before .before .before .before .before .before .check .ensures in
     let fine = c .before .before .before .before .before .before .before .enum-told .given .1 in
     let w = c .before .before .before .before .write .ensures (k .1 fine refl) in
-    ap (λ (n : ℕ). outcome (TooLong n) (c .before .before .before .before .write .last .1 .1 .1 .0)) (c .count .ensures)
+    ap (λ (n : ℕ). outcome (Built.TooLong n) (c .before .before .before .before .write .last .1 .1 .1 .0)) (c .count .ensures)
     ∙ outcome-is (a .records .now) (a .base) (a .memory .now) _ _
     (answer-long (a .records .now) (a .base) _ (sym (c .before .before .before .before .before .before .before .before .before .before .before .before .room-ok .ensures) ∙ not-false _ (c .before .before .before .before .before .before .before .before .before .before .before .if1 .left)) (sym (k .0) ∙ fine) (omega (arith, w .0)))
     (w .1 ∙ written-short _ _ _ (omega (arith, w .0)))
@@ -67,7 +67,7 @@ returns-5 c =
     let k = c .before .before .before .before .before .before .before .before .check .ensures in
     let fine = c .before .before .before .before .before .before .enum-told .given .1 in
     let w = c .before .before .before .write .ensures (k .1 fine refl) in
-    ap (λ (n : ℕ). outcome (Length n) (c .before .before .before .write .last .1 .1 .1 .0)) (w .0)
+    ap (λ (n : ℕ). outcome (Built.Length n) (c .before .before .before .write .last .1 .1 .1 .0)) (w .0)
     ∙ outcome-is (a .records .now) (a .base) (a .memory .now) _ _
     (answer-length (a .records .now) (a .base) _ (sym (c .before .before .before .before .before .before .before .before .before .before .before .room-ok .ensures) ∙ not-false _ (c .before .before .before .before .before .before .before .before .before .before .if1 .left)) (sym (k .0) ∙ fine) (omega (arith, w .0)))
     (w .1 ∙ written-image _ _ _ (omega (arith, w .0)))

@@ -1,5 +1,5 @@
 use Rattle.calls.specs.Records.{callOf}
-use Rattle.kinds.specs.Kinds.{callFrom}
+use Rattle.calls.specs.Kinds.{callFrom}
 use mathlib.Core.Path.{ap₂, _∙_}
 use borrow.Author.Needs.{needs}
 use Rattle.calls.proofs.call_of.Statement.{statement}

@@ -6,7 +6,7 @@ use native.Mathlib.Omega.{arith}
 use lib.ListN.{length, take, drop}
 use Prim.Native.Nat.{ℕ, _+_, _<_, _≤_, _-_}
 use Rattle.calls.specs.Records.{callOf, callAt}
-use Rattle.kinds.proofs.Good.{alike}
+use Rattle.calls.proofs.Good.{alike}
 use borrow.Author.Needs.{needs}
 use Rattle.calls.proofs.decode_known.Statement.{statement}
 use Rattle.calls.proofs.decode_known.Tie as tie

@@ -1,5 +1,6 @@
 use Rattle.capi.proofs.Offsets.{fetched-number}
-use Rattle.memory.specs.Memory.{lent, wordOf}
+use Rattle.memory.specs.Memory.{lent}
+use Rattle.wire.specs.Words.{wordOf}
 use mathlib.Core.Path.{_∙_, ap}
 use denote.Ref.{now}
 use borrow.Author.Needs.{needs}

@@ -2,7 +2,7 @@ use mathlib.Core.Path.{ap₂, sym, _∙_, ap}
 use Rattle.memory.specs.Memory.{lent}
 use Rattle.prices.specs.declared.Prices.{Prices}
 use Rattle.session.specs.declared.Bench.{Bench}
-use Rattle.handed.specs.Handed.{pricesOf}
+use Rattle.state.specs.Handed.{pricesOf}
 use Rattle.capi.specs.Boundary.{fromOf}
 use Rattle.capi.proofs.Handing.{from-state}
 use Rattle.run.specs.Run.{Ran, runWith}

@@ -1,5 +1,5 @@
 use Rattle.decision.specs.Decisions.{byAccess, plainly}
-use Rattle.bill.specs.declared.Seen.the-variants as S
+use Rattle.bill.specs.declared.Seen.{Seen}
 use Rattle.registers.specs.declared.Answer.{Answer}
 use Rattle.page.specs.declared.PhysicalAddress.{PhysicalAddress}
 use mathlib.Core.Path.{ap₂, _∙_, ap}
@@ -21,7 +21,7 @@ plain-requires : tie.Need-plain-requires
 plain-requires c κs = search needs
 
 returns : tie.Need-returns
-returns c = c .plain .ensures ∙ ap (λ (x : Answer). plainly x S.Match) (c .before .by-access .ensures ∙ ap₂ (λ (n : ℕ) (x : PhysicalAddress). byAccess n x (c .before .before .before .before .args .a)) (c .before .before .access-of .ensures) (c .before .before .before .translated .ensures))
+returns c = c .plain .ensures ∙ ap (λ (x : Answer). plainly x Seen.Match) (c .before .by-access .ensures ∙ ap₂ (λ (n : ℕ) (x : PhysicalAddress). byAccess n x (c .before .before .before .before .args .a)) (c .before .before .access-of .ensures) (c .before .before .before .translated .ensures))
 
 pub by-match-spec : {M : Type 1} → statement M
 by-match-spec =

@@ -1,7 +1,7 @@
 use mir.Facts.{toZ-ofZ}
-use Rattle.descriptors.specs.Descriptors.{distanceOf}
+use Rattle.walk.specs.Descriptors.{distanceOf}
 use Rattle.decision.specs.Prefetches.{shiftBy}
-use Rattle.decision.specs.declared.Shift.the-variants.{Distance}
+use Rattle.decision.specs.declared.Shift.{Shift}
 use Rattle.page.specs.declared.PhysicalAddress.{PhysicalAddress}
 use mathlib.Core.Path.{sym, _∙_, ap}
 use borrow.Author.Needs.{needs}
@@ -33,7 +33,7 @@ returns-3 : tie.Need-returns-3
 returns-3 c =
     let s3 = c .before .before .before in
     let s5 = s3 .before .before in
-    ap Distance (toZ-ofZ (record { sfits = c .distance .ok }) ∙ c .distance .ensures ∙ ap (λ (p : PhysicalAddress). distanceOf p (s5 .args .va)) (c .before .physical .ensures)) ∙
+    ap Shift.Distance (toZ-ofZ (record { sfits = c .distance .ok }) ∙ c .distance .ensures ∙ ap (λ (p : PhysicalAddress). distanceOf p (s5 .args .va)) (c .before .physical .ensures)) ∙
     sym (ap (shiftBy (s5 .args .va)) (s3 .found .given .1))
 
 pub shift-by-spec : {M : Type 1} → statement M

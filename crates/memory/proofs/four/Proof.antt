@@ -2,7 +2,6 @@ use lib.ListN.{take, drop}
 use native.Mathlib.Nat.{add-sub-cancel-left}
 use mathlib.Core.Path.{refl, ap}
 use denote.Ref.{now}
-use native.Mathlib.Omega.{arith}
 use Prim.Native.Nat.{ℕ}
 use borrow.Author.Needs.{needs}
 use Rattle.memory.proofs.four.Statement.{statement}

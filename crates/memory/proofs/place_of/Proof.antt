@@ -1,4 +1,4 @@
-use Rattle.spans.proofs.Spans.{held-from}
+use Rattle.memory.proofs.Apart.{held-from}
 use mathlib.Core.Path.{sym, _∙_}
 use Rattle.page.proofs.Picks.{pick-yes, pick-no}
 use borrow.Author.Needs.{needs}

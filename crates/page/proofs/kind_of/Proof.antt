@@ -1,5 +1,5 @@
 use Rattle.page.specs.Words.{kindOf}
-use Rattle.page.specs.declared.Kind.the-variants.{Section, Large, Small}
+use Rattle.page.specs.declared.Kind.{Kind}
 use mathlib.Core.Path.{sym, _∙_}
 use Rattle.page.proofs.Picks.{pick-no}
 use Rattle.page.proofs.Slot.{kindOf-type}
@@ -8,13 +8,13 @@ use Rattle.page.proofs.kind_of.Statement.{statement}
 use Rattle.page.proofs.kind_of.Tie as tie
 
 returns : tie.Need-returns
-returns c = sym (kindOf-type _ Section (c .match .keys1))
+returns c = sym (kindOf-type _ Kind.Section (c .match .keys1))
 
 returns-2 : tie.Need-returns-2
-returns-2 c = sym (kindOf-type _ Large (c .match .keys2))
+returns-2 c = sym (kindOf-type _ Kind.Large (c .match .keys2))
 
 returns-3 : tie.Need-returns-3
-returns-3 c = sym (kindOf-type _ Small (c .match .keys3))
+returns-3 c = sym (kindOf-type _ Kind.Small (c .match .keys3))
 
 returns-4 : tie.Need-returns-4
 unfolding kindOf

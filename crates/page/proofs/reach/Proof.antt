@@ -1,4 +1,4 @@
-use Prim.Native.Nat.{ℕ, _-_, _^_}
+use Prim.Native.Nat.{_-_, _^_}
 use Rattle.page.specs.Words.{lowBits}
 use Rattle.page.specs.declared.Kind.{Kind}
 use mathlib.Core.Path.{_≡_, sym, ap}

@@ -1,12 +1,11 @@
 use Rattle.perform.proofs.Doing.{plan-performs, attempt-performs, reset-performs}
-use Rattle.perform.specs.Performed.{performed, doneOf, quietPerformed, quietly, Fit}
+use Rattle.perform.specs.Performed.{doneOf, quietPerformed, quietly, Fit}
 use Rattle.memory.specs.Memory.{lent}
-use Rattle.slots.specs.Lanes.{bankOf}
-use mathlib.Core.Path.{_≡_, refl, sym, _∙_, ap}
+use Rattle.bank.specs.InPlace.{bankOf}
+use mathlib.Core.Path.{_≡_, refl, _∙_, ap, subst}
 use denote.Ref.{now}
 use native.Mathlib.Omega.{arith}
 use Prim.Native.Nat.{ℕ, _%_, _<_}
-use mathlib.Core.Path.{subst}
 use lib.ListN.{getD}
 use Rattle.bank.specs.declared.Bank.{Bank}
 use Rattle.bank.specs.Changes.{storedAt}
@@ -16,8 +15,8 @@ use Rattle.registers.specs.declared.Entry.{Entry}
 use Rattle.decision.specs.Prefetches.{shiftBy}
 use Rattle.decision.specs.declared.Shift.{Shift}
 use Rattle.lanes.specs.Lanes.{flushedEntry}
-use Rattle.registers.specs.declared.Answer.the-variants.{Done}
-use Rattle.decision.specs.declared.Said.the-variants.{Answered, Reported}
+use Rattle.registers.specs.declared.Answer.{Answer}
+use Rattle.decision.specs.declared.Said.{Said}
 use borrow.Author.Needs.{needs}
 use Rattle.perform.proofs.perform.Statement.{statement}
 use Rattle.perform.proofs.perform.Tie as tie
@@ -90,7 +89,7 @@ returns-4 c = λ sp fit.
     let m = lent (now (x .on)) (x .onbase) (now (x .ext)) (x .extbase) in
     plan-performs m (x .prices) (x .bill) (x .r) (now (x .cam)) (now (x .ram)) (now (x .lows)) (now (x .highs)) (x .lock) (x .victim) (x .p) (x .plan) _ (s3 .plan3 .given .1) _ _
     (c .quietly3 .ensures) _ _ _ _
-    (ap (λ y. doneOf (quietPerformed (x .r) (x .lock) (x .victim) (x .p) (x .bill) (Answered y)) (now (x .cam)) (now (x .ram))) (c .before .value-at .ensures)) (sp)
+    (ap (λ y. doneOf (quietPerformed (x .r) (x .lock) (x .victim) (x .p) (x .bill) (Said.Answered y)) (now (x .cam)) (now (x .ram))) (c .before .value-at .ensures)) (sp)
 
 enum-known-plan-4 : tie.Need-enum-known-plan-4
 enum-known-plan-4 c = search needs
@@ -109,7 +108,7 @@ returns-5 c = λ sp fit.
     let m = lent (now (x .on)) (x .onbase) (now (x .ext)) (x .extbase) in
     plan-performs m (x .prices) (x .bill) (x .r) (now (x .cam)) (now (x .ram)) (now (x .lows)) (now (x .highs)) (x .lock) (x .victim) (x .p) (x .plan) _ (s3 .plan4 .given .1) _ _
     (c .quietly4 .ensures) _ _ _ _
-    (ap (λ y. doneOf (quietPerformed y (x .lock) (x .victim) (x .p) (x .bill) (Answered Done)) (now (x .cam)) (now (x .ram))) (c .before .set .ensures)) (sp)
+    (ap (λ y. doneOf (quietPerformed y (x .lock) (x .victim) (x .p) (x .bill) (Said.Answered Answer.Done)) (now (x .cam)) (now (x .ram))) (c .before .set .ensures)) (sp)
 
 enum-known-plan-5 : tie.Need-enum-known-plan-5
 enum-known-plan-5 c = search needs
@@ -143,7 +142,7 @@ returns-7 c = λ sp fit.
     let m = lent (now (x .on)) (x .onbase) (now (x .ext)) (x .extbase) in
     plan-performs m (x .prices) (x .bill) (x .r) (now (x .cam)) (now (x .ram)) (now (x .lows)) (now (x .highs)) (x .lock) (x .victim) (x .p) (x .plan) _ (s5 .enum-told2 .given .1)
     _ _ (c .quietly6 .ensures) _ _ _ _
-    (ap (λ y. doneOf (quietPerformed (x .r) (x .lock) (x .victim) (x .p) (x .bill) (Answered Done)) y (now (x .ram))) (c .before .flush .ensures sp .cam-is))
+    (ap (λ y. doneOf (quietPerformed (x .r) (x .lock) (x .victim) (x .p) (x .bill) (Said.Answered Answer.Done)) y (now (x .ram))) (c .before .flush .ensures sp .cam-is))
     (c .before .flush .ensures sp .spanned)
 
 enum-told-3 : tie.Need-enum-told-3
@@ -167,7 +166,7 @@ returns-8 c = λ sp fit.
     let m = lent (now (x .on)) (x .onbase) (now (x .ext)) (x .extbase) in
     plan-performs m (x .prices) (x .bill) (x .r) (now (x .cam)) (now (x .ram)) (now (x .lows)) (now (x .highs)) (x .lock) (x .victim) (x .p) (x .plan) _ (s6 .enum-told3 .given .1)
     _ _ (c .quietly7 .ensures) _ _ _ _
-    (ap (λ y. doneOf (quietPerformed (x .r) (x .lock) (x .victim) (x .p) (x .bill) (Answered Done)) y (now (x .ram)))
+    (ap (λ y. doneOf (quietPerformed (x .r) (x .lock) (x .victim) (x .p) (x .bill) (Said.Answered Answer.Done)) y (now (x .ram)))
     (c .before .flush-at .ensures sp .cam-is ∙ ap (λ v. flushedEntry v (now (x .cam))) (s2 .cam-address .ensures))) (c .before .flush-at .ensures sp .spanned)
 
 enum-told-4 : tie.Need-enum-told-4
@@ -193,7 +192,7 @@ returns-9 c = λ sp fit.
     let s = c .before .store .ensures sp l in
     plan-performs m (x .prices) (x .bill) (x .r) (now (x .cam)) (now (x .ram)) (now (x .lows)) (now (x .highs)) (x .lock) (x .victim) (x .p) (x .plan) _ (s7 .enum-told4 .given .1)
     _ _ (c .quietly8 .ensures) _ _ _ _
-    (ap (λ (y : Bank). quietly (x .r) y (x .p) (x .bill) (Answered Done))
+    (ap (λ (y : Bank). quietly (x .r) y (x .p) (x .bill) (Said.Answered Answer.Done))
     (s .bank-is ∙ ap (storedAt (bankOf (now (x .cam)) (now (x .ram)) (x .lock) (x .victim)) (x .victim)) (s6 .words-of .ensures))) (s .spanned)
 
 enum-told-5 : tie.Need-enum-told-5
@@ -227,7 +226,7 @@ returns-10 c = λ sp fit.
     let e : x .victim % 32 ≡ x .victim = omega (arith, l) in
     plan-performs m (x .prices) (x .bill) (x .r) (now (x .cam)) (now (x .ram)) (now (x .lows)) (now (x .highs)) (x .lock) (x .victim) (x .p) (x .plan) _ (s4 .enum-told5 .given .1)
     _ _ (c .quietly9 .ensures) _ _ _ _
-    (ap (λ (y : Entry). quietly (withCopied (x .r) y) (bankOf (now (x .cam)) (now (x .ram)) (x .lock) (x .victim)) (x .p) (x .bill) (Answered Done))
+    (ap (λ (y : Entry). quietly (withCopied (x .r) y) (bankOf (now (x .cam)) (now (x .ram)) (x .lock) (x .victim)) (x .p) (x .bill) (Said.Answered Answer.Done))
     (c .before .entry-of .ensures ∙ ap (λ (i : ℕ). entryOf (record { cam = getD (now (x .cam)) i 0; ram = getD (now (x .ram)) i 0 })) e)) (sp)
 
 enum-told-6 : tie.Need-enum-told-6
@@ -287,7 +286,7 @@ returns-13 c = λ sp fit.
     let m = lent (now (x .on)) (x .onbase) (now (x .ext)) (x .extbase) in
     plan-performs m (x .prices) (x .bill) (x .r) (now (x .cam)) (now (x .ram)) (now (x .lows)) (now (x .highs)) (x .lock) (x .victim) (x .p) (x .plan) _ (s4 .plan6 .given .1) _ _
     (c .quietly12 .ensures) _ _ _ _
-    (ap (λ (y : Shift). quietly (x .r) (bankOf (now (x .cam)) (now (x .ram)) (x .lock) (x .victim)) (x .p) (x .bill) (Reported y))
+    (ap (λ (y : Shift). quietly (x .r) (bankOf (now (x .cam)) (now (x .ram)) (x .lock) (x .victim)) (x .p) (x .bill) (Said.Reported y))
     (c .before .shift-by .ensures ∙ ap (λ (w : Walked). shiftBy (s4 .plan6 .given .0 .0) (w .found)) (s2 .walk-within .ensures))) (sp)
 
 enum-known-plan-7 : tie.Need-enum-known-plan-7

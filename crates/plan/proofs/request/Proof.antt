@@ -1,7 +1,7 @@
 use mathlib.Core.Path.{sym, _∙_, ap, ap₂}
 use mathlib.Core.Bool.{_&&_, Bool}
 use borrow.Author.Tests.{ltb-true, ltb-false, le-leb, lt-leb}
-use Rattle.plan.specs.declared.Plan.the-variants.{Refused}
+use Rattle.plan.specs.declared.Plan.{Plan}
 use Rattle.plan.proofs.AtOnce.{attempted, refused}
 use lib.Dec.{ltb, leb}
 use borrow.Author.Needs.{needs}
@@ -28,7 +28,7 @@ returns-2 c =
     let s3 = s2 .before in
     let s5 = s3 .before .before in
     let x = s5 .args in
-    ap Refused (c .request-refusal .ensures) ∙ refused (x .ok) (x .memories) (x .prices) (ltb (x .va .0) 16777216) _ _ (leb 16777216 (x .va .0)) _
+    ap Plan.Refused (c .request-refusal .ensures) ∙ refused (x .ok) (x .memories) (x .prices) (ltb (x .va .0) 16777216) _ _ (leb 16777216 (x .va .0)) _
     (λ h. le-leb 16777216 (x .va .0) (ltb-false _ _ h))
     (ap₂ (λ (s t : Bool). ((((x .ok && x .memories) && x .prices) && ltb (x .va .0) 16777216) && s) && t) (sym (s3 .is-idle .ensures)) (sym (s2 .ok .ensures)) ∙
     c .before .if1 .left)

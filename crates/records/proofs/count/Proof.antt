@@ -1,4 +1,4 @@
-use Rattle.records.proofs.Lists.{mappings-length}
+use Rattle.records.proofs.Listed.{mappings-length}
 use mathlib.Core.Path.{sym}
 use Rattle.records.proofs.count.Statement.{statement}
 use Rattle.records.proofs.count.Tie as tie

@@ -1,4 +1,4 @@
-use Rattle.records.proofs.Lists.{mappings-at, mappings-past}
+use Rattle.records.proofs.Listed.{mappings-at, mappings-past}
 use mathlib.Core.Path.{sym, _∙_}
 use borrow.Author.Needs.{needs}
 use Rattle.records.proofs.mapping_at.Statement.{statement}

@@ -3,7 +3,7 @@ use Prim.Native.Nat.{ℕ, _+_, _-_}
 use mathlib.Core.Path.{_≡_, _∙_, ap}
 use denote.Ref.{now}
 use native.Mathlib.Omega.{arith}
-use Rattle.memory.specs.Memory.{wordOf}
+use Rattle.wire.specs.Words.{wordOf}
 use borrow.Author.Needs.{needs}
 use Rattle.records.proofs.word_at.Statement.{statement}
 use Rattle.records.proofs.word_at.Tie as tie

@@ -3,10 +3,10 @@ use Rattle.run.specs.Run.{sessionWords, ran}
 use Rattle.run.proofs.Going.{Going, going-fits, going-on}
 use Rattle.run.proofs.Turns.{run-end}
 use Rattle.calls.proofs.Rest.{calls-all, all-good-at}
-use Rattle.forms.specs.declared.Call.{Call}
+use Rattle.calls.specs.declared.Call.{Call}
 use Rattle.calls.specs.Records.{isGood}
 use Rattle.memory.specs.Memory.{lent}
-use Rattle.slots.specs.Lanes.{bankOf}
+use Rattle.bank.specs.InPlace.{bankOf}
 use Rattle.wire.specs.Words.{placed}
 use Prim.Native.Nat.{ℕ, _+_, _*_, _-_, _≤_}
 use lib.ListN.{length}

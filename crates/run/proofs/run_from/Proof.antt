@@ -1,4 +1,4 @@
-use Rattle.asked.proofs.Room.{run-good, run-fits}
+use Rattle.run.proofs.Room.{run-good, run-fits}
 use Rattle.run.specs.Run.{runWith}
 use mathlib.Core.Path.{sym, _∙_}
 use Rattle.page.proofs.Picks.{pick-yes, pick-no}

@@ -1,4 +1,4 @@
-use Rattle.decision.specs.declared.Said.the-variants.{Answered}
+use Rattle.decision.specs.declared.Said.{Said}
 use Rattle.session.specs.declared.Stepped.{Stepped}
 use Rattle.meters.specs.declared.Meters.{Meters}
 use mathlib.Core.Path.{ap}
@@ -11,7 +11,7 @@ after-requires c κs = search needs
 
 returns : tie.Need-returns
 returns c = let o = c .before .before .before .before .args .outcome in
-    let f : Meters → Stepped = λ (t : Meters). record { bench = record { device = o .device; bill = o .bill; meters = t }; said = Answered (o .answer) } in
+    let f : Meters → Stepped = λ (t : Meters). record { bench = record { device = o .device; bill = o .bill; meters = t }; said = Said.Answered (o .answer) } in
     ap f (c .after .ensures)
 
 pub posted-spec : {M : Type 1} → statement M

@@ -1,7 +1,7 @@
 use mathlib.Core.List.{List, _++_}
-use Rattle.wire.specs.Words.{written}
+use Rattle.wire.specs.Words.{wordsPut}
 use Rattle.state.specs.State.{deviceWords}
-use Rattle.parts.specs.Parts.{meterWords, billWords}
+use Rattle.state.specs.Parts.{meterWords, billWords}
 use Rattle.state.proofs.Lengths.{device-length}
 use Rattle.state.proofs.Parts.{two}
 use mathlib.Core.Path.{refl, _∙_, ap}
@@ -33,7 +33,7 @@ returns : tie.Need-returns
 returns c = let x = c .before .before .before .before .before .before .before .before .before .before .before .before .before .before .args in let b = x .b in
     two (now (x .out)) (c .before .before .before .before .before .before .before .put-device .last .0) _ (deviceWords (x .handed) (b .device)) (meterWords (b .meters) ++ billWords (b .bill)) (x .at)
     (device-length (x .handed) (b .device)) refl (c .before .before .before .before .before .before .before .before .before .before .before .before .before .before .pre) (c .before .before .before .before .before .before .before .put-device .kept .0) (c .before .before .before .before .before .before .before .put-device .ensures)
-    (c .before .before .put .ensures ∙ ap (λ (ws : List ℕ). written (c .before .before .before .before .before .before .before .put-device .last .0) (x .at + 292) ws) (c .before .before .before .before .before .before .before .before .before .rest-words .ensures))
+    (c .before .before .put .ensures ∙ ap (λ (ws : List ℕ). wordsPut (c .before .before .before .before .before .before .before .put-device .last .0) (x .at + 292) ws) (c .before .before .before .before .before .before .before .before .before .rest-words .ensures))
 
 pub put-all-spec : {M : Type 1} → statement M
 put-all-spec =

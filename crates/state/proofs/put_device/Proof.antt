@@ -1,7 +1,7 @@
 use mathlib.Core.List.{List}
-use Rattle.wire.specs.Words.{written}
+use Rattle.wire.specs.Words.{wordsPut}
 use Rattle.state.specs.State.{registerWords, slotWords, pendingWords}
-use Rattle.parts.specs.Parts.{lockWord}
+use Rattle.state.specs.Parts.{lockWord}
 use Rattle.state.proofs.Lengths.{slots-length, pending-length}
 use Rattle.state.proofs.Parts.{three}
 use mathlib.Core.Path.{refl, _∙_, ap}
@@ -48,9 +48,9 @@ returns : tie.Need-returns
 returns c = let x = c .before .before .before .before .before .before .before .before .before .before .before .before .before .before .before .before .before .before .before .before .before .before .args in let d = x .t3 in let l = now (x .out) in
     three l (c .before .before .before .before .before .before .before .before .before .before .before .before .before .before .put .last .0) (c .before .before .before .before .before .before .before .put-slots .last .0) _ (registerWords (d .registers) (lockWord (x .handed) (d .bank .lock) (d .bank .victim))) (slotWords (d .bank .cam) (d .bank .ram) 0 32) (pendingWords (d .pending)) (x .at)
     refl (slots-length (d .bank .cam) (d .bank .ram) 0 32) (pending-length (d .pending)) (c .before .before .before .before .before .before .before .before .before .before .before .before .before .before .before .before .before .before .before .before .before .before .pre) (c .before .before .before .before .before .before .before .before .before .before .before .before .before .before .put .kept .0) (c .before .before .before .before .before .before .before .put-slots .kept .0)
-    (c .before .before .before .before .before .before .before .before .before .before .before .before .before .before .put .ensures ∙ ap (λ (ws : List ℕ). written l (x .at) ws) (c .before .before .before .before .before .before .before .before .before .before .before .before .before .before .before .before .before .before .register-words .ensures ∙ ap (λ (w : ℕ). registerWords (d .registers) w) (c .before .before .before .before .before .before .before .before .before .before .before .before .before .before .before .before .before .before .before .lock-word .ensures)))
+    (c .before .before .before .before .before .before .before .before .before .before .before .before .before .before .put .ensures ∙ ap (λ (ws : List ℕ). wordsPut l (x .at) ws) (c .before .before .before .before .before .before .before .before .before .before .before .before .before .before .before .before .before .before .register-words .ensures ∙ ap (λ (w : ℕ). registerWords (d .registers) w) (c .before .before .before .before .before .before .before .before .before .before .before .before .before .before .before .before .before .before .before .lock-word .ensures)))
     (c .before .before .before .before .before .before .before .put-slots .ensures)
-    (c .before .before .put2 .ensures ∙ ap (λ (ws : List ℕ). written (c .before .before .before .before .before .before .before .put-slots .last .0) (x .at + 284) ws) (c .before .before .before .before .before .before .before .before .before .before .before .before .before .before .before .before .before .pending-words .ensures))
+    (c .before .before .put2 .ensures ∙ ap (λ (ws : List ℕ). wordsPut (c .before .before .before .before .before .before .before .put-slots .last .0) (x .at + 284) ws) (c .before .before .before .before .before .before .before .before .before .before .before .before .before .before .before .before .before .pending-words .ensures))
 
 pub put-device-spec : {M : Type 1} → statement M
 put-device-spec =

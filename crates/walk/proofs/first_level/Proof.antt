@@ -1,5 +1,5 @@
 use Rattle.walk.specs.Walk.{readWithin, byFirst, coarseAt, fineAt}
-use Rattle.descriptors.specs.Descriptors.{Room}
+use Rattle.walk.specs.Descriptors.{Room}
 use Rattle.memory.specs.Memory.{lent}
 use mathlib.Core.Path.{sym, _∙_, ap, subst}
 use denote.Ref.{now}

@@ -1,4 +1,4 @@
-use Rattle.memory.specs.Memory.{wordOf}
+use Rattle.wire.specs.Words.{wordOf}
 use Rattle.walk.specs.Walk.{readAt, readWithin}
 use mathlib.Core.Path.{ap₂, sym, _∙_, ap}
 use borrow.Author.Needs.{needs}

@@ -1,5 +1,5 @@
-use Rattle.memory.specs.declared.Reads.the-variants.{Two}
-use Rattle.descriptors.specs.declared.Found.{Found}
+use Rattle.memory.specs.declared.Reads.{Reads}
+use Rattle.walk.specs.declared.Found.{Found}
 use Rattle.walk.specs.Walk.{afterSecond, sourceAt}
 use mathlib.Core.Path.{sym, _∙_, ap}
 use borrow.Author.Needs.{needs}
@@ -27,7 +27,7 @@ returns c = let a = c .before .before .before .before .before .before .args in
 
 returns-2 : tie.Need-returns-2
 returns-2 c = let a = c .before .before .before .before .before .before .before .args in
-    ap (λ (f : Found). record { found = f; reads = Two (a .first) (sourceAt (a .at .0) (c .before .before .read .given .0 .1 .0)) }) (c .decode-second .ensures)
+    ap (λ (f : Found). record { found = f; reads = Reads.Two (a .first) (sourceAt (a .at .0) (c .before .before .read .given .0 .1 .0)) }) (c .decode-second .ensures)
     ∙ ap (afterSecond (a .table) (a .first) (a .at .0)) (sym (c .before .before .read .given .1) ∙ c .before .before .before .before .read-word .ensures)
 
 pub second-level-spec : {M : Type 1} → statement M

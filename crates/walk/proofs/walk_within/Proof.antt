@@ -1,7 +1,7 @@
 use Rattle.page.specs.Words.{megabytes}
-use Rattle.descriptors.specs.Descriptors.{Room, firstOf}
+use Rattle.walk.specs.Descriptors.{Room, firstOf}
 use Rattle.walk.specs.Walk.{baseBits, firstAt, readWithin, sourceAt, byFirst, afterFirst, walkFrom}
-use Rattle.descriptors.proofs.Laws.{room}
+use Rattle.walk.proofs.Laws.{room}
 use Rattle.memory.specs.Memory.{lent}
 use Rattle.page.specs.Low.{upper}
 use mathlib.Core.Path.{sym, _∙_, ap, subst}

@@ -1,6 +1,6 @@
 use borrow.Author.Tests.{leb-true}
 use lib.ListN.{length}
-use Rattle.wire.specs.Words.{written}
+use Rattle.wire.specs.Words.{wordsPut}
 use mathlib.Core.Path.{sym, _∙_}
 use Rattle.page.proofs.Picks.{pick-yes, pick-no}
 use denote.Ref.{now}
@@ -19,11 +19,11 @@ same-length : tie.Need-same-length
 same-length c = search needs
 
 returns : tie.Need-returns
-unfolding written
+unfolding wordsPut
 returns c = c .before .before .put-all .ensures ∙ sym (pick-yes _ _ _ (sym (c .before .before .before .before .before .room .ensures) ∙ c .before .before .before .before .if1 .taken))
 
 returns-2 : tie.Need-returns-2
-unfolding written
+unfolding wordsPut
 returns-2 c = sym (pick-no _ _ _ (sym (c .before .room .ensures) ∙ c .if1 .left))
 
 pub put-spec : {M : Type 1} → statement M

@@ -1,5 +1,5 @@
 use Rattle.wire.specs.Words.{bytesOf, placed}
-use Rattle.image.proofs.Splices.{put-four}
+use Rattle.wire.proofs.Splices.{put-four}
 use native.Mathlib.Omega.{arith}
 use lib.ListN.{length-set}
 use borrow.Author.Needs.{needs}

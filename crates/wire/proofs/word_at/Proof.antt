@@ -2,7 +2,7 @@ use Rattle.wire.proofs.Reading.{word-none}
 use borrow.Author.Tests.{leb-true, leb-false, not-true, not-false}
 use lib.ListN.{length, take, drop}
 use Prim.Native.Nat.{_-_, ℕ, _+_, _*_}
-use Rattle.memory.specs.Memory.{wordOf}
+use Rattle.wire.specs.Words.{wordOf}
 use mathlib.Core.Path.{_≡_, sym, _∙_, ap}
 use denote.Ref.{now}
 use native.Mathlib.Omega.{arith}

@@ -1,5 +1,5 @@
-use Rattle.slots.proofs.Seeking.{sought-lt}
-use Rattle.slots.proofs.Matching.{sought-looked}
+use Rattle.bank.proofs.Seeking.{sought-lt}
+use Rattle.bank.proofs.Matching.{sought-looked}
 use mathlib.Core.Path.{sym, _∙_}
 use denote.Ref.{now}
 use borrow.Author.Needs.{needs}

@@ -1,9 +1,9 @@
 use Rattle.perform.specs.Charged.{chargedOf}
 use Rattle.walk.specs.Walk.{byFirst, readWithin, coarseAt, fineAt}
 use Rattle.memory.specs.Memory.{lent}
-use Rattle.descriptors.specs.declared.Found.the-variants.{NoPage, Page}
-use Rattle.descriptors.specs.declared.First.{First}
-use Rattle.descriptors.specs.Descriptors.{Room}
+use Rattle.walk.specs.declared.Found.{Found}
+use Rattle.walk.specs.declared.First.{First}
+use Rattle.walk.specs.Descriptors.{Room}
 use Rattle.bill.specs.declared.Bill.{Bill}
 use mathlib.Core.Path.{sym, _∙_, ap, subst}
 use denote.Ref.{now}
@@ -18,7 +18,7 @@ enum-told c = search needs
 returns : tie.Need-returns
 returns c = let a = c .before .before .before .before .args in
     let rd = readWithin (lent (now (a .on)) (a .onbase) (now (a .ext)) (a .extbase)) in
-    ap (λ (b : Bill). record { found = NoPage; words = 1; bill = b }) (c .before .before .before .before .pre .1)
+    ap (λ (b : Bill). record { found = Found.NoPage; words = 1; bill = b }) (c .before .before .before .before .pre .1)
     ∙ ap (λ (x : First). chargedOf (a .prices) (a .before) (byFirst rd (a .va .0) (a .first) x)) (sym (c .enum-told .given .1))
 
 enum-known-d : tie.Need-enum-known-d
@@ -27,7 +27,7 @@ enum-known-d c = search needs
 returns-2 : tie.Need-returns-2
 returns-2 c = let a = c .before .before .before .before .before .args in
     let rd = readWithin (lent (now (a .on)) (a .onbase) (now (a .ext)) (a .extbase)) in
-    ap (λ (b : Bill). record { found = Page (c .before .d .given .0 .0); words = 1; bill = b }) (c .before .before .before .before .before .pre .1)
+    ap (λ (b : Bill). record { found = Found.Page (c .before .d .given .0 .0); words = 1; bill = b }) (c .before .before .before .before .before .pre .1)
     ∙ ap (λ (x : First). chargedOf (a .prices) (a .before) (byFirst rd (a .va .0) (a .first) x)) (sym (c .before .d .given .1))
 
 enum-known-d-2 : tie.Need-enum-known-d-2

@@ -1,7 +1,7 @@
 use Rattle.perform.specs.Charged.{chargedOf}
 use Rattle.walk.specs.Walk.{afterSecond, sourceAt}
 use Rattle.walk.specs.declared.Read.{Read}
-use Rattle.descriptors.specs.declared.Found.{Found}
+use Rattle.walk.specs.declared.Found.{Found}
 use Rattle.bill.specs.Bill.{wordPosted}
 use Rattle.bill.specs.declared.Bill.{Bill}
 use mathlib.Core.Path.{sym, _∙_, ap, ap₂}

@@ -2,9 +2,9 @@ use Rattle.perform.specs.Charged.{chargedOf}
 use Rattle.walk.specs.Walk.{baseBits, firstAt, readWithin, sourceAt, byFirst, afterFirst, walkFrom}
 use Rattle.walk.specs.declared.Read.{Read}
 use Rattle.memory.specs.Memory.{lent}
-use Rattle.descriptors.proofs.Laws.{room}
-use Rattle.descriptors.specs.declared.First.{First}
-use Rattle.descriptors.specs.Descriptors.{Room, firstOf}
+use Rattle.walk.proofs.Laws.{room}
+use Rattle.walk.specs.declared.First.{First}
+use Rattle.walk.specs.Descriptors.{Room, firstOf}
 use Rattle.page.specs.Low.{upper}
 use Rattle.page.specs.Words.{megabytes}
 use mathlib.Core.Path.{sym, _∙_, ap, subst}

@@ -1,0 +1,14 @@
+use mathlib.Core.Path.{sym}
+use borrow.Author.Tests.{lt-ltb, le-ltb}
+use Rattle.page.proofs.Picks.{pick-yes, pick-no}
+use Rattle.bank.proofs.slots.least.Statement.{statement}
+use Rattle.bank.proofs.slots.least.Tie as tie
+
+returns : tie.Need-returns
+returns c = sym (pick-yes _ _ _ (lt-ltb _ _ (c .if1 .taken)))
+
+returns-2 : tie.Need-returns-2
+returns-2 c = sym (pick-no _ _ _ (le-ltb _ _ (c .if1 .left)))
+
+pub least-spec : {M : Type 1} → statement M
+least-spec = tie.close (tie.spec returns returns-2)

@@ -1,0 +1,132 @@
+use mathlib.Core.Path.{refl}
+use native.Mathlib.Omega.{arith}
+use Prim.Native.Nat.{_/_, _^_}
+use borrow.Author.Needs.{needs}
+use Rattle.page.specs.Words.{megabytes}
+use Rattle.records.specs.Mappings.{mappings}
+use Rattle.tables.specs.declared.Second.{Second}
+use Rattle.tables.specs.Tables.{tableOf, tableStart}
+use Rattle.builder.proofs.Levels.{start-even, names-fine, names-coarse, names-none, fine-room, coarse-room}
+use Rattle.builder.proofs.Parts.{mapping-past, mapping-section, mapping-page}
+use Rattle.builder.proofs.image.write_mapping.Statement.{statement}
+use Rattle.builder.proofs.image.write_mapping.Tie as tie
+
+mapping-at-requires : tie.Need-mapping-at-requires
+mapping-at-requires c κs = search needs
+
+returns : tie.Need-returns
+returns c known room =
+    let m = c .before .before .before .mapping-at in
+    let a = c .before .before .before .before .before .before .before in
+    mapping-past (mappings (a .args .records .now)) (a .args .j) (m .result) (m .ensures) (a .pre .1) (a .args .out .now) room (c .if1 .taken)
+
+cast-f : tie.Need-cast-f
+cast-f c = search needs
+
+mul-f : tie.Need-mul-f
+mul-f c = search needs
+
+shared-slice-read-f : tie.Need-shared-slice-read-f
+shared-slice-read-f c = omega (arith, c .before .before .before .before .before .before .before .before .pre .0 .words)
+
+cast-f-2 : tie.Need-cast-f-2
+cast-f-2 c = omega (arith, c .shared-slice-known3 .given (c .before .before .before .before .mapping-at .result .at .0 / 1048576))
+
+sub-write-fine : tie.Need-sub-write-fine
+sub-write-fine c = search needs
+
+write-fine-requires : tie.Need-write-fine-requires
+write-fine-requires c κs =
+    let a = c .before .before .before .before .before .before .before .before .before .before in
+    fine-room _ (a .args .firsts .now) (a .pre .0) (c .before .before .before .before .before .before .mapping-at .result) (c .before .before .before .if1 .left) _ refl (c .before .if2 .taken)
+
+same-length : tie.Need-same-length
+same-length c = search needs
+
+returns-2 : tie.Need-returns-2
+returns-2 c known room =
+    let a = c .before .before .before .before .before .before .before .before .before .before .before .before .before in
+    let ms = mappings (a .args .records .now) in
+    let m = c .before .before .before .before .before .before .before .before .before .mapping-at in
+    let lt = c .before .before .before .before .before .before .if1 .left in
+    let mb = m .result .at .0 / 2 ^ 20 in
+    let n = names-fine (tableOf ms mb) (tableStart megabytes ms mb) _ (start-even ms mb) (known mb lt) (c .before .before .before .before .if2 .taken) in
+    mapping-page ms (a .args .j) (m .result) (m .ensures) (a .pre .1) (a .args .out .now) room mb lt refl Second.Fine (n .0) _ (c .before .before .write-fine .last .0) (n .1) (λ z. omega arith)
+    (c .before .before .write-fine .ensures)
+
+sub-write-coarse : tie.Need-sub-write-coarse
+sub-write-coarse c = search needs
+
+write-coarse-requires : tie.Need-write-coarse-requires
+write-coarse-requires c κs =
+    let a = c .before .before .before .before .before .before .before .before .before .before .before in
+    coarse-room _ (a .args .firsts .now) (a .pre .0) (c .before .before .before .before .before .before .before .mapping-at .result) (c .before .before .before .before .if1 .left) _ refl (c .before .if3 .taken)
+
+same-length-2 : tie.Need-same-length-2
+same-length-2 c = search needs
+
+returns-3 : tie.Need-returns-3
+returns-3 c known room =
+    let a = c .before .before .before .before .before .before .before .before .before .before .before .before .before .before in
+    let ms = mappings (a .args .records .now) in
+    let m = c .before .before .before .before .before .before .before .before .before .before .mapping-at in
+    let lt = c .before .before .before .before .before .before .before .if1 .left in
+    let mb = m .result .at .0 / 2 ^ 20 in
+    let n = names-coarse (tableOf ms mb) (tableStart megabytes ms mb) _ (start-even ms mb) (known mb lt) (c .before .before .before .before .if3 .taken) in
+    mapping-page ms (a .args .j) (m .result) (m .ensures) (a .pre .1) (a .args .out .now) room mb lt refl Second.Coarse (n .0) _ (c .before .before .write-coarse .last .0) (n .1) (λ z. omega arith)
+    (c .before .before .write-coarse .ensures)
+
+cast-put-word : tie.Need-cast-put-word
+cast-put-word c = search needs
+
+mul-put-word : tie.Need-mul-put-word
+mul-put-word c = search needs
+
+section-of-requires : tie.Need-section-of-requires
+section-of-requires c κs = search needs
+
+cast-put-word-2 : tie.Need-cast-put-word-2
+cast-put-word-2 c = search needs
+
+put-word-requires : tie.Need-put-word-requires
+put-word-requires c κs = search needs
+
+same-length-3 : tie.Need-same-length-3
+same-length-3 c = search needs
+
+returns-4 : tie.Need-returns-4
+returns-4 c known room =
+    let a = c .before .before .before .before .before .before .before .before .before .before .before .before .before .before .before in
+    let ms = mappings (a .args .records .now) in
+    let m = c .before .before .before .before .before .before .before .before .before .before .before .mapping-at in
+    let lt = c .before .before .before .before .before .before .before .before .if1 .left in
+    let mb = m .result .at .0 / 2 ^ 20 in
+    mapping-section ms (a .args .j) (m .result) (m .ensures) (a .pre .1) (a .args .out .now) room mb lt refl Second.Absent
+    (names-none (tableOf ms mb) (tableStart megabytes ms mb) _ (start-even ms mb) (known mb lt) (c .before .before .before .before .before .before .if2 .left) (c .before .before .before .before .before .if3 .left))
+    (c .before .before .before .section-of .result) (c .before .before .put-word .last .0) (c .before .before .before .section-of .ensures) refl (c .before .before .put-word .ensures)
+
+pub write-mapping-spec : {M : Type 1} → statement M
+write-mapping-spec =
+    tie.close
+    (tie.spec
+    mapping-at-requires
+    returns
+    cast-f
+    mul-f
+    shared-slice-read-f
+    cast-f-2
+    sub-write-fine
+    write-fine-requires
+    same-length
+    returns-2
+    sub-write-coarse
+    write-coarse-requires
+    same-length-2
+    returns-3
+    cast-put-word
+    mul-put-word
+    section-of-requires
+    cast-put-word-2
+    put-word-requires
+    same-length-3
+    returns-4)

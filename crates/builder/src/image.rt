@@ -1,0 +1,176 @@
+// The image of a list, written into a lent memory.
+use crate::places;
+use page::Kind;
+use page::MEGABYTE;
+use page::MEGABYTES;
+use records::Mapping;
+use tables::Second;
+ghost use mathlib.Core.Path.{_≡_};
+ghost use Prim.Native.Nat.{ℕ, _+_, _*_, _/_, _^_, _<_, _≤_};
+ghost use lib.ListN.{length, getD};
+ghost use mathlib.Core.List.{[]};
+ghost use Rattle.tables.specs.declared.Second.{Second};
+ghost use Rattle.records.specs.Mappings.{mappings};
+ghost use Rattle.page.specs.Words.{megabytes};
+ghost use Rattle.tables.specs.Tables.{imageLength};
+ghost use Rattle.records.specs.Noted.{Kinds};
+ghost use Rattle.tables.specs.Words.{writtenAs, pageWord, addressOf, wordIn, wordsIn};
+ghost use Rattle.builder.specs.Image.{written};
+ghost use Rattle.wire.specs.Spliced.{spliced};
+ghost use Rattle.builder.specs.Parts.{Turned, Filled};
+ghost use Rattle.builder.specs.Places.{Firsts, based, Level};
+
+// The low 32 bits of a word, into a memory.
+fn put_word(out: &mut [u8], at: usize, w: u64)
+    requires { ⌜ at + 4 ≤ length (now out) ⌝ }
+    ensures { λ r. ⌜ now (out .exit) ≡ spliced (now (out .entry)) at (λ (_ : ℕ). w) 1 ⌝ }
+{
+    out[at] = (w % 256) as u8;
+    out[at + 1] = (w / 256 % 256) as u8;
+    out[at + 2] = (w / 65536 % 256) as u8;
+    out[at + 3] = (w / 16777216 % 256) as u8;
+}
+
+// A number of zero words, into a memory.
+fn write_zeros(out: &mut [u8], at: usize, n: usize)
+    requires { ⌜ at + 4 * n ≤ length (now out) ⌝ }
+    ensures { λ r. ⌜ now (out .exit) ≡ spliced (now (out .entry)) at (λ (_ : ℕ). 0) n ⌝ }
+{
+    let mut k = 0;
+    while k < n {
+        put_word(out, at + 4 * k, 0);
+        k += 1;
+    }
+}
+
+// Words that rise by a step, into a memory.
+fn write_run(out: &mut [u8], at: usize, n: usize, w: u64, d: u64)
+    requires { ⌜ (w < 2 ^ 33) × (d ≤ 4096) × (n ≤ 1024) × (at + 4 * n ≤ length (now out)) ⌝ }
+    ensures { λ r. ⌜ now (out .exit) ≡ spliced (now (out .entry)) at (λ (y : ℕ). w + d * y) n ⌝ }
+{
+    let mut y = 0;
+    while y < n {
+        put_word(out, at + 4 * y, w + d * y as u64);
+        y += 1;
+    }
+}
+
+// The words of a mapping, into its megabyte's fine table, which begins at an offset.
+fn write_fine(out: &mut [u8], at: usize, m: Mapping)
+    requires { ⌜ at + 4 * (wordIn Second.Fine m + wordsIn Second.Fine (m .at .0 / 2 ^ 20) m) ≤ length (now out) ⌝ }
+    ensures { λ r. ⌜ now (out .exit) ≡ spliced (now (out .entry)) (at + 4 * wordIn Second.Fine m) (λ (y : ℕ). pageWord (writtenAs Second.Fine (m .kind)) m (addressOf Second.Fine (m .at .0 / 2 ^ 20) (wordIn Second.Fine m + y))) (wordsIn Second.Fine (m .at .0 / 2 ^ 20) m) ⌝ }
+{
+    let k = m.kind;
+    let to = m.to;
+    let o = at + 4 * tables::words::word_in(Second::Fine, m) as usize;
+    let w = page::page_start(k, to.0) as u64 + 16 * (m.access % 4) as u64 + 3;
+    match k {
+        Kind::Section => write_run(out, o, 1024, w, 1024),
+        Kind::Large => write_run(out, o, 64, w, 1024),
+        Kind::Small => write_run(out, o, 4, w, 1024),
+        Kind::Tiny => write_run(out, o, 1, w, 1024),
+    }
+}
+
+// The words of a mapping, into its megabyte's coarse table, which begins at an offset.
+fn write_coarse(out: &mut [u8], at: usize, m: Mapping)
+    requires { ⌜ at + 4 * (wordIn Second.Coarse m + wordsIn Second.Coarse (m .at .0 / 2 ^ 20) m) ≤ length (now out) ⌝ }
+    ensures { λ r. ⌜ now (out .exit) ≡ spliced (now (out .entry)) (at + 4 * wordIn Second.Coarse m) (λ (y : ℕ). pageWord (writtenAs Second.Coarse (m .kind)) m (addressOf Second.Coarse (m .at .0 / 2 ^ 20) (wordIn Second.Coarse m + y))) (wordsIn Second.Coarse (m .at .0 / 2 ^ 20) m) ⌝ }
+{
+    let k = m.kind;
+    let to = m.to;
+    let o = at + 4 * tables::words::word_in(Second::Coarse, m) as usize;
+    let w = page::page_start(k, to.0) as u64 + 16 * (m.access % 4) as u64;
+    match k {
+        Kind::Section => write_run(out, o, 256, w + 2, 4096),
+        Kind::Large => write_run(out, o, 16, w + 1, 0),
+        Kind::Small => write_run(out, o, 1, w + 2, 0),
+        Kind::Tiny => write_run(out, o, 0, w + 2, 0),
+    }
+}
+
+// A first-level word for a base, from that for a base of 0: zero stays.
+fn based(base: u32, w: u32) -> u64
+    ensures { λ r. ⌜ r ≡ based base w ⌝ }
+{
+    if w == 0 {
+        return 0;
+    }
+    base as u64 + w as u64
+}
+
+// The first-level table with no section in it.
+fn write_first(base: u32, firsts: &[u32], out: &mut [u8])
+    requires { ⌜ Level (length (now out)) (now firsts) ⌝ }
+    ensures { λ r. ⌜ now (out .exit) ≡ spliced (now (out .entry)) 0 (λ (k : ℕ). based base (getD (now (firsts .entry)) k 0)) megabytes ⌝ }
+{
+    let mut k = 0;
+    while k < 16 {
+        put_word(out, 4 * k, based(base, firsts[k]));
+        k += 1;
+    }
+}
+
+// The words of record j's mapping.
+fn write_mapping(records: &[u8], firsts: &[u32], out: &mut [u8], j: usize)
+    requires { ⌜ Level (length (now out)) (now firsts) × (j < length (mappings (now records))) ⌝ }
+    ensures { λ r. ⌜ (Firsts (mappings (now (records .entry))) (now (firsts .entry)) → imageLength megabytes (mappings (now (records .entry))) ≤ length (now (out .entry)) → Turned (mappings (now (records .entry))) j (now (out .entry)) (now (out .exit))) ⌝ }
+{
+    let m = records::mapping_at(records, j);
+    let at = m.at;
+    let mb = at.0 / MEGABYTE;
+    if MEGABYTES <= mb {
+        return;
+    }
+    let f = firsts[mb as usize] as usize;
+    if f % 4 == 3 {
+        write_fine(out, f - 3, m);
+        return;
+    }
+    if f % 4 == 1 {
+        write_coarse(out, f - 1, m);
+        return;
+    }
+    put_word(out, 4 * mb as usize, tables::words::section_of(m) as u64);
+}
+
+// The words of all mappings, from the last to the first, over an image that has none.
+fn write_mappings(records: &[u8], firsts: &[u32], out: &mut [u8])
+    requires { ⌜ Level (length (now out)) (now firsts) ⌝ }
+    ensures { λ r. ⌜ (Firsts (mappings (now (records .entry))) (now (firsts .entry)) → imageLength megabytes (mappings (now (records .entry))) ≤ length (now (out .entry)) → Filled (mappings (now (records .entry))) (now (out .entry)) (now (out .exit))) ⌝ }
+{
+    let mut j = records::count(records);
+    while 0 < j {
+        j -= 1;
+        write_mapping(records, firsts, out, j);
+    }
+}
+
+// The image of no records.
+fn write_none(base: u32, out: &mut [u8]) -> usize
+    ensures { λ r. ⌜ (r ≡ imageLength megabytes []) × (now (out .exit) ≡ written [] base (now (out .entry))) ⌝ }
+{
+    if out.len() < 64 {
+        return 64;
+    }
+    write_zeros(out, 0, 16);
+    64
+}
+
+// The image of a list whose kinds are noted, for a memory lent at a base: its length, and the image written where the memory has the room.
+pub(crate) fn write(records: &[u8], seen: &[bool; 64], base: u32, out: &mut [u8]) -> usize
+    ensures { λ r. ⌜ (Kinds (mappings (now (records .entry))) (now (seen .entry)) → (r ≡ imageLength megabytes (mappings (now (records .entry)))) × (now (out .exit) ≡ written (mappings (now (records .entry))) base (now (out .entry)))) ⌝ }
+{
+    if records.len() == 0 {
+        return write_none(base, out);
+    }
+    let mut firsts: [u32; 16] = [0; 16];
+    let len = places::place(seen, &mut firsts) as usize;
+    if out.len() < len {
+        return len;
+    }
+    write_zeros(out, 0, len / 4);
+    write_first(base, &firsts, out);
+    write_mappings(records, &firsts, out);
+    len
+}

@@ -1,2 +1,0 @@
-pub mod Descriptors
-pub mod Statements

@@ -1,4 +1,0 @@
-pub mod Values
-pub mod Finite
-pub mod Largest
-pub mod Smoothing

@@ -1,6 +1,0 @@
-pub mod Splices
-pub mod Whole
-pub mod Parts
-pub mod Runs
-pub mod Nothing
-pub mod Levels

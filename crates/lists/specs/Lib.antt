@@ -1,3 +1,0 @@
-pub mod Refusals
-pub mod Meanings
-pub mod Bitmap

@@ -1,0 +1,66 @@
+use Rattle.mkimage.proofs.Texts.{copied}
+use lib.ListN.{length-set, length, set, getD}
+use borrow.Author.Needs.{needs}
+use mathlib.Core.List.{List}
+use Prim.Native.Nat.{_-_, ℕ, _+_, _≤_}
+use Rattle.mkimage.specs.Output.{shown}
+use native.Mathlib.Numerals.{add-one}
+use lib.Seq.{paste, paste-zero, paste-suc}
+use mathlib.Core.Path.{_≡_, refl, sym, _∙_, ap}
+use denote.Ref.{now}
+use native.Mathlib.Omega.{arith}
+use Rattle.mkimage.proofs.output.put.Statement.{statement}
+use Rattle.mkimage.proofs.output.put.Tie as tie
+
+abbrev Inv-loop : tie.InvT-loop
+Inv-loop out₀ at s n i₀ out i = (i ≤ length s) × (length out ≡ length out₀) × (out ≡ paste out₀ at s i)
+
+abbrev μ-loop : tie.MeasureT-loop
+μ-loop out₀ at s n i₀ out i = length s - i
+
+loop-holds : tie.Need-loop-holds Inv-loop μ-loop
+loop-holds c = (search needs, refl, paste-zero (c .args .out .now) (c .args .at) (c .args .s .now))
+
+shared-slice-read-out : tie.Need-shared-slice-read-out Inv-loop μ-loop
+shared-slice-read-out c = omega arith
+
+add-out : tie.Need-add-out Inv-loop μ-loop
+add-out c = omega arith
+
+slice-write-out : tie.Need-slice-write-out Inv-loop μ-loop
+slice-write-out c = omega arith
+
+add-i : tie.Need-add-i Inv-loop μ-loop
+add-i c = omega arith
+
+loop-less : tie.Need-loop-less Inv-loop μ-loop
+loop-less c = omega arith
+
+loop-again : tie.Need-loop-again Inv-loop μ-loop
+loop-again c = (omega arith, length-set (c .before .before .loop .out) (c .before .before .before .args .at + c .before .before .loop .i) _ ∙ c .before .before .loop .inv .1, ap (λ (l : List ℕ). set l (c .before .before .before .args .at + c .before .before .loop .i) (getD (c .before .before .before .args .s .now) (c .before .before .loop .i) 0)) (c .before .before .loop .inv .2) ∙ paste-suc (c .before .before .before .args .out .now) (c .before .before .before .args .at) (c .before .before .before .args .s .now) (c .before .before .loop .i) 0 (omega arith) (omega arith) ∙ ap (λ (k : ℕ). paste (c .before .before .before .args .out .now) (c .before .before .before .args .at) (c .before .before .before .args .s .now) k) (sym (add-one (c .before .before .loop .i))))
+
+add-result : tie.Need-add-result Inv-loop μ-loop
+add-result c = omega arith
+
+same-length : tie.Need-same-length Inv-loop μ-loop
+same-length c = search needs
+
+returns : tie.Need-returns Inv-loop μ-loop
+returns c = ap (shown (c .before .before .args .at + length (c .before .before .args .s .now))) (copied (c .before .before .args .out .now) (c .before .loop .out) (c .before .before .args .s .now) (c .before .before .args .at) (c .before .loop .i) (omega arith) (c .before .loop .inv .2))
+
+pub put-spec : {M : Type 1} → statement M
+put-spec =
+    tie.close
+    (tie.spec
+    Inv-loop
+    μ-loop
+    loop-holds
+    shared-slice-read-out
+    add-out
+    slice-write-out
+    add-i
+    loop-less
+    loop-again
+    add-result
+    same-length
+    returns)

@@ -1,0 +1,62 @@
+// What mkimage writes for a list of records: its image, or a refusal's message.
+use builder::Built;
+ghost use mathlib.Core.Path.{_≡_};
+ghost use Prim.Native.Nat.{_+_, _≤_};
+ghost use lib.ListN.{length};
+ghost use Rattle.mkimage.specs.Output.{decimal, message, pasted, shown, shownIn, outputOf};
+
+// The address at which the image is to stand.
+const BASE: u32 = 536870912;
+
+// Bytes, into a memory from an index on; the index behind them.
+fn put(out: &mut [u8], at: usize, s: &[u8]) -> usize
+    requires { ⌜ at + length (now s) ≤ length (now out) ⌝ }
+    ensures { λ r. ⌜ shown r (now (out .exit)) ≡ shown (at + length (now (s .entry))) (pasted (now (out .entry)) at (now (s .entry))) ⌝ }
+{
+    let n = s.len();
+    let mut i = 0;
+    while i < n {
+        out[at + i] = s[i];
+        i += 1;
+    }
+    at + n
+}
+
+// A number's decimal digits, into a memory from an index on; the index behind them.
+fn put_decimal(out: &mut [u8], at: usize, n: u64) -> usize
+    requires { ⌜ at + 20 ≤ length (now out) ⌝ }
+    ensures { λ r. ⌜ shown r (now (out .exit)) ≡ shown (at + length (decimal n)) (pasted (now (out .entry)) at (decimal n)) ⌝ }
+{
+    let mut text = [0u8; 20];
+    let k = io::decimal(n, &mut text);
+    put(out, at, &text[..k])
+}
+
+// A refusal's message, at the front of a memory; its length.
+fn put_message(out: &mut [u8], number: u64, value: u64) -> usize
+    requires { ⌜ 64 ≤ length (now out) ⌝ }
+    ensures { λ r. ⌜ shown r (now (out .exit)) ≡ shownIn (message number value) (now (out .entry)) ⌝ }
+{
+    let a = put(out, 0, b"refused ");
+    let b = put_decimal(out, a, number);
+    let c = put(out, b, b" at ");
+    let d = put_decimal(out, c, value);
+    put(out, d, b"\n")
+}
+
+// Builds a list in a memory; how many bytes at its front are then to be written.
+pub(crate) fn output(records: &[u8], memory: &mut [u8]) -> usize
+    ensures { λ r. ⌜ shown r (now (memory .exit)) ≡ outputOf (now (records .entry)) (now (memory .entry)) ⌝ }
+{
+    if memory.len() < 64 {
+        return 0;
+    }
+    let built = builder::build(records, BASE, memory);
+    match built {
+        Built::Length(n) => n,
+        Built::BadMemory => put_message(memory, 4, 0),
+        Built::BadRecord(i) => put_message(memory, 10, i as u64),
+        Built::Overlap(i) => put_message(memory, 11, i as u64),
+        Built::TooLong(c) => put_message(memory, 12, c as u64),
+    }
+}

@@ -1,0 +1,50 @@
+use mathlib.Core.Path.{ap₂, sym, _∙_, ap}
+use Rattle.run.specs.Answers.{pairWords, saidWords}
+use borrow.Author.Needs.{needs}
+use Rattle.run.proofs.answers.said_words.Statement.{statement}
+use Rattle.run.proofs.answers.said_words.Tie as tie
+
+enum-known-said : tie.Need-enum-known-said
+enum-known-said c = search needs
+
+answer-number-requires : tie.Need-answer-number-requires
+answer-number-requires c κs = search needs
+
+answer-value-requires : tie.Need-answer-value-requires
+answer-value-requires c κs = search needs
+
+pair-requires : tie.Need-pair-requires
+pair-requires c κs = search needs
+
+enum-known-said-2 : tie.Need-enum-known-said-2
+enum-known-said-2 c = search needs
+
+shift-number-requires : tie.Need-shift-number-requires
+shift-number-requires c κs = search needs
+
+shift-value-requires : tie.Need-shift-value-requires
+shift-value-requires c κs = search needs
+
+pair-requires-2 : tie.Need-pair-requires-2
+pair-requires-2 c κs = search needs
+
+returns : tie.Need-returns
+returns c = c .pair .ensures ∙ ap₂ pairWords (c .before .before .answer-number .ensures) (c .before .answer-value .ensures) ∙ sym (ap saidWords (c .before .before .before .before .said .given .1))
+
+returns-2 : tie.Need-returns-2
+returns-2 c = c .pair2 .ensures ∙ ap₂ pairWords (c .before .before .shift-number .ensures) (c .before .shift-value .ensures) ∙ sym (ap saidWords (c .before .before .before .before .said2 .given .1))
+
+pub said-words-spec : {M : Type 1} → statement M
+said-words-spec =
+    tie.close
+    (tie.spec
+    enum-known-said
+    answer-number-requires
+    answer-value-requires
+    pair-requires
+    enum-known-said-2
+    shift-number-requires
+    shift-value-requires
+    pair-requires-2
+    returns
+    returns-2)

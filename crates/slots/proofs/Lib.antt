@@ -1,4 +1,0 @@
-pub mod Seeking
-pub mod Ends
-pub mod Matching
-pub mod Changed

@@ -1,0 +1,23 @@
+use Rattle.state.specs.Handed.{sideOf}
+use Rattle.prices.specs.declared.LastRow.{LastRow}
+use Rattle.prices.specs.declared.Side.{Side}
+use mathlib.Core.Path.{sym, _∙_, ap}
+use Rattle.page.proofs.Picks.{pick-yes, pick-no}
+use borrow.Author.Tests.{eq-eqb, ne-eqb}
+use borrow.Author.Needs.{needs}
+use Rattle.state.proofs.read.side_of.Statement.{statement}
+use Rattle.state.proofs.read.side_of.Tie as tie
+
+fresh-requires : tie.Need-fresh-requires
+fresh-requires c κs = search needs
+
+returns : tie.Need-returns
+unfolding sideOf
+returns c = c .fresh .ensures ∙ (let f : LastRow → Side = λ (x : LastRow). record { last = x } in ap f (sym (pick-yes _ _ _ (eq-eqb _ _ (c .before .if1 .taken)))))
+
+returns-2 : tie.Need-returns-2
+unfolding sideOf
+returns-2 c = let f : LastRow → Side = λ (x : LastRow). record { last = x } in ap f (sym (pick-no _ _ _ (ne-eqb _ _ (c .if1 .left))))
+
+pub side-of-spec : {M : Type 1} → statement M
+side-of-spec = tie.close (tie.spec fresh-requires returns returns-2)

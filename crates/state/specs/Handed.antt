@@ -1,0 +1,90 @@
+-- A bench from a handed-in state: register images and slots as they stand; and prices of a kind.
+use Rattle.page.specs.Ground.{ℕ, zero, suc, _+_, _*_, Bool, List, [], _∷_, eqb, leb, length, getD}
+use Rattle.page.specs.Pick.{pick, _and_, _or_}
+use Rattle.page.specs.Words.{physical}
+use Rattle.meters.specs.declared.Meters.{Meters}
+use Rattle.bill.specs.declared.Bill.{Bill}
+use Rattle.prices.specs.declared.Side.{Side}
+use Rattle.prices.specs.declared.LastRow.{LastRow}
+use Rattle.prices.specs.declared.Price.{Price}
+use Rattle.prices.specs.declared.Prices.{Prices}
+use Rattle.bank.specs.declared.Bank.{Bank}
+use Rattle.lanes.specs.Lanes.{slots}
+use Rattle.registers.specs.declared.Entry.{Entry}
+use Rattle.registers.specs.declared.Registers.{Registers}
+use Rattle.unit.specs.declared.Device.{Device}
+use Rattle.session.specs.declared.Bench.{Bench}
+use lib.Ieee.{Float}
+use Rattle.wire.specs.Words.{swapped, wordAt, lowAt, highAt}
+use Rattle.state.specs.Taken.{narrowed, pendingOf}
+use Rattle.state.specs.Parts.{noRow}
+use Rattle.state.specs.State.{stateSize}
+
+-- the pending statuses
+abbrev pub isStatus : ℕ → Bool
+isStatus x = eqb x 0 or eqb x 1 or eqb x 2 or eqb x 4 or eqb x 8
+
+-- the bytes are a state: a pending access and status, the two bytes after them zero
+unfoldable pub isState : List ℕ → Bool
+isState s =
+    eqb (length s) stateSize
+    and leb (getD s 285 0) 1
+    and eqb (getD s 286 0) 0
+    and eqb (getD s 287 0) 0
+    and isStatus (getD s 284 0)
+
+abbrev pub entryAt : List ℕ → ℕ → Entry
+entryAt s at = record { camhi = lowAt s at; camlo = highAt s at; ramhi = lowAt s (at + 4); ramlo = highAt s (at + 4) }
+
+abbrev pub registersIn : List ℕ → Registers
+registersIn s = record {
+  control = highAt s 0;
+  base = physical (wordAt s 4);
+  prefetch = lowAt s 0;
+  staged = entryAt s 12;
+  copied = entryAt s 20;
+}
+
+-- one word of each of the n slots from slot i on
+unfoldable pub laneFrom : List ℕ → ℕ → ℕ → ℕ → List ℕ
+laneFrom s at i zero = []
+laneFrom s at i (suc n) = swapped (wordAt s (at + 8 * i)) ∷ laneFrom s at (i + 1) n
+
+abbrev pub bankIn : List ℕ → Bank
+bankIn s = record {
+  cam = laneFrom s 28 0 slots;
+  ram = laneFrom s 32 0 slots;
+  lock = narrowed (lowAt s 8);
+  victim = narrowed (highAt s 8);
+}
+
+abbrev pub metersIn : List ℕ → Meters
+metersIn s = record { fresh = wordAt s 292; retries = wordAt s 296; words = wordAt s 300 }
+
+unfoldable pub sideOf : ℕ → Side
+sideOf row = record { last = pick (eqb row noRow) LastRow.Never (LastRow.At row) }
+
+-- the state's own figures are not looked at
+abbrev pub billIn : List ℕ → Float → Float → Bill
+billIn s total misses = record { total = total; misses = misses; onchip = sideOf (wordAt s 320); external = sideOf (wordAt s 324) }
+
+abbrev pub deviceIn : List ℕ → Device
+deviceIn s = record {
+  registers = registersIn s;
+  bank = bankIn s;
+  pending = pendingOf (getD s 284 0) (getD s 285 0) (wordAt s 288);
+}
+
+abbrev pub benchIn : List ℕ → Float → Float → Bench
+benchIn s total misses = record { device = deviceIn s; bill = billIn s total misses; meters = metersIn s }
+
+-- lock base and victim as they were handed in
+abbrev pub lockIn : List ℕ → ℕ
+lockIn s = wordAt s 8
+
+-- a price of a kind: 0 flat, 1 by the row
+unfoldable pub priceOf : ℕ → Float → Float → Price
+priceOf kind a b = pick (eqb kind 0) (Price.Flat a) (Price.Row a b)
+
+abbrev pub pricesOf : ℕ → Float → Float → ℕ → Float → Float → Prices
+pricesOf onkind ona onb extkind exta extb = record { onchip = priceOf onkind ona onb; external = priceOf extkind exta extb }

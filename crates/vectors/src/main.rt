@@ -1,0 +1,22 @@
+// What the parts, the unit and the builder answer for inputs worked out by hand.
+mod bills;
+mod entries;
+mod images;
+mod memories;
+mod offsets;
+mod pages;
+mod sessions;
+mod tallies;
+mod walks;
+
+fn main() {
+    pages::show_all();
+    memories::show_all();
+    walks::show_all();
+    tallies::show_all();
+    bills::show_all();
+    entries::show_all();
+    offsets::show_all();
+    sessions::show_all();
+    images::show_all();
+}

@@ -1,0 +1,38 @@
+use Rattle.walk.specs.declared.First.{First}
+use Rattle.walk.specs.Descriptors.{firstOf}
+use Rattle.walk.proofs.Laws.{first-coarse, first-section}
+use Rattle.page.specs.Low.{upper}
+use mathlib.Core.Path.{sym, _∙_, ap}
+use Rattle.page.proofs.Picks.{pick-yes, pick-no}
+use borrow.Author.Tests.{eq-eqb, ne-eqb}
+use borrow.Author.Needs.{needs}
+use Rattle.walk.proofs.descriptors.decode_first.Statement.{statement}
+use Rattle.walk.proofs.descriptors.decode_first.Tie as tie
+
+returns : tie.Need-returns
+unfolding firstOf
+returns c = sym (pick-yes _ _ _ (eq-eqb _ _ (c .match .keys1)))
+
+mul-t4 : tie.Need-mul-t4
+mul-t4 c = search needs
+
+returns-2 : tie.Need-returns-2
+unfolding upper
+returns-2 c = first-coarse _ (c .match .keys2)
+
+section-of-requires : tie.Need-section-of-requires
+section-of-requires c κs = search needs
+
+returns-3 : tie.Need-returns-3
+returns-3 c = ap First.Whole (c .section-of .ensures) ∙ first-section _ (c .before .match .keys3)
+
+mul-t8 : tie.Need-mul-t8
+mul-t8 c = search needs
+
+returns-4 : tie.Need-returns-4
+unfolding firstOf upper
+returns-4 c = sym (pick-no _ _ _ (ne-eqb _ _ (c .match .rest .0 .0 .1)) ∙ pick-no _ _ _ (ne-eqb _ _ (c .match .rest .0 .1)) ∙ pick-no _ _ _ (ne-eqb _ _ (c .match .rest .1)))
+
+pub decode-first-spec : {M : Type 1} → statement M
+decode-first-spec =
+    tie.close (tie.spec returns mul-t4 returns-2 section-of-requires returns-3 mul-t8 returns-4)

@@ -1,0 +1,55 @@
+-- What the words of the tables say (01, "The walk"), and the distance (01, "Meters and the walk bill").
+use Rattle.page.specs.Ground.{ℕ, _+_, _/_, _%_, _^_, _<_, eqb}
+use Rattle.page.specs.Pick.{pick}
+use Rattle.page.specs.Low.{upper, joined}
+use Rattle.page.specs.Words.{physical, lowBits}
+use Rattle.page.specs.declared.Kind.{Kind}
+use Rattle.page.specs.declared.VirtualAddress.{VirtualAddress}
+use Rattle.page.specs.declared.PhysicalAddress.{PhysicalAddress}
+use Rattle.walk.specs.declared.Page.{Page}
+use Rattle.walk.specs.declared.First.{First}
+use Rattle.walk.specs.declared.Table.{Table}
+use Rattle.walk.specs.declared.Found.{Found}
+use lib.IntN.{ℤ, pos, _-ℤ_}
+
+-- a section's word: base in bits 31:20, access in 11:10
+abbrev pub sectionOf : ℕ → Page
+sectionOf w = record { kind = Kind.Section; frame = physical (upper 20 w); access = w / 2 ^ 10 % 4 }
+
+-- a first-level word, by bits 1:0: fault, coarse table at bits 31:10, section, fine table at bits 31:12
+unfoldable pub firstOf : ℕ → First
+firstOf w =
+    pick (eqb (w % 4) 0) First.Fault
+    (pick (eqb (w % 4) 1) (First.Coarse (physical (upper 10 w)))
+    (pick (eqb (w % 4) 2) (First.Whole (sectionOf w)) (First.Fine (physical (upper 12 w)))))
+
+-- a second-level word of a kind: base in bits 31:16, 31:12 or 31:10, access in 5:4
+abbrev pub pageOf : Kind → ℕ → Page
+pageOf k w = record { kind = k; frame = physical (upper (lowBits k) w); access = w / 2 ^ 4 % 4 }
+
+-- a second-level word, by bits 1:0: a coarse table has large (01) and small (10) pages, a fine one tiny (11), all else is no page
+unfoldable pub secondOf : Table → ℕ → Found
+secondOf Table.Coarse w =
+    pick (eqb (w % 4) 1) (Found.Page (pageOf Kind.Large w)) (pick (eqb (w % 4) 2) (Found.Page (pageOf Kind.Small w)) Found.NoPage)
+secondOf Table.Fine w = pick (eqb (w % 4) 3) (Found.Page (pageOf Kind.Tiny w)) Found.NoPage
+
+-- a page's upper bits and an address's lower ones
+abbrev pub physicalOf : Page → VirtualAddress → PhysicalAddress
+physicalOf p va = physical (joined (lowBits (p .kind)) (p .frame .0) (va .0))
+
+-- physical minus virtual
+abbrev pub distanceOf : PhysicalAddress → VirtualAddress → ℤ
+distanceOf p v = pos (p .0) -ℤ pos (v .0)
+
+-- the paper's number for what a walk finds
+abbrev pub foundNumber : Found → ℕ
+foundNumber (Found.Page p) = 0
+foundNumber Found.NoPage = 21
+foundNumber Found.Missing = 3
+
+-- a table that a first-level word names ends below 2^32
+abbrev pub Room : First → Type 0
+Room First.Fault = Unit
+Room (First.Whole p) = Unit
+Room (First.Coarse t) = t .0 + 1023 < 2 ^ 32
+Room (First.Fine t) = t .0 + 4095 < 2 ^ 32

@@ -1,0 +1,12 @@
+-- Words given by a function of their number, as bytes and in a memory.
+use Rattle.page.specs.Ground.{ℕ, zero, suc, _+_, _*_, List, [], _++_, take, drop}
+use Rattle.wire.specs.Words.{wordBytes}
+
+-- the bytes of the first k words of f
+unfoldable pub bytesBy : (ℕ → ℕ) → ℕ → List ℕ
+bytesBy f zero = []
+bytesBy f (suc k) = bytesBy f k ++ wordBytes (f k)
+
+-- the k words of f in a memory from offset at on, the other bytes as they were
+unfoldable pub spliced : List ℕ → ℕ → (ℕ → ℕ) → ℕ → List ℕ
+spliced l at f k = take at l ++ (bytesBy f k ++ drop (at + 4 * k) l)

@@ -1,3 +1,0 @@
-pub mod Offsets
-pub mod Fits
-pub mod Regions
