@@ -7,7 +7,8 @@ use crate::builder::{self, Refused};
 use crate::memory::{Memories, Role};
 use crate::meters::Meters;
 use crate::slots::SLOTS;
-use crate::unit::{Access, Books, Image, Lent, Pending, Unit};
+use crate::unit::{Books, Image, Lent, Pending, Unit};
+use crate::walk::Access;
 
 /// Bytes of one call, of one answer, and of the state.
 pub const CALL: usize = 12;

@@ -1,6 +1,5 @@
 //! "The unit": slots, and what matches.
 
-use crate::unit::Access;
 use crate::walk::{Kind, Page, WITHIN};
 
 /// Slots of a device (house).
@@ -107,10 +106,4 @@ impl Slots {
         let ram = self.rams[slot];
         Page { kind, frame: ram & !WITHIN[kind as usize], access: (ram >> 8 & 3) as u8 }
     }
-}
-
-/// Access: 0x none, 10 read only, 11 both.
-#[inline]
-pub(crate) fn permits(page: Page, access: Access) -> bool {
-    page.access == 3 || page.access == 2 && access == Access::Read
 }

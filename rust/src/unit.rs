@@ -10,30 +10,10 @@ use crate::memory::Memories;
 use crate::meters::Meters;
 use crate::registers::*;
 use crate::slots::*;
-use crate::walk::{walk, Page, Walk};
+use crate::walk::{walk, Access, Page, Walk};
 
 /// Virtual addresses are below this.
 pub const VIRTUAL_END: u32 = 1 << 24;
-
-/// Read or write, of a request.
-#[derive(Clone, Copy, PartialEq, Eq, Debug)]
-#[repr(u8)]
-pub enum Access {
-    Read = 0,
-    Write = 1,
-}
-
-impl Access {
-    /// 0 for read, anything else for write.
-    #[inline]
-    pub const fn from_byte(byte: u8) -> Access {
-        if byte == 0 {
-            Access::Read
-        } else {
-            Access::Write
-        }
-    }
-}
 
 /// What is lent to a call that may walk.
 #[derive(Clone, Copy, Debug)]
@@ -258,7 +238,7 @@ impl Unit {
                 }
             }
         };
-        if permits(page, access) {
+        if page.permits(access) {
             Ok(Ok(page.physical(address)))
         } else {
             Ok(Err(Fault::Permission))

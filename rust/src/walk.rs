@@ -1,4 +1,4 @@
-//! "The walk": from the base and a virtual address to a page.
+//! "The walk": from the base and a virtual address to a page, and what it permits.
 
 use crate::memory::{Memories, Role};
 
@@ -32,6 +32,26 @@ impl Kind {
     }
 }
 
+/// Read or write, of a request.
+#[derive(Clone, Copy, PartialEq, Eq, Debug)]
+#[repr(u8)]
+pub enum Access {
+    Read = 0,
+    Write = 1,
+}
+
+impl Access {
+    /// 0 for read, anything else for write.
+    #[inline]
+    pub const fn from_byte(byte: u8) -> Access {
+        if byte == 0 {
+            Access::Read
+        } else {
+            Access::Write
+        }
+    }
+}
+
 /// A page that a walk found. Frame bits below the page size are zero.
 #[derive(Clone, Copy, PartialEq, Eq, Debug)]
 pub struct Page {
@@ -45,6 +65,12 @@ impl Page {
     #[inline]
     pub const fn physical(self, address: u32) -> u32 {
         self.frame | address & self.kind.within()
+    }
+
+    /// Access: 0x none, 10 read only, 11 both.
+    #[inline]
+    pub(crate) fn permits(self, access: Access) -> bool {
+        self.access == 3 || self.access == 2 && access == Access::Read
     }
 }
 

@@ -10,7 +10,8 @@ use second::bill::{Price, Prices};
 use second::builder::build;
 use second::dice::Dice;
 use second::memory::Memories;
-use second::unit::{Access, Books, Lent, Unit};
+use second::unit::{Books, Lent, Unit};
+use second::walk::Access;
 
 /// What the list says of a request.
 fn by_the_list(list: &[Record], address: u32, access: Access) -> (u32, i64) {

@@ -1,6 +1,7 @@
 //! The built program `target/bin/mkimage`, run by `tools/run mkimage` from the
 //! root of the repository: its standard output is the second program's image or
-//! its line "refused K at I", and it writes nothing to standard error.
+//! its line "refused K at I", and it writes nothing to standard error. Four
+//! inputs and their outputs stand here by their bytes.
 //!
 //! NX_LONG multiplies the number of inputs, NX_SEED moves the seed. Without the
 //! program the tests fail, unless NX_WITHOUT_NATIVE=1 is set.
@@ -71,23 +72,128 @@ fn run(root: &Path, input: &[u8], piece: usize, pause: bool) -> Vec<u8> {
     output.stdout
 }
 
-fn check(root: &Path, input: &[u8], piece: usize, pause: bool, place: &str) {
-    let expected = mkimage(input);
-    let got = run(root, input, piece, pause);
+fn same(got: &[u8], expected: &[u8], input: &[u8], place: &str) {
     if got != expected {
         let line = |bytes: &[u8]| match bytes.len() {
             0..=40 => String::from_utf8_lossy(bytes).into_owned(),
             length => format!("{length} bytes"),
         };
-        let at = got.iter().zip(&expected).position(|(got, expected)| got != expected);
+        let at = got.iter().zip(expected).position(|(got, expected)| got != expected);
         panic!(
             "{place}: got {:?}, expected {:?}, first other byte {at:?}, input of {} bytes {}",
-            line(&got),
-            line(&expected),
+            line(got),
+            line(expected),
             input.len(),
             hex(&input[..input.len().min(3_100)]),
         );
     }
+}
+
+/// The program against the second program.
+fn check(root: &Path, input: &[u8], piece: usize, pause: bool, place: &str) {
+    same(&run(root, input, piece, pause), &mkimage(input), input, place);
+}
+
+/// Both programs against these bytes.
+fn by_bytes(input: &[u8], expected: &[u8]) {
+    let _turn = turn();
+    same(&mkimage(input), expected, input, "the second program");
+    let Some(root) = root() else { return };
+    same(&run(&root, input, 4_096, false), expected, input, "mkimage");
+}
+
+#[test]
+fn no_bytes() {
+    by_bytes(&[], &[0; 64]);
+}
+
+#[test]
+fn one_byte() {
+    for byte in [0, 7, 255] {
+        by_bytes(&[byte], b"refused 10 at 0\n");
+    }
+}
+
+/// 256 records, in nine megabytes: large pages alone, small ones alone, tiny
+/// ones alone, sections, all three sizes together, and small ones at the very
+/// end of both spaces. Each row is a run of so many: where it starts, how far
+/// on the next one is, virtual and physical, then type, and access by turns.
+fn full() -> Vec<u8> {
+    type Run = (u32, (u32, i32), (u32, i32), u8, [u8; 2]);
+    const RUNS: [Run; 8] = [
+        (16, (0x00_0000, 0x1_0000), (0x100F_0000, -0x1_0000), 1, [2, 3]),
+        (100, (0x20_0000, 0xC00), (0x1020_0000, 0x400), 3, [3, 2]),
+        (60, (0x1F_F000, -0x2000), (0x1010_0000, 0x1000), 2, [2, 2]),
+        (4, (0x90_0000, -0x10_0000), (0x1100_0000, 0x10_0000), 0, [3, 3]),
+        (8, (0xA0_0000, 0x1_0000), (0x1030_0000, 0x1_0000), 1, [3, 3]),
+        (20, (0xA8_0000, 0x1000), (0x1040_0000, 0x1000), 2, [2, 2]),
+        (30, (0xAF_FC00, -0x400), (0x1050_0000, 0x400), 3, [3, 3]),
+        (18, (0xFF_F000, -0x1000), (0xFFFF_F000, -0x1000), 2, [3, 3]),
+    ];
+    let nth = |(start, step): (u32, i32), n: u32| start.wrapping_add_signed(step * n as i32);
+    let run = |(count, from, to, kind, access): Run| {
+        (0..count).map(move |n| Record {
+            virtual_start: nth(from, n),
+            physical: nth(to, n),
+            kind,
+            access: access[n as usize % 2],
+        })
+    };
+    lists::bytes(&RUNS.into_iter().flat_map(run).collect::<Vec<Record>>())
+}
+
+/// The image of these 256 records, word by word.
+fn full_image() -> Vec<u8> {
+    let mut words = [0_u32; 3_328];
+    // First level: tables at 400, 800, 1000, 2000 and 3000, and four sections.
+    words[0x0] = 0x2000_0401;
+    words[0x1] = 0x2000_0801;
+    words[0x2] = 0x2000_1003;
+    words[0x6] = 0x1130_0C02;
+    words[0x7] = 0x1120_0C02;
+    words[0x8] = 0x1110_0C02;
+    words[0x9] = 0x1100_0C02;
+    words[0xA] = 0x2000_2003;
+    words[0xF] = 0x2000_3001;
+    for n in 0..256 {
+        // Large pages, 16 equal words each, with access 2 and 3 by turns.
+        let page = n / 16;
+        words[0x100 + n] = 0x100F_0021 - 0x1_0000 * page as u32 + 0x10 * (page as u32 % 2);
+    }
+    for n in 0..60 {
+        words[0x2FF - 2 * n] = 0x1010_0022 + 0x1000 * n as u32;
+    }
+    for n in 0..100 {
+        words[0x400 + 3 * n] = 0x1020_0033 + 0x400 * n as u32 - 0x10 * (n as u32 % 2);
+    }
+    // A fine table: eight large and twenty small pages cut into tiny ones.
+    for n in 0..512 {
+        words[0x800 + n] = 0x1030_0033 + 0x400 * n as u32;
+    }
+    for n in 0..80 {
+        words[0xA00 + n] = 0x1040_0023 + 0x400 * n as u32;
+    }
+    for n in 0..30 {
+        words[0xBFF - n] = 0x1050_0033 + 0x400 * n as u32;
+    }
+    for n in 0..18 {
+        words[0xCFF - n] = 0xFFFF_F032 - 0x1000 * n as u32;
+    }
+    words.into_iter().flat_map(u32::to_le_bytes).collect()
+}
+
+#[test]
+fn full_list() {
+    let input = full();
+    assert_eq!(input.len(), 3_072);
+    by_bytes(&input, &full_image());
+}
+
+#[test]
+fn one_record_over() {
+    // A good section, but the 257th.
+    let section = [0x00, 0x00, 0xB0, 0x00, 0x00, 0x00, 0xF0, 0x11, 0x00, 0x02, 0x00, 0x00];
+    by_bytes(&[&full()[..], &section].concat(), b"refused 10 at 256\n");
 }
 
 fn tiny(page: u32) -> Record {
@@ -95,15 +201,9 @@ fn tiny(page: u32) -> Record {
 }
 
 #[test]
-fn said_in_the_paper() {
+fn list_a() {
     let _turn = turn();
-    assert_eq!(mkimage(&[]), [0; 64]);
-    assert_eq!(mkimage(&[7]), b"refused 10 at 0\n");
     let Some(root) = root() else { return };
-    assert_eq!(run(&root, &[], 1, false), [0; 64]);
-    for byte in [0, 7, 255] {
-        assert_eq!(run(&root, &[byte], 1, false), b"refused 10 at 0\n");
-    }
     check(&root, &lists::bytes(&lists::list_a()), 4_096, false, "list A");
 }
 
