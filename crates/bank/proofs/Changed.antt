@@ -1,26 +1,15 @@
 -- The slots in place after a store, a fill, a flush and a reset. Assumes nothing.
-use mathlib.Core.Path.{_≡_, refl, sym, _∙_, ap, subst}
-use mathlib.Core.Bool.{Bool, true, false}
-use mathlib.Core.List.{List}
-use mathlib.Core.Logic.{_⊎_, inl, inr}
-use Prim.Native.Nat.{ℕ, zero, suc, _<_, _/_, _%_}
-use native.Mathlib.Omega.{arith}
-use lib.Dec.{eqb}
-use lib.ListN.{length, getD, set, replicate, length-set, length-map}
-use borrow.Author.Tests.{eq-eqb, eqb-false}
-use Rattle.page.specs.Pick.{pick}
-use Rattle.page.specs.Words.{wordDropped, wordFlushed, wordFlushedAt}
-use Rattle.page.specs.declared.VirtualAddress.{VirtualAddress}
-use Rattle.page.specs.declared.Words.{Words}
-use Rattle.page.proofs.Picks.{pick-yes, pick-by}
+use Rattle.bank.specs.Names.{_≡_, Bool, List, ℕ, zero, suc, _<_, _/_, _%_, eqb, length, getD, set, replicate, pick, VirtualAddress, Words}
+use Rattle.bank.specs.Names.{flushedAll, flushedEntry, Fill}
+use Rattle.bank.proofs.Names.{refl, sym, _∙_, ap, subst, true, false, _⊎_, inl, inr, arith, length-set, eq-eqb, eqb-false, wordFlushed}
+use Rattle.bank.proofs.Names.{wordFlushedAt, pick-yes, pick-by, nextSlot, nextVictim, storedAt, entryFilled, filled, lowOf, highOf, Ends}
+use Rattle.bank.proofs.Names.{lowKept, highKept, EndsKept}
+use lib.ListN.{length-map}
+use Rattle.page.specs.Words.{wordDropped}
 use Rattle.page.proofs.Slot.{dropped-off}
-use Rattle.lanes.specs.Lanes.{flushedAll, flushedEntry}
 use Rattle.lanes.proofs.Flushes.{flush-word, entry-word}
-use Rattle.bank.specs.Victim.{nextSlot, nextVictim}
-use Rattle.bank.specs.declared.Fill.{Fill}
 use Rattle.bank.specs.Slots.{freshBank}
-use Rattle.bank.specs.Changes.{storedAt, entryFilled, filled, filledAt}
-use Rattle.bank.specs.Spans.{lowOf, highOf, Ends, lowKept, highKept, Kept}
+use Rattle.bank.specs.Changes.{filledAt}
 use Rattle.bank.specs.InPlace.{bankOf, Spanned, Renewed, Stands}
 use Rattle.bank.proofs.Ends.{ends-both}
 
@@ -107,12 +96,12 @@ module _ (k : ℕ) (end : ℕ → ℕ) (stays : (w : ℕ) → pick (eqb (w / 4 %
   kept-end w v (inl e) = ap (λ (x : ℕ). kept v (end x)) (sym e) ∙ stays v
   kept-end w v (inr e) = pick-yes _ _ _ (eq-eqb _ _ e) ∙ sym (pick-yes _ _ _ (eq-eqb _ _ e)) ∙ stays v
 
-  ends-kept : (f : ℕ → ℕ) → Drops f → (cam after ends out : List ℕ) → ((j : ℕ) → getD after j 0 ≡ f (getD cam j 0)) → Ends end 32 cam ends → Kept kept 32 after ends out → Ends end 32 after out
+  ends-kept : (f : ℕ → ℕ) → Drops f → (cam after ends out : List ℕ) → ((j : ℕ) → getD after j 0 ≡ f (getD cam j 0)) → Ends end 32 cam ends → EndsKept kept 32 after ends out → Ends end 32 after out
   ends-kept f d cam after ends out each s o j l =
       o j l ∙ ap (kept (getD after j 0)) (s j l)
       ∙ kept-end (getD cam j 0) (getD after j 0) (subst (λ (x : ℕ). (x ≡ getD cam j 0) ⊎ (x / 4 % 2 ≡ 0)) (sym (each j)) (d (getD cam j 0)))
 
-module _ (cam after lows highs lows′ highs′ : List ℕ) (s : Spanned cam lows highs) (o : Kept lowKept 32 after lows lows′) (p : Kept highKept 32 after highs highs′)
+module _ (cam after lows highs lows′ highs′ : List ℕ) (s : Spanned cam lows highs) (o : EndsKept lowKept 32 after lows lows′) (p : EndsKept highKept 32 after highs highs′)
     (a : length lows′ ≡ 32) (b : length highs′ ≡ 32) where
   renewed : (f : ℕ → ℕ) → Drops f → ((j : ℕ) → getD after j 0 ≡ f (getD cam j 0)) → length after ≡ 32 → Spanned after lows′ highs′
   renewed f d each h = record {

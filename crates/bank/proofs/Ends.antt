@@ -1,15 +1,8 @@
 -- Lanes that hold an end of each slot's span. Assumes nothing.
-use mathlib.Core.Path.{_≡_, refl, sym, _∙_, ap}
-use mathlib.Core.Bool.{Bool, true, false}
-use mathlib.Core.List.{List}
-use Prim.Native.Nat.{ℕ, _+_, _%_, _<_, _≤_}
-use native.Mathlib.Omega.{arith}
-use lib.Dec.{eqb}
-use lib.ListN.{length, getD, set, length-set}
-use lib.Seq.{getD-set-same, getD-set-other}
-use borrow.Author.Tests.{eqb-true, eqb-false, eq-eqb, ne-eqb}
-use Rattle.page.proofs.Picks.{pick-yes, pick-no}
-use Rattle.bank.specs.Spans.{Ends, Kept, byType}
+use Rattle.bank.specs.Names.{_≡_, Bool, List, ℕ, _+_, _%_, _<_, eqb, length, getD, set}
+use Rattle.bank.proofs.Names.{refl, sym, _∙_, ap, true, false, _≤_, arith, length-set, getD-set-same, getD-set-other, eqb-true, eqb-false}
+use Rattle.bank.proofs.Names.{eq-eqb, ne-eqb, pick-yes, pick-no, Ends, EndsKept}
+use Rattle.bank.specs.Spans.{byType}
 
 pub by-1 : (w a b c d : ℕ) → w % 4 ≡ 1 → byType w a b c d ≡ b
 by-1 w a b c d e = pick-no _ _ _ (ne-eqb (w % 4) 0 (λ z. absurd (omega (arith, e, z)))) ∙ pick-yes _ _ _ (eq-eqb (w % 4) 1 e)
@@ -46,7 +39,7 @@ module _ (f : ℕ → ℕ) (cam : List ℕ) where
 module _ (f : ℕ → ℕ → ℕ) (cam before : List ℕ) where
   -- the invariant of a loop that makes a lane anew from the words and what it was
   abbrev pub Keeping : ℕ → List ℕ → Type 0
-  Keeping i out = (i ≤ 32) × ((length out ≡ 32) × (Kept f i cam before out × ((j : ℕ) → i ≤ j → getD out j 0 ≡ getD before j 0)))
+  Keeping i out = (i ≤ 32) × ((length out ≡ 32) × (EndsKept f i cam before out × ((j : ℕ) → i ≤ j → getD out j 0 ≡ getD before j 0)))
 
   pub keeping-starts : length before ≡ 32 → Keeping 0 before
   keeping-starts h = (omega arith, (h, (λ j l. absurd (omega arith), λ j l. refl)))
@@ -65,7 +58,7 @@ module _ (f : ℕ → ℕ → ℕ) (cam before : List ℕ) where
         ),
       )
 
-  pub keeping-ends : (i : ℕ) (out : List ℕ) → 32 ≤ i → Keeping i out → Kept f 32 cam before out
+  pub keeping-ends : (i : ℕ) (out : List ℕ) → 32 ≤ i → Keeping i out → EndsKept f 32 cam before out
   keeping-ends i out h w = λ j l. w .1 .1 .0 j (omega arith)
 
 -- a slot's word set, and the end of its span

@@ -1,17 +1,10 @@
 -- A fill changes exactly one slot, at the lock base or above it. Assumes nothing.
-use mathlib.Core.Path.{_≡_, refl, ap₂}
+use Rattle.bank.specs.Names.{_≡_, ℕ, _<_, length, Words, Bank}
+use Rattle.bank.proofs.Names.{refl, ap₂, _≤_, arith, getD-set-other, getD-set-same, ltb-true, pick-by, nextSlot, nextVictim, storedAt, filled}
 use mathlib.Core.Logic.{_≢_}
-use Prim.Native.Nat.{ℕ, _<_, _≤_}
 use native.Mathlib.Nat.{le-refl}
-use native.Mathlib.Omega.{arith}
-use lib.ListN.{length}
-use lib.Seq.{getD-set-other, getD-set-same}
-use borrow.Author.Tests.{ltb-true, ltb-false}
-use Rattle.page.specs.declared.Words.{Words}
-use Rattle.page.proofs.Picks.{pick-by}
-use Rattle.bank.specs.declared.Bank.{Bank}
+use borrow.Author.Tests.{ltb-false}
 use Rattle.bank.specs.Slots.{slotAt}
-use Rattle.bank.specs.Changes.{nextSlot, nextVictim, storedAt, filled}
 
 abbrev words : ℕ → ℕ → Words
 words x y = record { cam = x; ram = y }

@@ -1,3 +1,4 @@
+pub mod Names
 pub mod Ranges
 pub mod Fills
 pub mod Seeking

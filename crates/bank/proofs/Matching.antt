@@ -1,21 +1,14 @@
 -- A search of the spans of slots in range finds what a search of the slots finds. Assumes nothing.
-use mathlib.Core.Path.{_≡_, refl, sym, _∙_, ap, ap₂, subst}
-use mathlib.Core.Bool.{Bool, true, false}
-use mathlib.Core.List.{List}
-use Prim.Native.Nat.{ℕ, zero, suc, _+_, _*_, _/_, _%_, _^_, _<_, _≤_}
-use native.Mathlib.Omega.{arith}
-use lib.Dec.{eqb, leb}
-use lib.ListN.{getD}
-use borrow.Author.Tests.{eqb-true, eqb-false, eq-eqb, ne-eqb, leb-true, le-leb, lt-leb, ltb-true}
-use Rattle.page.specs.Pick.{pick}
+use Rattle.bank.specs.Names.{_≡_, Bool, List, ℕ, zero, suc, _+_, _*_, _/_, _%_, _<_, eqb, leb, getD, pick, VirtualAddress, Matched, camsOk}
+use Rattle.bank.proofs.Names.{refl, sym, _∙_, ap, ap₂, subst, true, false, _≤_, arith, eqb-true, eqb-false, eq-eqb, ne-eqb, ltb-true, pick-yes}
+use Rattle.bank.proofs.Names.{pick-no, and-yes, and-left, and-right, camOk, lowOf, highOf, inSpan, soughtFrom, sought, Ends}
+use Prim.Native.Nat.{_^_}
+use borrow.Author.Tests.{leb-true, le-leb, lt-leb}
 use Rattle.page.specs.Words.{lowBits, kindOf, wordMatches}
 use Rattle.page.specs.declared.Kind.{Kind}
-use Rattle.page.specs.declared.VirtualAddress.{VirtualAddress}
-use Rattle.page.proofs.Picks.{pick-yes, pick-no, and-yes, and-no, and-left, and-right}
+use Rattle.page.proofs.Picks.{and-no}
 use Rattle.page.proofs.Slot.{kindOf-type}
-use Rattle.lanes.specs.declared.Matched.{Matched}
-use Rattle.lanes.specs.Lanes.{allFrom, camOk, camsOk, lookedFrom, lookedUp}
-use Rattle.bank.specs.Spans.{lowOf, highOf, inSpan, soughtFrom, sought, Ends}
+use Rattle.lanes.specs.Lanes.{allFrom, lookedFrom, lookedUp}
 use Rattle.bank.proofs.Ends.{by-1, by-2}
 
 -- two tests that hold together are one
@@ -72,10 +65,12 @@ module _ (w v : ℕ) (small : w < 262144) (virtual : v < 16777216) where
   some h = zeroth (eqb (w % 4) 0) refl
     where
       third : (t : Bool) → eqb (w % 4) 2 ≡ t → eqb (w % 4) 1 ≡ false → eqb (w % 4) 0 ≡ false → inSpan (lowOf w) (highOf w) (v / 1024 % 16384) ≡ wordMatches w (record { 0 = v })
-      third true e f g = let k = eqb-true (w % 4) 2 e in by-kind Kind.Small (kindOf-type w Kind.Small k) _ _ small-page (valid-one h) (pick-no _ _ _ h ∙ by-2 w _ _ _ _ k) (pick-no _ _ _ h ∙ by-2 w _ _ _ _ k)
+      third true e f g =
+          let k = eqb-true (w % 4) 2 e in by-kind Kind.Small (kindOf-type w Kind.Small k) _ _ small-page (valid-one h) (pick-no _ _ _ h ∙ by-2 w _ _ _ _ k) (pick-no _ _ _ h ∙ by-2 w _ _ _ _ k)
       third false e f g =
           let k : w % 4 ≡ 3 = omega (arith, eqb-false (w % 4) 2 e, eqb-false (w % 4) 1 f, eqb-false (w % 4) 0 g) in
-          by-kind Kind.Tiny (kindOf-type w Kind.Tiny k) _ _ tiny (valid-one h) (pick-no _ _ _ h ∙ pick-no _ _ _ g ∙ pick-no _ _ _ f ∙ pick-no _ _ _ e) (pick-no _ _ _ h ∙ pick-no _ _ _ g ∙ pick-no _ _ _ f ∙ pick-no _ _ _ e)
+          by-kind Kind.Tiny (kindOf-type w Kind.Tiny k) _ _ tiny (valid-one h) (pick-no _ _ _ h ∙ pick-no _ _ _ g ∙ pick-no _ _ _ f ∙ pick-no _ _ _ e)
+          (pick-no _ _ _ h ∙ pick-no _ _ _ g ∙ pick-no _ _ _ f ∙ pick-no _ _ _ e)
 
       first : (t : Bool) → eqb (w % 4) 1 ≡ t → eqb (w % 4) 0 ≡ false → inSpan (lowOf w) (highOf w) (v / 1024 % 16384) ≡ wordMatches w (record { 0 = v })
       first true e g = let k = eqb-true (w % 4) 1 e in by-kind Kind.Large (kindOf-type w Kind.Large k) _ _ large (valid-one h) (pick-no _ _ _ h ∙ by-1 w _ _ _ _ k) (pick-no _ _ _ h ∙ by-1 w _ _ _ _ k)
@@ -94,13 +89,15 @@ module _ (w v : ℕ) (small : w < 262144) (virtual : v < 16777216) where
 
 -- the search of spans is the search of slots
 module _ (cam lows highs : List ℕ) (va : VirtualAddress) (virtual : va .0 < 16777216) where
-  sought-from : (n i : ℕ) → ((j : ℕ) → i ≤ j → j < i + n → getD cam j 0 < 262144) → ((j : ℕ) → i ≤ j → j < i + n → getD lows j 0 ≡ lowOf (getD cam j 0)) → ((j : ℕ) → i ≤ j → j < i + n → getD highs j 0 ≡ highOf (getD cam j 0))
+  sought-from : (n i : ℕ) → ((j : ℕ) → i ≤ j → j < i + n → getD cam j 0 < 262144) → ((j : ℕ) → i ≤ j → j < i + n → getD lows j 0 ≡ lowOf (getD cam j 0))
+      → ((j : ℕ) → i ≤ j → j < i + n → getD highs j 0 ≡ highOf (getD cam j 0))
       → soughtFrom n i lows highs (va .0 / 1024 % 16384) ≡ lookedFrom n i cam va
   unfolding soughtFrom lookedFrom
   sought-from zero i c l h = refl
   sought-from (suc n) i c l h =
       ap₂ (λ (t : Bool) (m : Matched). pick t (Matched.At i) m)
-      (ap₂ (λ (x y : ℕ). inSpan x y (va .0 / 1024 % 16384)) (l i (omega arith) (omega arith)) (h i (omega arith) (omega arith)) ∙ span-matches (getD cam i 0) (va .0) (c i (omega arith) (omega arith)) virtual)
+      (ap₂ (λ (x y : ℕ). inSpan x y (va .0 / 1024 % 16384)) (l i (omega arith) (omega arith)) (h i (omega arith) (omega arith))
+      ∙ span-matches (getD cam i 0) (va .0) (c i (omega arith) (omega arith)) virtual)
       (sought-from n (i + 1) (λ j a b. c j (omega arith) (omega arith)) (λ j a b. l j (omega arith) (omega arith)) (λ j a b. h j (omega arith) (omega arith)))
 
   cams-from : (n i : ℕ) → allFrom (camOk 262144) n i cam ≡ true → (j : ℕ) → i ≤ j → j < i + n → getD cam j 0 < 262144

@@ -1,21 +1,14 @@
 -- Banks in range, and what keeps them there. Assumes nothing.
-use mathlib.Core.Path.{_≡_, _∙_, ap₂}
-use mathlib.Core.Bool.{Bool, true, _&&_}
-use Prim.Native.Nat.{ℕ, _+_, _<_}
-use native.Mathlib.Omega.{arith}
-use lib.Dec.{ltb}
-use borrow.Author.Tests.{lt-ltb, ltb-true}
-use Rattle.page.specs.Pick.{_and_}
-use Rattle.page.specs.Words.{wordFlushed, wordFlushedAt}
-use Rattle.page.specs.declared.VirtualAddress.{VirtualAddress}
-use Rattle.page.specs.declared.Words.{Words}
-use Rattle.page.proofs.Picks.{pick-by, and-yes, and-left, and-right, all-four}
-use Rattle.lanes.specs.Lanes.{slots, camLimit, camOk, ramOk, camsOk, ramsOk, flushedAll, flushedEntry}
+use Rattle.bank.specs.Names.{_≡_, Bool, ℕ, _+_, _<_, ltb, _and_, VirtualAddress, Words, slots, camLimit, camsOk, ramsOk, flushedAll}
+use Rattle.bank.specs.Names.{flushedEntry, Bank, Fill}
+use Rattle.bank.proofs.Names.{_∙_, ap₂, true, arith, lt-ltb, ltb-true, wordFlushed, wordFlushedAt, pick-by, and-yes, and-left, and-right}
+use Rattle.bank.proofs.Names.{camOk, nextSlot, nextVictim, storedAt, filled, entryFilled}
+use mathlib.Core.Bool.{_&&_}
+use Rattle.page.proofs.Picks.{all-four}
+use Rattle.lanes.specs.Lanes.{ramOk}
 use Rattle.lanes.proofs.Ranges.{all-each, all-set, all-map, flushed-ok, flushedAt-ok}
-use Rattle.bank.specs.declared.Bank.{Bank}
-use Rattle.bank.specs.declared.Fill.{Fill}
 use Rattle.bank.specs.Slots.{bankOk}
-use Rattle.bank.specs.Changes.{nextSlot, nextVictim, storedAt, lockedAt, filled, entryFilled, copied, bankFlushed, bankFlushedAt}
+use Rattle.bank.specs.Changes.{lockedAt, copied, bankFlushed, bankFlushedAt}
 
 -- a bank in range, by its parts
 pub record InRange (b : Bank) : Type 0 where

@@ -1,17 +1,7 @@
 -- A search that keeps the least slot seen. Assumes nothing.
-use mathlib.Core.Path.{_≡_, refl, sym, _∙_, ap, subst}
-use mathlib.Core.Bool.{Bool, true, false}
-use mathlib.Core.List.{List}
-use mathlib.Core.Logic.{_⊎_, inl, inr}
-use Prim.Native.Nat.{ℕ, zero, suc, _+_, _-_, _<_, _≤_}
-use native.Mathlib.Omega.{arith}
-use lib.Dec.{ltb}
-use lib.ListN.{getD}
-use borrow.Author.Tests.{lt-ltb, le-ltb}
-use Rattle.page.specs.Pick.{pick}
-use Rattle.page.proofs.Picks.{pick-yes, pick-no, pick-by}
-use Rattle.lanes.specs.declared.Matched.{Matched}
-use Rattle.bank.specs.Spans.{inSpan, soughtFrom, sought}
+use Rattle.bank.specs.Names.{_≡_, Bool, List, ℕ, zero, suc, _+_, _<_, ltb, getD, pick, Matched}
+use Rattle.bank.proofs.Names.{refl, sym, _∙_, ap, subst, true, false, _⊎_, inl, inr, _-_, _≤_, arith, lt-ltb, le-ltb, pick-yes, pick-no}
+use Rattle.bank.proofs.Names.{pick-by, inSpan, soughtFrom, sought}
 
 abbrev IsNothing : Matched → Type 0
 IsNothing (Matched.At i) = ⊥

@@ -1,11 +1,6 @@
 -- What changes the slots: fill, load, flushes, lock (01, "The walk", "Registers").
-use Rattle.page.specs.Ground.{ℕ, List, getD, set}
-use Rattle.page.specs.declared.VirtualAddress.{VirtualAddress}
-use Rattle.page.specs.declared.Words.{Words}
-use Rattle.lanes.specs.Lanes.{flushedAll, flushedEntry}
+use Rattle.bank.specs.Names.{ℕ, List, getD, set, VirtualAddress, Words, flushedAll, flushedEntry, Bank, Fill}
 unfoldable pub use Rattle.bank.specs.Victim.{nextSlot, nextVictim}
-use Rattle.bank.specs.declared.Bank.{Bank}
-use Rattle.bank.specs.declared.Fill.{Fill}
 
 -- the words in slot i
 abbrev pub storedAt : Bank → ℕ → Words → Bank

@@ -1,6 +1,5 @@
 -- The lanes of the slots in place: the words, and the ends of the span that each slot matches.
-use Rattle.page.specs.Ground.{ℕ, _≡_, List, length}
-use Rattle.bank.specs.declared.Bank.{Bank}
+use Rattle.bank.specs.Names.{ℕ, _≡_, List, length, Bank}
 use Rattle.bank.specs.Spans.{lowOf, highOf, Ends}
 
 -- a bank of its parts

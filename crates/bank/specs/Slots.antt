@@ -1,9 +1,5 @@
 -- The slots, and what is in range (01, "The unit").
-use Rattle.page.specs.Ground.{ℕ, Bool, ltb, getD, replicate}
-use Rattle.page.specs.Pick.{_and_}
-use Rattle.page.specs.declared.Words.{Words}
-use Rattle.lanes.specs.Lanes.{slots, camLimit, camsOk, ramsOk}
-use Rattle.bank.specs.declared.Bank.{Bank}
+use Rattle.bank.specs.Names.{ℕ, Bool, ltb, getD, replicate, _and_, Words, slots, camLimit, camsOk, ramsOk, Bank}
 
 -- every slot empty, nothing locked
 abbrev pub freshBank : Bank

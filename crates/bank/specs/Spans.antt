@@ -1,7 +1,5 @@
 -- The page numbers (address bits 23:10) that a slot matches, from its lowest to its highest, and the search over them.
-use Rattle.page.specs.Ground.{ℕ, zero, suc, _+_, _*_, _/_, _%_, _<_, _≡_, Bool, List, eqb, leb, getD}
-use Rattle.page.specs.Pick.{pick, _and_}
-use Rattle.lanes.specs.declared.Matched.{Matched}
+use Rattle.bank.specs.Names.{ℕ, zero, suc, _+_, _*_, _/_, _%_, _<_, _≡_, Bool, List, eqb, leb, getD, pick, _and_, Matched}
 
 -- by the type of a word, one of four
 abbrev pub byType : ℕ → ℕ → ℕ → ℕ → ℕ → ℕ
@@ -39,5 +37,5 @@ abbrev pub highKept : ℕ → ℕ → ℕ
 highKept w high = pick (eqb (w / 4 % 2) 0) 0 high
 
 -- the same of each slot, from what its end was
-abbrev pub Kept : (ℕ → ℕ → ℕ) → ℕ → List ℕ → List ℕ → List ℕ → Type 0
-Kept f n cam before ends = (j : ℕ) → j < n → getD ends j 0 ≡ f (getD cam j 0) (getD before j 0)
+abbrev pub EndsKept : (ℕ → ℕ → ℕ) → ℕ → List ℕ → List ℕ → List ℕ → Type 0
+EndsKept f n cam before ends = (j : ℕ) → j < n → getD ends j 0 ≡ f (getD cam j 0) (getD before j 0)

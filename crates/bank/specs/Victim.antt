@@ -1,7 +1,5 @@
 -- Which slot a fill takes (01, "The walk").
-use Rattle.page.specs.Ground.{ℕ, _+_, ltb}
-use Rattle.page.specs.Pick.{pick}
-use Rattle.lanes.specs.Lanes.{slots}
+use Rattle.bank.specs.Names.{ℕ, _+_, ltb, pick, slots}
 
 -- a fill takes the larger of victim and lock base
 unfoldable pub nextSlot : ℕ → ℕ → ℕ

@@ -4,7 +4,7 @@ pub mod slots;
 use lanes::CAM_LIMIT;
 use lanes::SLOTS;
 use page::Words;
-ghost use mathlib.Core.Path.{_≡_};
+ghost use Rattle.bank.specs.Names.{_≡_};
 ghost use Rattle.bank.specs.Slots.{bankOk, freshBank};
 ghost use Rattle.bank.specs.Victim.{nextSlot, nextVictim};
 

@@ -6,14 +6,10 @@ use lanes::Matched;
 use lanes::SLOTS;
 use page::VirtualAddress;
 use page::Words;
-ghost use mathlib.Core.Path.{_≡_};
-ghost use Prim.Native.Nat.{_<_};
-ghost use lib.Dec.{ltb};
-ghost use Rattle.page.specs.Pick.{pick};
-ghost use Rattle.lanes.specs.Lanes.{flushedAll, flushedEntry};
+ghost use Rattle.bank.specs.Names.{_≡_, _<_, ltb, pick, flushedAll, flushedEntry};
 ghost use Rattle.bank.specs.Slots.{freshBank};
 ghost use Rattle.bank.specs.Changes.{storedAt, entryFilled};
-ghost use Rattle.bank.specs.Spans.{lowOf, highOf, inSpan, sought, Ends, lowKept, highKept, Kept};
+ghost use Rattle.bank.specs.Spans.{lowOf, highOf, inSpan, sought, Ends, lowKept, highKept, EndsKept};
 ghost use Rattle.bank.specs.InPlace.{bankOf, Spanned, Renewed, Stands};
 
 // The lowest page number that a slot matches; past all where it is not valid.
@@ -132,7 +128,7 @@ fn high_kept(w: u32, high: u16) -> u16
 
 // The lowest numbers of slots each of which is as it was or no longer valid.
 fn lows_kept<'a>(cam: &'a [u32; SLOTS], lows: [u16; SLOTS]) -> [u16; SLOTS]
-    ensures { λ r. ⌜ Kept lowKept 32 (now (cam .entry)) lows r ⌝ }
+    ensures { λ r. ⌜ EndsKept lowKept 32 (now (cam .entry)) lows r ⌝ }
 {
     let mut out = lows;
     let mut i: usize = 0;
@@ -147,7 +143,7 @@ fn lows_kept<'a>(cam: &'a [u32; SLOTS], lows: [u16; SLOTS]) -> [u16; SLOTS]
 
 // The highest numbers.
 fn highs_kept<'a>(cam: &'a [u32; SLOTS], highs: [u16; SLOTS]) -> [u16; SLOTS]
-    ensures { λ r. ⌜ Kept highKept 32 (now (cam .entry)) highs r ⌝ }
+    ensures { λ r. ⌜ EndsKept highKept 32 (now (cam .entry)) highs r ⌝ }
 {
     let mut out = highs;
     let mut i: usize = 0;
@@ -171,7 +167,8 @@ pub fn store(
     at: u8,
     words: Words,
 )
-    ensures { λ _. ⌜ (Spanned (now (cam .entry)) (now (lows .entry)) (now (highs .entry)) → at < 32 → Stands (storedAt (bankOf (now (cam .entry)) (now (ram .entry)) lock victim) at words) (bankOf (now (cam .exit)) (now (ram .exit)) lock victim) (now (lows .exit)) (now (highs .exit))) ⌝ }
+    ensures { λ _. ⌜ (Spanned (now (cam .entry)) (now (lows .entry)) (now (highs .entry)) → at < 32
+        → Stands (storedAt (bankOf (now (cam .entry)) (now (ram .entry)) lock victim) at words) (bankOf (now (cam .exit)) (now (ram .exit)) lock victim) (now (lows .exit)) (now (highs .exit))) ⌝ }
 {
     let i = at as usize % SLOTS;
     cam[i] = words.cam;
@@ -190,7 +187,8 @@ pub fn take(
     victim: u8,
     fill: Fill,
 ) -> u8
-    ensures { λ r. ⌜ (Spanned (now (cam .entry)) (now (lows .entry)) (now (highs .entry)) → lock < 32 → victim < 32 → Stands (entryFilled (bankOf (now (cam .entry)) (now (ram .entry)) lock victim) fill) (bankOf (now (cam .exit)) (now (ram .exit)) lock r) (now (lows .exit)) (now (highs .exit))) ⌝ }
+    ensures { λ r. ⌜ (Spanned (now (cam .entry)) (now (lows .entry)) (now (highs .entry)) → lock < 32 → victim < 32
+        → Stands (entryFilled (bankOf (now (cam .entry)) (now (ram .entry)) lock victim) fill) (bankOf (now (cam .exit)) (now (ram .exit)) lock r) (now (lows .exit)) (now (highs .exit))) ⌝ }
 {
     match fill {
         Fill::Nothing => {

@@ -1,19 +1,12 @@
 -- `x - x == 0.0` is true of the finite values and of nothing else. Assumes nothing.
-use mathlib.Core.Path.{_≡_, refl, _∙_}
+use Rattle.bill.specs.Names.{_≡_, Bool, true, false, ℕ, Float, binary64, f0}
+use Rattle.bill.proofs.Names.{refl, _∙_, not, _*_, _-_, _<_, mul-pos, zero-mul, mul-one, arith, pos, ltb, lit<, nan, inf, fin, up, down}
+use Rattle.bill.proofs.Names.{down-pos, finite, zero-is}
 use mathlib.Core.Logic.{_⊎_, inl, inr}
-use mathlib.Core.Bool.{Bool, true, false, not}
-use Prim.Native.Nat.{ℕ, _*_, _-_, _<_}
-use native.Mathlib.Nat.{mul-pos, zero-mul, mul-one, eq-zero-or-pos}
-use native.Mathlib.Omega.{arith}
-use lib.IntN.{pos}
-use lib.Dec.{ltb, lit<}
-use lib.Ieee.{Float, nan, inf, fin, binary64, up, down, round, sum, add, sub, neg, eq}
-use lib.Ieee.Fits.{down-pos}
+use native.Mathlib.Nat.{eq-zero-or-pos}
+use lib.Ieee.{round, sum, add, sub, neg, eq}
 use lib.Ieee.Exact.{HasValue, round-exact}
-use lib.Ieee.Scale.{finite}
 use borrow.Author.Tests.{le-ltb}
-use Rattle.prices.specs.Prices.{f0}
-use Rattle.prices.proofs.Values.{zero-is}
 
 none : (n c : ℕ) → 0 < c → n * c ≡ 0 → n ≡ 0
 none n c p h = go (eq-zero-or-pos n)

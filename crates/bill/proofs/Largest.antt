@@ -1,17 +1,16 @@
 -- Sums that stay within the largest binary64 value, up to what still rounds to it, are finite. Assumes nothing.
-use mathlib.Core.Path.{_≡_, refl, sym, ap, _∙_, subst}
-use mathlib.Core.Bool.{Bool, true, false, not, _&&_, cond, Bool·beq}
-use Prim.Native.Nat.{ℕ, zero, suc, _+_, _*_, _-_, _<_, _≤_, _^_, _%_}
-use native.Mathlib.Nat.{mul-pos, zero-mul, mul-one, mul-assoc, mul-comm, add-mul, mul-le-mul, mul-le-mul-right, le-trans, le-of-eq, le-of-lt, lt-of-mul-lt-mul-right, le-mul-of-pos-right}
-use native.Mathlib.Omega.{arith}
-use lib.IntN.{ℤ, pos, negsuc}
-use lib.Dec.{T, ltb, leb, eqb, ltb→lt, leb→le, nleb→lt, lit<, lit≤}
+use Rattle.bill.specs.Names.{_≡_, Bool, true, false, ℕ, Float, binary64}
+use Rattle.bill.proofs.Names.{refl, sym, ap, _∙_, subst, not, _&&_, cond, Bool·beq, zero, suc, _+_, _*_, _-_, _<_, _≤_, _^_, mul-pos, zero-mul}
+use Rattle.bill.proofs.Names.{mul-one, mul-le-mul-right, le-trans, le-of-eq, le-mul-of-pos-right, arith, ℤ, pos, negsuc, T, ltb, lit<, lit≤}
+use Rattle.bill.proofs.Names.{nan, inf, fin, prec, low, emax, up, down, down-pos, round-is, finite}
+use Prim.Native.Nat.{_%_}
+use native.Mathlib.Nat.{mul-assoc, mul-comm, add-mul, mul-le-mul, le-of-lt, lt-of-mul-lt-mul-right}
+use lib.Dec.{leb, eqb, ltb→lt, leb→le, nleb→lt}
 use lib.Pow.{pow-pos, pow-add, pow-mono, le-ones}
 use lib.Count.{trailingZeros}
-use lib.Ieee.{Float, nan, inf, fin, binary64, prec, low, emax, up, down, size, span, climb, odd, units, round, sum, add, le, lt, eq, fits}
-use lib.Ieee.Fits.{down-pos, and-l, and-r, round-is}
+use lib.Ieee.{size, span, climb, odd, units, round, sum, add, le, lt, eq, fits}
+use lib.Ieee.Fits.{and-l, and-r}
 use lib.Ieee.Order.{round-mono}
-use lib.Ieee.Scale.{finite}
 use Rattle.prices.proofs.Range.{InRange}
 
 -- the largest finite value, and a bound that still rounds to it
@@ -47,7 +46,8 @@ units-below : (q k : ℕ) (y : Float) → T (finite y) → T (le (units binary64
 unfolding units le lt eq
 units-below q k y f = go (ltb (q * 2 ^ k) (2 ^ (low binary64 + suc (emax binary64)))) y f
   where
-    go : (b : Bool) (y : Float) → T (finite y) → T (le (cond b (odd (suc (prec binary64)) false q k (low binary64)) (inf false)) y) → T (finite (cond b (odd (suc (prec binary64)) false q k (low binary64)) (inf false)))
+    go : (b : Bool) (y : Float) → T (finite y) → T (le (cond b (odd (suc (prec binary64)) false q k (low binary64)) (inf false)) y)
+        → T (finite (cond b (odd (suc (prec binary64)) false q k (low binary64)) (inf false)))
     go true y f l = subst T (sym (odd-finite (suc (prec binary64)) false q k (low binary64))) tt
     go false nan f l = absurd f
     go false (inf t) f l = absurd f

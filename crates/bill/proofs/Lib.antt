@@ -1,3 +1,4 @@
+pub mod Names
 pub mod Posting
 pub mod Stays
 pub mod Values

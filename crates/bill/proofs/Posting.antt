@@ -1,15 +1,9 @@
 -- What a posting changes, and what it leaves alone. Assumes nothing.
-use mathlib.Core.Path.{_≡_, refl, ap, _∙_}
-use mathlib.Core.Bool.{Bool}
-use mathlib.Core.List.{List, [], _∷_, _++_}
-use Prim.Native.Nat.{ℕ}
-use lib.Ieee.{Float, binary64, add}
-use Rattle.bill.specs.Types.{Place, Source, Prices, Bill}
-use Rattle.prices.specs.declared.Price.{Price}
-use Rattle.prices.specs.declared.LastRow.{LastRow}
-use Rattle.prices.specs.Prices.{rowOf, wordPrice}
+use Rattle.bill.specs.Names.{_≡_, Bool, List, [], _∷_, ℕ, Float, binary64, Price, LastRow, rowOf, wordPrice, Place, Source, Prices, Bill}
+use Rattle.bill.proofs.Names.{refl, ap, _∙_, placePosted, wordPosted, wordsPosted, attemptPosted, freshBill}
+use mathlib.Core.List.{_++_}
+use lib.Ieee.{add}
 use Rattle.prices.proofs.Rows.{first-row}
-use Rattle.bill.specs.Bill.{placePosted, wordPosted, wordsPosted, attemptPosted, freshBill}
 
 -- the words of two lists in one are the postings in order
 pub words-append : (p : Prices) (b : Bill) (xs ys : List Source) → wordsPosted p b (xs ++ ys) ≡ wordsPosted p (wordsPosted p b xs) ys

@@ -1,19 +1,15 @@
 -- A finite miss figure stays finite. Assumes nothing.
-use mathlib.Core.Path.{_≡_, refl, sym, ap, _∙_, subst}
-use mathlib.Core.Bool.{Bool, true, false, not, _&&_, cond, Bool·beq}
-use Prim.Native.Nat.{ℕ, zero, suc, _+_, _*_, _-_, _≤_, _^_}
-use native.Mathlib.Nat.{mul-pos, one-mul, mul-one, mul-le-mul-left, mul-le-mul-right, le-trans, le-of-eq, le-mul-of-pos-right}
-use native.Mathlib.Omega.{arith}
-use lib.IntN.{ℤ, pos, negsuc}
-use lib.Dec.{T, ltb, nltb→le, lit<, lit≤}
+use Rattle.bill.specs.Names.{_≡_, Bool, true, false, ℕ, Float, binary64, f0}
+use Rattle.bill.proofs.Names.{refl, sym, ap, _∙_, subst, not, _&&_, cond, Bool·beq, zero, suc, _+_, _*_, _-_, _≤_, _^_, mul-pos, mul-one}
+use Rattle.bill.proofs.Names.{mul-le-mul-right, le-trans, le-of-eq, le-mul-of-pos-right, arith, ℤ, pos, negsuc, T, ltb, lit<, lit≤, nan, inf}
+use Rattle.bill.proofs.Names.{fin, prec, low, emax, up, down, down-pos, round-is, add-fits, finite, zero-is, f⅛, smoothed}
+use native.Mathlib.Nat.{one-mul, mul-le-mul-left}
+use lib.Dec.{nltb→le}
 use lib.Count.{trailingZeros}
-use lib.Ieee.{Float, nan, inf, fin, binary64, prec, low, emax, up, down, odd, units, round, sum, add, sub, mul, neg, fits, unlike, size, span, climb, ofBits, ofFields}
-use lib.Ieee.Fits.{down-pos, round-is, sub-fits, mul-fits, add-fits}
+use lib.Ieee.{odd, units, round, sum, add, sub, mul, neg, fits, unlike, size, span, climb, ofBits, ofFields}
+use lib.Ieee.Fits.{sub-fits, mul-fits}
 use lib.Ieee.Positive.{num, den}
-use lib.Ieee.Scale.{finite}
-use Rattle.prices.specs.Prices.{f0}
-use Rattle.prices.proofs.Values.{zero-is}
-use Rattle.bill.specs.Figures.{f⅛, outcomeOf, smoothed}
+use Rattle.bill.specs.Figures.{missFigure}
 use Rattle.bill.proofs.Values.{one-is, eighth-is}
 use Rattle.bill.proofs.Largest.{most, bound, within, inside, scaled, scaled-left, fits-most, round-finite, sum-finite}
 
@@ -135,7 +131,7 @@ smoothed-finite x false t f = rw (zero-is, eighth-is) (smooth-finite 0 (lit≤ t
 
 pub smoothed-fits : (x : Float) (missed : Bool) → T (fits binary64 (smoothed x missed))
 unfolding smoothed
-smoothed-fits x missed = add-fits binary64 x (mul binary64 (sub binary64 (outcomeOf missed) x) f⅛)
+smoothed-fits x missed = add-fits binary64 x (mul binary64 (sub binary64 (missFigure missed) x) f⅛)
 
 -- a miss from zero, then a match: 0.125, then 0.109375
 miss-match : (smoothed f0 true ≡ f⅛) × (smoothed f⅛ false ≡ ofBits binary64 0x3fbc_0000_0000_0000)

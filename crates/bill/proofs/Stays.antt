@@ -1,22 +1,15 @@
 -- A good bill stays good: no posting of good prices makes a finite figure infinite. Assumes nothing.
-use mathlib.Core.Path.{_≡_, sym, ap, _∙_, subst}
-use mathlib.Core.Bool.{Bool, true, false}
-use mathlib.Core.List.{List, [], _∷_}
-use Prim.Native.Nat.{ℕ}
-use lib.Dec.{T}
-use lib.Ieee.{binary64, add, fits}
-use lib.Ieee.Fits.{add-fits}
+use Rattle.bill.specs.Names.{_≡_, Bool, true, false, List, [], _∷_, ℕ, binary64, _and_, sources, pricesOk, rowOf, wordPrice, Place, Source}
+use Rattle.bill.specs.Names.{Reads, Price, Prices, Side, Seen, Bill}
+use Rattle.bill.proofs.Names.{sym, ap, _∙_, subst, T, add-fits, finite, zero-is, placePosted, wordPosted, wordsPosted, attemptPosted}
+use Rattle.bill.proofs.Names.{seenPosted, freshBill}
+use lib.Ieee.{add, fits}
 use lib.Ieee.Bits.{ofBits-fits, is-true}
-use lib.Ieee.Scale.{finite}
-use Rattle.page.specs.Pick.{_and_}
 use Rattle.page.proofs.Picks.{and-yes, and-left, and-right}
-use Rattle.bill.specs.Types.{Place, Source, Reads, Price, Prices, Side, Seen, Bill}
-use Rattle.memory.specs.Reads.{sources}
-use Rattle.prices.specs.Prices.{figureOk, priceOk, pricesOk, rowOf, wordPrice}
-use Rattle.prices.proofs.Values.{zero-is}
+use Rattle.prices.specs.Prices.{figureOk, priceOk}
 use Rattle.prices.proofs.Range.{in-range}
 use Rattle.prices.proofs.Figure.{charged-figure}
-use Rattle.bill.specs.Bill.{billOk, moneyOk, placePosted, wordPosted, wordsPosted, readsPosted, attemptPosted, seenPosted, freshBill, Good}
+use Rattle.bill.specs.Bill.{billOk, moneyOk, readsPosted, Good}
 use Rattle.bill.proofs.Largest.{word-finite}
 use Rattle.bill.proofs.Smoothing.{smoothed-finite, smoothed-fits}
 

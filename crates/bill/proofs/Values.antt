@@ -1,10 +1,9 @@
 -- The constants of the bill as values. Assumes nothing.
-use mathlib.Core.Path.{_≡_, refl}
-use lib.IntN.{pos, negsuc}
-use mathlib.Core.Bool.{false}
+use Rattle.bill.specs.Names.{_≡_, false}
+use Rattle.bill.proofs.Names.{refl, pos, negsuc, fin, f⅛}
 use lib.Count.{trailingZeros}
-use lib.Ieee.{fin, ofBits, ofFields, odd}
-use Rattle.bill.specs.Figures.{f1, f⅛}
+use lib.Ieee.{ofBits, ofFields, odd}
+use Rattle.bill.specs.Figures.{f1}
 
 pub one-is : f1 ≡ fin false 1 (pos 0)
 unfolding ofBits ofFields odd trailingZeros

@@ -1,12 +1,9 @@
 -- The walk bill (01, "Meters and the walk bill", and refusal 9). Its figures are binary64 values, and its operations those of
 -- IEEE 754, in the order written here.
-use Rattle.page.specs.Ground.{ℕ, _≡_, Bool, true, false, List, [], _∷_}
-use Rattle.page.specs.Pick.{_and_}
-use Rattle.bill.specs.Types.{binary64, Place, Source, Reads, Prices, Seen, Bill}
-use Rattle.memory.specs.Reads.{sources}
-use Rattle.prices.specs.Prices.{f0, pricesOk, rowOf, wordPrice, sideRead, freshSide}
+use Rattle.bill.specs.Names.{ℕ, _≡_, Bool, true, false, List, [], _∷_, _and_, sources, f0, pricesOk, rowOf, wordPrice, sideRead, freshSide}
+use Rattle.bill.specs.Names.{binary64, Place, Source, Reads, Prices, Seen, Bill}
 use lib.Ieee.{add, fits}
-pub use Rattle.bill.specs.Figures.{finite, f1, f⅛, outcomeOf}
+pub use Rattle.bill.specs.Figures.{finite, f1, f⅛, missFigure}
 unfoldable pub use Rattle.bill.specs.Figures.{smoothed}
 
 -- neither figure is infinite or NaN

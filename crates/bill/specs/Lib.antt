@@ -1,3 +1,3 @@
-pub mod Types
 pub mod Bill
 pub mod Figures
+pub mod Names

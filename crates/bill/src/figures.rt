@@ -1,6 +1,6 @@
 // The bill's figures: which are finite, and the smoothing of misses.
-ghost use mathlib.Core.Path.{_≡_};
-ghost use Rattle.bill.specs.Figures.{finite, outcomeOf, smoothed};
+ghost use Rattle.bill.specs.Names.{_≡_};
+ghost use Rattle.bill.specs.Figures.{finite, missFigure, smoothed};
 
 // Whether a figure is neither infinite nor NaN.
 pub(crate) fn is_finite(x: f64) -> bool
@@ -11,7 +11,7 @@ pub(crate) fn is_finite(x: f64) -> bool
 
 // What the smoothing takes an attempt for: 1 on no match, else 0.
 fn outcome(missed: bool) -> f64
-    ensures { λ r. ⌜ r ≡ outcomeOf missed ⌝ }
+    ensures { λ r. ⌜ r ≡ missFigure missed ⌝ }
 {
     if missed {
         return 1.0;

@@ -5,7 +5,7 @@ use memory::Place;
 use memory::Source;
 use prices::Prices;
 use prices::Side;
-ghost use mathlib.Core.Path.{_≡_};
+ghost use Rattle.bill.specs.Names.{_≡_};
 ghost use Rattle.bill.specs.Bill.{billOk, wordPosted, attemptPosted, seenPosted, freshBill};
 
 // The running total in nanoseconds, the smoothed miss figure, and the two sides.

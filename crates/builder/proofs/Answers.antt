@@ -1,22 +1,11 @@
 -- The builder's answer and what it leaves, case by case. Assumes nothing.
-use mathlib.Core.Path.{_≡_, refl, sym, ap, ap₂, _∙_}
-use mathlib.Core.Bool.{true, false, not}
-use mathlib.Core.List.{List}
-use Prim.Native.Nat.{ℕ, _+_, _%_, _^_, _≤_, _<_}
-use native.Mathlib.Omega.{arith}
-use borrow.Author.Tests.{lt-ltb, le-ltb, ltb-false, eqb-true, not-false}
-use lib.Dec.{ltb}
-use lib.ListN.{length}
-use Rattle.page.proofs.Picks.{pick-yes, pick-no, pick-by, and-left, and-right}
+use Rattle.builder.specs.Names.{_≡_, not, List, ℕ, _+_, _%_, _^_, _≤_, _<_, ltb, length, Checked, mappings, megabytes, checked, imageLength, Built}
+use Rattle.builder.proofs.Names.{refl, sym, ap, ap₂, _∙_, true, false, arith, lt-ltb, le-ltb, not-false, pick-yes, pick-no, and-left}
+use Rattle.builder.proofs.Names.{and-right, image, roomOk, outcome}
+use borrow.Author.Tests.{ltb-false, eqb-true}
+use Rattle.page.proofs.Picks.{pick-by}
 use Rattle.memory.proofs.Places.{ok-ends}
-use Rattle.records.specs.declared.Checked.{Checked}
-use Rattle.records.specs.Mappings.{mappings}
-use Rattle.page.specs.Words.{megabytes}
-use Rattle.records.specs.Refusals.{checked}
-use Rattle.tables.specs.Tables.{imageLength}
-use Rattle.builder.specs.Image.{image}
-use Rattle.builder.specs.declared.Built.{Built}
-use Rattle.builder.specs.Build.{roomOk, afterCheck, lengthOr, answerOf, leaves, Outcome, outcome, buildOf}
+use Rattle.builder.specs.Build.{afterCheck, lengthOr, answerOf, leaves, Outcome, buildOf}
 
 -- a room that is not refused: its base is a multiple of 4,096, and it ends at 2^32 at the latest
 pub room-unit : (base room : ℕ) → roomOk base room ≡ true → base % 4096 ≡ 0
@@ -45,7 +34,8 @@ module _ (rs : List ℕ) (base room : ℕ) where
   pub answer-long : roomOk base room ≡ true → checked megabytes rs ≡ Checked.Fine → room < imageLength megabytes (mappings rs) → answerOf rs base room ≡ Built.TooLong (length (mappings rs))
   answer-long h c l = after h Checked.Fine c _ (pick-yes _ _ _ (lt-ltb _ _ l))
 
-  pub answer-length : roomOk base room ≡ true → checked megabytes rs ≡ Checked.Fine → imageLength megabytes (mappings rs) ≤ room → answerOf rs base room ≡ Built.Length (imageLength megabytes (mappings rs))
+  pub answer-length : roomOk base room ≡ true → checked megabytes rs ≡ Checked.Fine → imageLength megabytes (mappings rs) ≤ room
+      → answerOf rs base room ≡ Built.Length (imageLength megabytes (mappings rs))
   answer-length h c l = after h Checked.Fine c _ (pick-no _ _ _ (le-ltb _ _ l))
 
 -- what is left follows from the answer

@@ -1,35 +1,21 @@
 -- The first level of the tables, placed one megabyte after the other. Assumes nothing.
-use mathlib.Core.Path.{_≡_, refl, sym, ap, ap₂, _∙_, subst}
-use mathlib.Core.Bool.{Bool}
-use mathlib.Core.List.{List}
-use Prim.Native.Nat.{ℕ, _+_, _*_, _-_, _/_, _%_, _^_, _≤_, _<_}
-use native.Mathlib.Omega.{arith}
-use native.Mathlib.Decide.{ℕ-discrete}
-use borrow.Author.Tests.{eq-eqb, ne-eqb}
-use lib.ListN.{length, getD, set}
+use Rattle.builder.specs.Names.{_≡_, Bool, List, ℕ, _+_, _*_, _-_, _/_, _%_, _^_, _≤_, _<_, length, getD, megabytes, Mapping, Held, Second}
+use Rattle.builder.specs.Names.{tableOf, tableSize, tableEnd, tableStart, imageLength, tableBy, Kinds, firstBy, wordIn, wordsIn}
+use Rattle.builder.proofs.Names.{refl, sym, ap, ap₂, _∙_, subst, arith, ℕ-discrete, eq-eqb, ne-eqb, upper, lowBits, Kind, pick-yes, pick-no}
+use Rattle.builder.proofs.Names.{startAfter, start-le, start-4, size-le, end-4, based, Level}
+use lib.ListN.{set}
 use lib.Seq.{getD-set-same, getD-set-other}
-use Rattle.page.specs.Low.{upper}
-use Rattle.page.specs.Words.{megabytes, lowBits}
-use Rattle.page.specs.declared.Kind.{Kind}
-use Rattle.page.proofs.Picks.{pick-yes, pick-no}
-use Rattle.records.specs.declared.Mapping.{Mapping}
-use Rattle.records.specs.declared.Held.{Held}
-use Rattle.tables.specs.declared.Second.{Second}
-use Rattle.tables.specs.Tables.{tableOf, tableSize, startAfter, tableEnd, tableStart, imageLength}
-use Rattle.tables.specs.Kinds.{tableBy}
-use Rattle.records.specs.Noted.{Kinds}
 use Rattle.tables.proofs.Notes.{by-kinds}
-use Rattle.tables.proofs.Places.{start-ge, start-le, start-4, size-le, size-4, end-4, turn-start, turn-end}
-use Rattle.tables.specs.Words.{firstBy, wordIn, wordsIn}
+use Rattle.tables.proofs.Places.{start-ge, size-4, turn-start, turn-end}
 use Rattle.builder.proofs.Runs.{own-words}
-use Rattle.builder.specs.Places.{based, Inside, Level, Placed}
+use Rattle.builder.specs.Places.{TableInside, Placed}
 
 -- the tables of the megabytes below i are placed, and the last one ends at e
 pub record Begun (seen : List Bool) (i e : ℕ) (firsts : List ℕ) : Type 0 where
   pub low : 4 * megabytes ≤ e
   pub high : e ≤ 4 * megabytes + 8192 * i
   pub even : e % 4 ≡ 0
-  pub tables : (x : ℕ) → x < i → Inside e (getD firsts x 0)
+  pub tables : (x : ℕ) → x < i → TableInside e (getD firsts x 0)
   pub ends : (ms : List Mapping) → Kinds ms seen → e ≡ tableEnd megabytes ms i
   pub begins : (ms : List Mapping) → Kinds ms seen → (x : ℕ) → x < i → getD firsts x 0 ≡ firstBy (tableOf ms x) (tableStart megabytes ms x) Held.Nobody
 
@@ -45,12 +31,12 @@ begun-none seen firsts = record {
 }
 
 -- a table's word names a place from its beginning to its end
-inside-own : (t : Second) (s : ℕ) → s % 4 ≡ 0 → Inside (s + tableSize t) (firstBy t s Held.Nobody)
+inside-own : (t : Second) (s : ℕ) → s % 4 ≡ 0 → TableInside (s + tableSize t) (firstBy t s Held.Nobody)
 inside-own Second.Fine s h = record { fine = λ _. omega arith; coarse = λ e. absurd (omega arith) }
 inside-own Second.Coarse s h = record { fine = λ e. absurd (omega arith); coarse = λ _. omega arith }
 inside-own Second.Absent s h = record { fine = λ e. absurd (omega arith); coarse = λ e. absurd (omega arith) }
 
-inside-more : (e f w : ℕ) → e ≤ f → Inside e w → Inside f w
+inside-more : (e f w : ℕ) → e ≤ f → TableInside e w → TableInside f w
 inside-more e f w h i = record { fine = λ q. omega (arith, i .fine q); coarse = λ q. omega (arith, i .coarse q) }
 
 pub level-more : (e f : ℕ) (firsts : List ℕ) → e ≤ f → Level e firsts → Level f firsts
@@ -72,13 +58,13 @@ module _ (seen : List Bool) (i e : ℕ) (firsts : List ℕ) (b : Begun seen i e 
         let even : s % 4 ≡ 0 = ap (λ (x : ℕ). x % 4) q ∙ start-4 t e (b .even) in
         let ge = start-ge t e in
         let le = start-le t e in
-        let own : Inside (s + z) w =
-        subst (Inside (s + z)) (sym v) (subst (λ (x : ℕ). Inside (s + x) (firstBy t s Held.Nobody)) (sym r) (inside-own t s even)) in
+        let own : TableInside (s + z) w =
+        subst (TableInside (s + z)) (sym v) (subst (λ (x : ℕ). TableInside (s + x) (firstBy t s Held.Nobody)) (sym r) (inside-own t s even)) in
         record {
           low = omega (arith, b .low);
           high = omega (arith, b .high, size-le t);
           even = omega (arith, size-4 t);
-          tables = set-more (λ (x y : ℕ). Inside (s + z) y) firsts i w (omega arith) own (λ x h. inside-more e (s + z) _ (omega arith) (b .tables x h));
+          tables = set-more (λ (x y : ℕ). TableInside (s + z) y) firsts i w (omega arith) own (λ x h. inside-more e (s + z) _ (omega arith) (b .tables x h));
           ends = λ ms k. turn-end megabytes ms i s z t (table ms k) (start ms k) r;
           begins = λ ms k.
               set-more (λ (x y : ℕ). y ≡ firstBy (tableOf ms x) (tableStart megabytes ms x) Held.Nobody) firsts i w (omega arith)
@@ -157,8 +143,8 @@ words-coarse Kind.Small x = omega arith
 words-coarse Kind.Tiny x = omega arith
 
 module _ (n : ℕ) (firsts : List ℕ) (l : Level n firsts) (m : Mapping) (lt : m .at .0 / 2 ^ 20 < megabytes) (f : ℕ) (e : f ≡ getD firsts (m .at .0 / 2 ^ 20) 0) where
-  inside : Inside n f
-  inside = subst (Inside n) (sym e) (l .tables (m .at .0 / 2 ^ 20) lt)
+  inside : TableInside n f
+  inside = subst (TableInside n) (sym e) (l .tables (m .at .0 / 2 ^ 20) lt)
 
   pub fine-room : f % 4 ≡ 3 → f - 3 + 4 * (wordIn Second.Fine m + wordsIn Second.Fine (m .at .0 / 2 ^ 20) m) ≤ n
   fine-room h =

@@ -1,23 +1,9 @@
 -- The image of no mappings. Assumes nothing.
-use mathlib.Core.Path.{_≡_, refl, sym, ap, _∙_}
-use mathlib.Core.List.{List, []}
-use Prim.Native.Nat.{ℕ, zero, suc, _+_, _/_, _≤_, _<_}
-use native.Mathlib.Omega.{arith}
-use borrow.Author.Tests.{lt-ltb}
-use lib.ListN.{length}
-use Rattle.page.specs.Words.{megabytes}
-use Rattle.page.proofs.Picks.{pick-yes}
-use Rattle.records.specs.Mappings.{mappingsFrom, mappings}
-use Rattle.records.specs.Meanings.{holder}
-use Rattle.tables.specs.Tables.{tableOf, tableSize, startAfter, tableEnd, tableStart, imageLength}
+use Rattle.builder.specs.Names.{_≡_, List, [], ℕ, zero, suc, _+_, _/_, _≤_, _<_, length, megabytes, mappings, holder, tableOf, tableSize}
+use Rattle.builder.specs.Names.{tableEnd, tableStart, imageLength, Second, Held, pick, firstBy, imageWord, spliced}
+use Rattle.builder.proofs.Names.{refl, sym, ap, _∙_, arith, lt-ltb, pick-yes, startAfter, _or_, firstWord, written, spliced-same}
+use Rattle.records.specs.Mappings.{mappingsFrom}
 use Rattle.records.specs.Noted.{hasKind}
-use Rattle.tables.specs.declared.Second.{Second}
-use Rattle.records.specs.declared.Held.{Held}
-use Rattle.page.specs.Pick.{pick, _or_}
-use Rattle.tables.specs.Words.{firstBy, firstWord, imageWord}
-use Rattle.builder.specs.Image.{written}
-use Rattle.wire.specs.Spliced.{spliced}
-use Rattle.wire.proofs.Splices.{spliced-same}
 use Rattle.builder.proofs.Whole.{front, written-short, written-image}
 
 no-table : (i : ℕ) → tableOf [] i ≡ Second.Absent

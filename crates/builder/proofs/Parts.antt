@@ -1,38 +1,27 @@
 -- The image with one mapping more written. Assumes nothing.
-use mathlib.Core.Path.{_≡_, refl, sym, ap, ap₂, _∙_, subst}
-use mathlib.Core.Bool.{Bool, true, false}
-use mathlib.Core.List.{List, [], _∷_, _++_}
-use Prim.Native.Nat.{ℕ, zero, suc, _+_, _*_, _-_, _/_, _%_, _^_, _≤_, _<_}
-use native.Mathlib.Omega.{arith}
-use native.Mathlib.Decide.{decLe, ℕ-discrete}
-use borrow.Author.Tests.{eq-eqb, ne-eqb, lt-ltb, le-ltb, le-leb, lt-leb, ltb-true, leb-true}
-use lib.Dec.{eqb}
+use Rattle.builder.specs.Names.{_≡_, Bool, List, [], _++_, ℕ, zero, suc, _+_, _*_, _-_, _/_, _%_, _^_, _≤_, _<_, eqb, length, getD, drop, pick}
+use Rattle.builder.specs.Names.{virtual, megabytes, Mapping, Held, holder, Second, tableOf, tableSize, tableEnd, tableStart, imageLength}
+use Rattle.builder.specs.Names.{firstBy, writtenAs, pageWord, addressOf, secondWord, wordIn, wordsIn, imageWord, spliced}
+use Rattle.builder.proofs.Names.{refl, sym, ap, ap₂, _∙_, subst, true, false, arith, ℕ-discrete, eq-eqb, ne-eqb, lt-ltb, le-ltb, lowBits}
+use Rattle.builder.proofs.Names.{pick-yes, pick-no, and-yes, and-no, and-left, and-right, lowBits-le, end-first, end-4, start-4, firstWord}
+use Rattle.builder.proofs.Names.{stepBits, image, partWord, spliced-same, Firsts, based}
+use mathlib.Core.List.{_∷_}
+use native.Mathlib.Decide.{decLe}
+use borrow.Author.Tests.{le-leb, lt-leb, ltb-true, leb-true}
 use native.Mathlib.Numerals.{add-one}
-use lib.ListN.{length, getD, drop, drop-of-length-le}
+use lib.ListN.{drop-of-length-le}
 use lib.Seq.{drop-cons}
-use Rattle.page.specs.Pick.{pick}
-use Rattle.page.specs.Words.{virtual, lowBits, megabytes}
-use Rattle.page.proofs.Picks.{pick-yes, pick-no, and-yes, and-no, and-left, and-right}
-use Rattle.page.proofs.Slot.{lowBits-le}
-use Rattle.records.specs.declared.Mapping.{Mapping}
 use Rattle.records.specs.Mappings.{holds, noMapping}
 use Rattle.records.proofs.Bits.{agree-up}
 use Rattle.records.proofs.Alls.{all-at}
-use Rattle.records.specs.declared.Held.{Held}
-use Rattle.records.specs.Meanings.{holder}
-use Rattle.tables.specs.declared.Second.{Second}
-use Rattle.tables.specs.Tables.{tableOf, tableSize, tableEnd, tableStart, imageLength}
-use Rattle.tables.proofs.Places.{end-start, end-next, end-le, end-first, end-4, start-4, image-4, image-first}
-use Rattle.tables.specs.Words.{sectionWord, firstBy, firstWord, writtenAs, pageWord, stepBits, addressOf, secondWord, wordIn, wordsIn, inTables, imageWord}
+use Rattle.tables.proofs.Places.{end-start, end-next, end-le, image-4, image-first}
+use Rattle.tables.specs.Words.{sectionWord, inTables}
 use Rattle.tables.proofs.Fits.{Fit, fit}
 use Rattle.tables.proofs.Regions.{second-in, second-out, held-end}
-use Rattle.builder.specs.Image.{image}
-use Rattle.wire.specs.Spliced.{spliced}
-use Rattle.builder.specs.Parts.{partTables, partWord, Turned}
-use Rattle.wire.proofs.Splices.{spliced-twice, spliced-same}
+use Rattle.builder.specs.Parts.{partTables, Turned}
+use Rattle.wire.proofs.Splices.{spliced-twice}
 use Rattle.builder.proofs.Whole.{front}
 use Rattle.builder.proofs.Levels.{based-by}
-use Rattle.builder.specs.Places.{Firsts, based}
 
 -- a choice, of two values that are equal where they are chosen
 pick-same : (b : Bool) (x y u v : ℕ) → (b ≡ true → x ≡ u) → y ≡ v → pick b x y ≡ pick b u v
@@ -104,7 +93,8 @@ module _ (n : ℕ) (all : List Mapping) where
 
   -- words of the tables that two lists write alike
   tables-same : (ms ns : List Mapping) (i o : ℕ)
-      → ((j : ℕ) → j < i → tableStart n all j ≤ o → o < tableEnd n all (suc j) → secondWord ms (tableOf all j) j ((o - tableStart n all j) / 4) ≡ secondWord ns (tableOf all j) j ((o - tableStart n all j) / 4))
+      → ((j : ℕ) → j < i → tableStart n all j ≤ o → o < tableEnd n all (suc j)
+      → secondWord ms (tableOf all j) j ((o - tableStart n all j) / 4) ≡ secondWord ns (tableOf all j) j ((o - tableStart n all j) / 4))
       → partTables n all ms i o ≡ partTables n all ns i o
   unfolding partTables
   tables-same ms ns zero o f = refl
@@ -239,7 +229,8 @@ module _ (n : ℕ) (all ms : List Mapping) (m : Mapping) (base : ℕ) (fits : (i
         let i = inside n all ms m base fits mb mb-lt here some in
         let start : ℕ = tableStart n all mb / 4 + wordIn (tableOf all mb) m in
         let z : tableStart n all mb + 4 * wordIn (tableOf all mb) m ≡ 0 + 4 * (tableStart n all mb / 4 + wordIn (tableOf all mb) m) = omega arith in
-        ap (λ (b : ℕ). spliced (spliced l 0 (partWord n all ms base) words) b (λ (y : ℕ). pageWord (writtenAs (tableOf all mb) (m .kind)) m (addressOf (tableOf all mb) mb (wordIn (tableOf all mb) m + y))) (wordsIn (tableOf all mb) mb m)) z
+        ap (λ (b : ℕ). spliced (spliced l 0 (partWord n all ms base) words) b
+        (λ (y : ℕ). pageWord (writtenAs (tableOf all mb) (m .kind)) m (addressOf (tableOf all mb) mb (wordIn (tableOf all mb) m + y))) (wordsIn (tableOf all mb) mb m)) z
         ∙ spliced-twice l 0 words (tableStart n all mb / 4 + wordIn (tableOf all mb) m) (wordsIn (tableOf all mb) mb m) words (partWord n all ms base) _ (partWord n all (m ∷ ms) base)
         (omega arith) (omega arith) (omega (arith, end-next n all mb))
         (λ j c d. part-over n all ms m base fits mb mb-lt here some j c d)
@@ -280,7 +271,8 @@ module _ (ms : List Mapping) (j : ℕ) (m : Mapping) (q : m ≡ getD ms j noMapp
         done base l after
         (f
         ∙ ap₂ (λ (d : List ℕ) (a : ℕ). spliced d (a + 4 * wordIn t m) (λ (y : ℕ). pageWord (writtenAs t (m .kind)) m (addressOf t mb (wordIn t m + y))) (wordsIn t mb m)) g b
-        ∙ ap (λ (u : Second). spliced (spliced l 0 (partWord megabytes ms (drop (j + 1) ms) base) (imageLength megabytes ms / 4)) (tableStart megabytes ms mb + 4 * wordIn u m) (λ (y : ℕ). pageWord (writtenAs u (m .kind)) m (addressOf u mb (wordIn u m + y))) (wordsIn u mb m)) table
+        ∙ ap (λ (u : Second). spliced (spliced l 0 (partWord megabytes ms (drop (j + 1) ms) base) (imageLength megabytes ms / 4)) (tableStart megabytes ms mb + 4 * wordIn u m)
+        (λ (y : ℕ). pageWord (writtenAs u (m .kind)) m (addressOf u mb (wordIn u m + y))) (wordsIn u mb m)) table
         ∙ turned-page megabytes ms (drop (j + 1) ms) m base fits-all l (omega arith) mb mb-lt here (λ z. some (ap tableSize table ∙ z)))
 
 -- the words before any mapping is written

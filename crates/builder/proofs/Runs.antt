@@ -1,26 +1,16 @@
 -- The words of a mapping, as runs that rise by a step. Assumes nothing.
-use mathlib.Core.Path.{_≡_, refl, sym, ap, ap₂, _∙_, subst}
-use mathlib.Core.List.{List}
-use Prim.Native.Nat.{ℕ, _+_, _*_, _-_, _/_, _%_, _^_, _≤_, _<_}
-use native.Mathlib.Omega.{arith}
-use borrow.Author.Tests.{eq-eqb}
+use Rattle.builder.specs.Names.{_≡_, List, ℕ, _+_, _*_, _-_, _/_, _%_, _^_, _≤_, _<_, length, Mapping, Second, writtenAs, pageWord, addressOf}
+use Rattle.builder.specs.Names.{wordIn, wordsIn, spliced}
+use Rattle.builder.proofs.Names.{refl, sym, ap, ap₂, _∙_, subst, arith, eq-eqb, upper, lowBits, Kind, pick-yes, lowBits-le, stepBits, spliced-same}
 use native.Mathlib.Nat.{mul-assoc, add-assoc, add-mul, mul-lt-mul-of-pos-right}
 use lib.Dec.{lit≤}
 use lib.Pow.{low, pow-pos, shl-shr}
-use lib.ListN.{length}
-use Rattle.page.specs.Low.{upper, joined}
-use Rattle.page.specs.Words.{lowBits, typeOf}
-use Rattle.page.specs.declared.Kind.{Kind}
-use Rattle.page.proofs.Picks.{pick-yes}
+use Rattle.page.specs.Low.{joined}
+use Rattle.page.specs.Words.{typeOf}
 use Rattle.page.proofs.Lower.{joined-high}
-use Rattle.page.proofs.Slot.{lowBits-ge, lowBits-le}
-use Rattle.records.specs.declared.Mapping.{Mapping}
+use Rattle.page.proofs.Slot.{lowBits-ge}
 use Rattle.records.specs.Mappings.{byteOf}
-use Rattle.tables.specs.declared.Second.{Second}
-use Rattle.tables.specs.Words.{writtenAs, pageWord, stepBits, addressOf, wordIn, wordsIn}
 use Rattle.tables.proofs.Regions.{power, whole-words, whole-start}
-use Rattle.wire.specs.Spliced.{spliced}
-use Rattle.wire.proofs.Splices.{spliced-same}
 
 whole-up : (s q : ℕ) → upper s (q * 2 ^ s) ≡ q * 2 ^ s
 unfolding upper
@@ -57,7 +47,8 @@ unfolding upper
 alike n to b = ap (λ (k : ℕ). k * 2 ^ n) (sym (joined-high n to b))
 
 -- the words of a page in a fine table rise by 1,024, as they are those of its tiny pages
-fine-part : (k : Kind) (to a y : ℕ) → y < 2 ^ lowBits k / 2 ^ 10 → upper (lowBits k) to + 1024 * y ≡ upper 10 (joined (lowBits k) to (a / 2 ^ 20 * 2 ^ 20 + (upper (lowBits k) (a % 2 ^ 20) / 2 ^ 10 + y) * 2 ^ 10))
+fine-part : (k : Kind) (to a y : ℕ) → y < 2 ^ lowBits k / 2 ^ 10
+    → upper (lowBits k) to + 1024 * y ≡ upper 10 (joined (lowBits k) to (a / 2 ^ 20 * 2 ^ 20 + (upper (lowBits k) (a % 2 ^ 20) / 2 ^ 10 + y) * 2 ^ 10))
 fine-part k to a y h =
     (let z : upper (lowBits k) to + 1024 * y ≡ upper (lowBits k) to + y * 2 ^ 10 = omega arith in z)
     ∙ part 10 (lowBits k) to a y (lowBits-ge k) (lowBits-le k) h
@@ -87,7 +78,8 @@ module _ (m : Mapping) (k : Kind) (kind : m .kind ≡ k) (l : List ℕ) (at w n 
   mb = m .at .0 / 2 ^ 20
 
   pub fine-words : w ≡ upper (lowBits (m .kind)) (m .to .0) + 16 * (m .access % 4) + 3 → n ≡ 2 ^ lowBits k / 2 ^ 10 → at + 4 * n ≤ length l
-      → spliced l at (λ (y : ℕ). w + 1024 * y) n ≡ spliced l at (λ (y : ℕ). pageWord (writtenAs Second.Fine (m .kind)) m (addressOf Second.Fine mb (wordIn Second.Fine m + y))) (wordsIn Second.Fine mb m)
+      → spliced l at (λ (y : ℕ). w + 1024 * y) n ≡ spliced l at (λ (y : ℕ). pageWord (writtenAs Second.Fine (m .kind)) m (addressOf Second.Fine mb (wordIn Second.Fine m + y)))
+      (wordsIn Second.Fine mb m)
   unfolding pageWord byteOf
   fine-words e c fits =
       let d : n ≡ 2 ^ lowBits (m .kind) / 2 ^ 10 = c ∙ ap (λ (x : Kind). 2 ^ lowBits x / 2 ^ 10) (sym kind) in
@@ -96,11 +88,13 @@ module _ (m : Mapping) (k : Kind) (kind : m .kind ≡ k) (l : List ℕ) (at w n 
       ∙ ap (spliced l at (λ (y : ℕ). pageWord (writtenAs Second.Fine (m .kind)) m (addressOf Second.Fine mb (wordIn Second.Fine m + y)))) (d ∙ sym (own-words Second.Fine m))
 
   pub coarse-words : w ≡ upper (lowBits (m .kind)) (m .to .0) + 16 * (m .access % 4) + typeOf (writtenAs Second.Coarse k) → n ≡ 2 ^ lowBits k / 2 ^ 12 → at + 4 * n ≤ length l
-      → spliced l at (λ (y : ℕ). w + coarseRise k * y) n ≡ spliced l at (λ (y : ℕ). pageWord (writtenAs Second.Coarse (m .kind)) m (addressOf Second.Coarse mb (wordIn Second.Coarse m + y))) (wordsIn Second.Coarse mb m)
+      → spliced l at (λ (y : ℕ). w + coarseRise k * y) n ≡ spliced l at
+      (λ (y : ℕ). pageWord (writtenAs Second.Coarse (m .kind)) m (addressOf Second.Coarse mb (wordIn Second.Coarse m + y))) (wordsIn Second.Coarse mb m)
   unfolding pageWord byteOf
   coarse-words e c fits =
       let d : n ≡ 2 ^ lowBits (m .kind) / 2 ^ 12 = c ∙ ap (λ (x : Kind). 2 ^ lowBits x / 2 ^ 12) (sym kind) in
-      let f : w ≡ upper (lowBits (m .kind)) (m .to .0) + 16 * (m .access % 4) + typeOf (writtenAs Second.Coarse (m .kind)) = e ∙ ap (λ (x : Kind). upper (lowBits (m .kind)) (m .to .0) + 16 * (m .access % 4) + typeOf (writtenAs Second.Coarse x)) (sym kind) in
+      let f : w ≡ upper (lowBits (m .kind)) (m .to .0) + 16 * (m .access % 4) + typeOf (writtenAs Second.Coarse (m .kind)) =
+      e ∙ ap (λ (x : Kind). upper (lowBits (m .kind)) (m .to .0) + 16 * (m .access % 4) + typeOf (writtenAs Second.Coarse x)) (sym kind) in
       spliced-same l at n _ (λ (y : ℕ). pageWord (writtenAs Second.Coarse (m .kind)) m (addressOf Second.Coarse mb (wordIn Second.Coarse m + y))) fits
       (λ y h.
       let r : coarseRise k * y ≡ coarseRise (m .kind) * y = ap (λ (x : Kind). coarseRise x * y) (sym kind) in
@@ -116,7 +110,8 @@ module _ (m : Mapping) (k : Kind) (kind : m .kind ≡ k) (l : List ℕ) (at w n 
 module _ (m : Mapping) (k : Kind) (kind : m .kind ≡ k) (l after : List ℕ) (at f p n : ℕ) where
   pub fine-turn : f ≡ wordIn Second.Fine m → p ≡ upper (lowBits (m .kind)) (m .to .0) → n ≡ 2 ^ lowBits k / 2 ^ 10
       → at + 4 * (wordIn Second.Fine m + wordsIn Second.Fine (m .at .0 / 2 ^ 20) m) ≤ length l → after ≡ spliced l (at + 4 * f) (λ (y : ℕ). p + 16 * (m .access % 4) + 3 + 1024 * y) n
-      → after ≡ spliced l (at + 4 * wordIn Second.Fine m) (λ (y : ℕ). pageWord (writtenAs Second.Fine (m .kind)) m (addressOf Second.Fine (m .at .0 / 2 ^ 20) (wordIn Second.Fine m + y))) (wordsIn Second.Fine (m .at .0 / 2 ^ 20) m)
+      → after ≡ spliced l (at + 4 * wordIn Second.Fine m) (λ (y : ℕ). pageWord (writtenAs Second.Fine (m .kind)) m
+      (addressOf Second.Fine (m .at .0 / 2 ^ 20) (wordIn Second.Fine m + y))) (wordsIn Second.Fine (m .at .0 / 2 ^ 20) m)
   fine-turn hf hp c room e =
       e
       ∙ ap (λ (x : ℕ). spliced l (at + 4 * x) (λ (y : ℕ). p + 16 * (m .access % 4) + 3 + 1024 * y) n) hf
@@ -124,10 +119,13 @@ module _ (m : Mapping) (k : Kind) (kind : m .kind ≡ k) (l after : List ℕ) (a
       (omega (arith, own-count m k kind l at f n Second.Fine))
 
   pub coarse-turn : f ≡ wordIn Second.Coarse m → p ≡ upper (lowBits (m .kind)) (m .to .0) → n ≡ 2 ^ lowBits k / 2 ^ 12
-      → at + 4 * (wordIn Second.Coarse m + wordsIn Second.Coarse (m .at .0 / 2 ^ 20) m) ≤ length l → after ≡ spliced l (at + 4 * f) (λ (y : ℕ). p + 16 * (m .access % 4) + typeOf (writtenAs Second.Coarse k) + coarseRise k * y) n
-      → after ≡ spliced l (at + 4 * wordIn Second.Coarse m) (λ (y : ℕ). pageWord (writtenAs Second.Coarse (m .kind)) m (addressOf Second.Coarse (m .at .0 / 2 ^ 20) (wordIn Second.Coarse m + y))) (wordsIn Second.Coarse (m .at .0 / 2 ^ 20) m)
+      → at + 4 * (wordIn Second.Coarse m + wordsIn Second.Coarse (m .at .0 / 2 ^ 20) m) ≤ length l → after ≡ spliced l (at + 4 * f)
+      (λ (y : ℕ). p + 16 * (m .access % 4) + typeOf (writtenAs Second.Coarse k) + coarseRise k * y) n
+      → after ≡ spliced l (at + 4 * wordIn Second.Coarse m) (λ (y : ℕ). pageWord (writtenAs Second.Coarse (m .kind)) m
+      (addressOf Second.Coarse (m .at .0 / 2 ^ 20) (wordIn Second.Coarse m + y))) (wordsIn Second.Coarse (m .at .0 / 2 ^ 20) m)
   coarse-turn hf hp c room e =
       e
       ∙ ap (λ (x : ℕ). spliced l (at + 4 * x) (λ (y : ℕ). p + 16 * (m .access % 4) + typeOf (writtenAs Second.Coarse k) + coarseRise k * y) n) hf
-      ∙ coarse-words m k kind l (at + 4 * wordIn Second.Coarse m) (p + 16 * (m .access % 4) + typeOf (writtenAs Second.Coarse k)) n (ap (λ (x : ℕ). x + 16 * (m .access % 4) + typeOf (writtenAs Second.Coarse k)) hp) c
+      ∙ coarse-words m k kind l (at + 4 * wordIn Second.Coarse m) (p + 16 * (m .access % 4) + typeOf (writtenAs Second.Coarse k)) n
+      (ap (λ (x : ℕ). x + 16 * (m .access % 4) + typeOf (writtenAs Second.Coarse k)) hp) c
       (omega (arith, own-count m k kind l at f n Second.Coarse))

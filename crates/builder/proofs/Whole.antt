@@ -1,18 +1,7 @@
 -- The whole image, left in a memory. Assumes nothing.
-use mathlib.Core.Path.{_≡_, ap, _∙_}
-use mathlib.Core.List.{List, _++_}
-use Prim.Native.Nat.{ℕ, _+_, _*_, _/_, _%_, _≤_, _<_}
-use native.Mathlib.Omega.{arith}
-use borrow.Author.Tests.{lt-ltb, le-ltb}
-use lib.ListN.{length, drop}
-use Rattle.page.proofs.Picks.{pick-yes, pick-no}
-use Rattle.records.specs.declared.Mapping.{Mapping}
-use Rattle.page.specs.Words.{megabytes}
-use Rattle.tables.specs.Tables.{tableEnd, imageLength}
-use Rattle.tables.specs.Words.{imageWord}
-use Rattle.builder.specs.Image.{image, written}
-use Rattle.wire.specs.Spliced.{spliced}
-use Rattle.tables.proofs.Places.{end-4, end-first}
+use Rattle.builder.specs.Names.{_≡_, List, _++_, ℕ, _+_, _*_, _/_, _%_, _≤_, _<_, length, drop, Mapping, megabytes, tableEnd, imageLength}
+use Rattle.builder.specs.Names.{imageWord, spliced}
+use Rattle.builder.proofs.Names.{ap, _∙_, arith, lt-ltb, le-ltb, pick-yes, pick-no, image, written, end-4, end-first}
 use Rattle.wire.proofs.Splices.{bytes-length}
 
 -- the words of the image, from the front of a memory on, are the image

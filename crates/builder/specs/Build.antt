@@ -1,15 +1,7 @@
 -- What the builder answers, and what it leaves in the lent memory (01, "The builder"; "When the unit says no", 4, 10, 11, 12).
-use Rattle.page.specs.Ground.{ℕ, _%_, Bool, not, List, _++_, eqb, ltb, length, drop}
-use Rattle.page.specs.Pick.{pick, _and_}
-use Rattle.memory.specs.Memory.{memoryOk}
-use Rattle.records.specs.declared.Mapping.{Mapping}
-use Rattle.records.specs.declared.Checked.{Checked}
-use Rattle.records.specs.Mappings.{mappings}
-use Rattle.page.specs.Words.{megabytes}
-use Rattle.records.specs.Refusals.{checked}
-use Rattle.tables.specs.Tables.{imageLength}
+use Rattle.builder.specs.Names.{ℕ, _%_, Bool, not, List, _++_, eqb, ltb, length, drop, pick, _and_, memoryOk, Mapping, Checked, mappings}
+use Rattle.builder.specs.Names.{megabytes, checked, imageLength, Built}
 use Rattle.builder.specs.Image.{image}
-use Rattle.builder.specs.declared.Built.{Built}
 
 -- the tables need a base that is a multiple of this
 abbrev pub baseUnit : ℕ

@@ -1,11 +1,5 @@
 -- The bytes of an image, and a memory that it is written into (01, "The builder").
-use Rattle.page.specs.Ground.{ℕ, _/_, List, _++_, ltb, length, drop}
-use Rattle.page.specs.Pick.{pick}
-use Rattle.records.specs.declared.Mapping.{Mapping}
-use Rattle.page.specs.Words.{megabytes}
-use Rattle.tables.specs.Tables.{imageLength}
-use Rattle.tables.specs.Words.{imageWord}
-use Rattle.wire.specs.Spliced.{bytesBy}
+use Rattle.builder.specs.Names.{ℕ, _/_, List, _++_, ltb, length, drop, pick, Mapping, megabytes, imageLength, imageWord, bytesBy}
 
 -- the bytes of the image at a base
 unfoldable pub image : ℕ → List Mapping → ℕ → List ℕ

@@ -1,12 +1,6 @@
 -- The image of a list of which only some mappings are written yet: the places are those of the whole list (01, "The builder").
-use Rattle.page.specs.Ground.{ℕ, zero, suc, _+_, _-_, _*_, _/_, _^_, _≡_, List, [], ltb, leb, length, drop}
-use Rattle.page.specs.Pick.{pick, _and_}
-use Rattle.page.specs.Words.{virtual, megabytes}
-use Rattle.records.specs.declared.Mapping.{Mapping}
-use Rattle.records.specs.Meanings.{holder}
-use Rattle.tables.specs.Tables.{tableOf, tableEnd, tableStart, imageLength}
-use Rattle.tables.specs.Words.{firstBy, secondWord}
-use Rattle.wire.specs.Spliced.{spliced}
+use Rattle.builder.specs.Names.{ℕ, zero, suc, _+_, _-_, _*_, _/_, _^_, _≡_, List, [], ltb, leb, length, drop, pick, _and_, virtual, megabytes}
+use Rattle.builder.specs.Names.{Mapping, holder, tableOf, tableEnd, tableStart, imageLength, firstBy, secondWord, spliced}
 
 -- the word at offset o among the tables of the megabytes below i of the list all, with the mappings ms written
 unfoldable pub partTables : ℕ → List Mapping → List Mapping → ℕ → ℕ → ℕ

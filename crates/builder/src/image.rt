@@ -5,18 +5,9 @@ use page::MEGABYTE;
 use page::MEGABYTES;
 use records::Mapping;
 use tables::Second;
-ghost use mathlib.Core.Path.{_≡_};
-ghost use Prim.Native.Nat.{ℕ, _+_, _*_, _/_, _^_, _<_, _≤_};
-ghost use lib.ListN.{length, getD};
-ghost use mathlib.Core.List.{[]};
-ghost use Rattle.tables.specs.declared.Second.{Second};
-ghost use Rattle.records.specs.Mappings.{mappings};
-ghost use Rattle.page.specs.Words.{megabytes};
-ghost use Rattle.tables.specs.Tables.{imageLength};
-ghost use Rattle.records.specs.Noted.{Kinds};
-ghost use Rattle.tables.specs.Words.{writtenAs, pageWord, addressOf, wordIn, wordsIn};
+ghost use Rattle.builder.specs.Names.{_≡_, ℕ, _+_, _*_, _/_, _^_, _<_, _≤_, length, getD, [], Second, mappings, megabytes, imageLength, Kinds};
+ghost use Rattle.builder.specs.Names.{writtenAs, pageWord, addressOf, wordIn, wordsIn, spliced};
 ghost use Rattle.builder.specs.Image.{written};
-ghost use Rattle.wire.specs.Spliced.{spliced};
 ghost use Rattle.builder.specs.Parts.{Turned, Filled};
 ghost use Rattle.builder.specs.Places.{Firsts, based, Level};
 
@@ -58,7 +49,9 @@ fn write_run(out: &mut [u8], at: usize, n: usize, w: u64, d: u64)
 // The words of a mapping, into its megabyte's fine table, which begins at an offset.
 fn write_fine(out: &mut [u8], at: usize, m: Mapping)
     requires { ⌜ at + 4 * (wordIn Second.Fine m + wordsIn Second.Fine (m .at .0 / 2 ^ 20) m) ≤ length (now out) ⌝ }
-    ensures { λ r. ⌜ now (out .exit) ≡ spliced (now (out .entry)) (at + 4 * wordIn Second.Fine m) (λ (y : ℕ). pageWord (writtenAs Second.Fine (m .kind)) m (addressOf Second.Fine (m .at .0 / 2 ^ 20) (wordIn Second.Fine m + y))) (wordsIn Second.Fine (m .at .0 / 2 ^ 20) m) ⌝ }
+    ensures { λ r. ⌜ now (out .exit)
+        ≡ spliced (now (out .entry)) (at + 4 * wordIn Second.Fine m)
+        (λ (y : ℕ). pageWord (writtenAs Second.Fine (m .kind)) m (addressOf Second.Fine (m .at .0 / 2 ^ 20) (wordIn Second.Fine m + y))) (wordsIn Second.Fine (m .at .0 / 2 ^ 20) m) ⌝ }
 {
     let k = m.kind;
     let to = m.to;
@@ -75,7 +68,9 @@ fn write_fine(out: &mut [u8], at: usize, m: Mapping)
 // The words of a mapping, into its megabyte's coarse table, which begins at an offset.
 fn write_coarse(out: &mut [u8], at: usize, m: Mapping)
     requires { ⌜ at + 4 * (wordIn Second.Coarse m + wordsIn Second.Coarse (m .at .0 / 2 ^ 20) m) ≤ length (now out) ⌝ }
-    ensures { λ r. ⌜ now (out .exit) ≡ spliced (now (out .entry)) (at + 4 * wordIn Second.Coarse m) (λ (y : ℕ). pageWord (writtenAs Second.Coarse (m .kind)) m (addressOf Second.Coarse (m .at .0 / 2 ^ 20) (wordIn Second.Coarse m + y))) (wordsIn Second.Coarse (m .at .0 / 2 ^ 20) m) ⌝ }
+    ensures { λ r. ⌜ now (out .exit)
+        ≡ spliced (now (out .entry)) (at + 4 * wordIn Second.Coarse m)
+        (λ (y : ℕ). pageWord (writtenAs Second.Coarse (m .kind)) m (addressOf Second.Coarse (m .at .0 / 2 ^ 20) (wordIn Second.Coarse m + y))) (wordsIn Second.Coarse (m .at .0 / 2 ^ 20) m) ⌝ }
 {
     let k = m.kind;
     let to = m.to;
@@ -114,7 +109,8 @@ fn write_first(base: u32, firsts: &[u32], out: &mut [u8])
 // The words of record j's mapping.
 fn write_mapping(records: &[u8], firsts: &[u32], out: &mut [u8], j: usize)
     requires { ⌜ Level (length (now out)) (now firsts) × (j < length (mappings (now records))) ⌝ }
-    ensures { λ r. ⌜ (Firsts (mappings (now (records .entry))) (now (firsts .entry)) → imageLength megabytes (mappings (now (records .entry))) ≤ length (now (out .entry)) → Turned (mappings (now (records .entry))) j (now (out .entry)) (now (out .exit))) ⌝ }
+    ensures { λ r. ⌜ (Firsts (mappings (now (records .entry))) (now (firsts .entry)) → imageLength megabytes (mappings (now (records .entry))) ≤ length (now (out .entry))
+        → Turned (mappings (now (records .entry))) j (now (out .entry)) (now (out .exit))) ⌝ }
 {
     let m = records::mapping_at(records, j);
     let at = m.at;
@@ -137,7 +133,8 @@ fn write_mapping(records: &[u8], firsts: &[u32], out: &mut [u8], j: usize)
 // The words of all mappings, from the last to the first, over an image that has none.
 fn write_mappings(records: &[u8], firsts: &[u32], out: &mut [u8])
     requires { ⌜ Level (length (now out)) (now firsts) ⌝ }
-    ensures { λ r. ⌜ (Firsts (mappings (now (records .entry))) (now (firsts .entry)) → imageLength megabytes (mappings (now (records .entry))) ≤ length (now (out .entry)) → Filled (mappings (now (records .entry))) (now (out .entry)) (now (out .exit))) ⌝ }
+    ensures { λ r. ⌜ (Firsts (mappings (now (records .entry))) (now (firsts .entry)) → imageLength megabytes (mappings (now (records .entry))) ≤ length (now (out .entry))
+        → Filled (mappings (now (records .entry))) (now (out .entry)) (now (out .exit))) ⌝ }
 {
     let mut j = records::count(records);
     while 0 < j {
@@ -159,7 +156,8 @@ fn write_none(base: u32, out: &mut [u8]) -> usize
 
 // The image of a list whose kinds are noted, for a memory lent at a base: its length, and the image written where the memory has the room.
 pub(crate) fn write(records: &[u8], seen: &[bool; 64], base: u32, out: &mut [u8]) -> usize
-    ensures { λ r. ⌜ (Kinds (mappings (now (records .entry))) (now (seen .entry)) → (r ≡ imageLength megabytes (mappings (now (records .entry)))) × (now (out .exit) ≡ written (mappings (now (records .entry))) base (now (out .entry)))) ⌝ }
+    ensures { λ r. ⌜ (Kinds (mappings (now (records .entry))) (now (seen .entry))
+        → (r ≡ imageLength megabytes (mappings (now (records .entry)))) × (now (out .exit) ≡ written (mappings (now (records .entry))) base (now (out .entry)))) ⌝ }
 {
     if records.len() == 0 {
         return write_none(base, out);

@@ -1,13 +1,7 @@
 // Where the tables of the noted kinds lie.
 use page::MEGABYTES;
 use tables::Second;
-ghost use mathlib.Core.Path.{_≡_};
-ghost use Prim.Native.Nat.{_<_, _≤_};
-ghost use lib.ListN.{length};
-ghost use Rattle.page.specs.Words.{megabytes};
-ghost use Rattle.records.specs.declared.Held.{Held};
-ghost use Rattle.tables.specs.Kinds.{hasTable, tableBy};
-ghost use Rattle.tables.specs.Words.{firstBy};
+ghost use Rattle.builder.specs.Names.{_≡_, _<_, _≤_, length, megabytes, Held, hasTable, tableBy, firstBy};
 ghost use Rattle.builder.specs.Places.{Placed};
 
 // Whether a megabyte has a table, by the notes.

@@ -1,16 +1,10 @@
 -- Of a record that is a call, what is tested holds. Assumes nothing.
-use mathlib.Core.Path.{_≡_, refl, sym, _∙_, ap, subst}
-use mathlib.Core.Bool.{Bool, true, false, false≢true}
-use Prim.Native.Nat.{ℕ, _%_}
-use lib.Dec.{eqb}
-use native.Mathlib.Omega.{arith}
+use Rattle.calls.specs.Names.{_≡_, Bool, true, false, ℕ, _%_, eqb, pick, virtual, Call}
+use Rattle.calls.proofs.Names.{refl, sym, _∙_, ap, arith, pick-yes, and-right, accessOf, writeBy, readBy, requestBy, dropBy, reportBy, callBy}
+use Rattle.calls.proofs.Names.{callFrom, isGood}
+use mathlib.Core.Path.{subst}
+use mathlib.Core.Bool.{false≢true}
 use borrow.Author.Tests.{ltb-true}
-use Rattle.page.specs.Pick.{pick}
-use Rattle.page.proofs.Picks.{pick-yes, and-right}
-use Rattle.page.specs.Words.{virtual}
-use Rattle.calls.specs.declared.Call.{Call}
-use Rattle.calls.specs.Forms.{accessOf, writeBy, readBy, requestBy, dropBy, shiftBy}
-use Rattle.calls.specs.Kinds.{callBy, callFrom, isGood}
 
 tested : (t : Bool) (y : Call) → isGood (pick t y Call.Bad) ≡ true → t ≡ true
 unfolding pick
@@ -36,13 +30,13 @@ pub drop-known : (x a v : ℕ) → isGood (dropBy x a v) ≡ true → Call.Drop 
 unfolding dropBy
 drop-known x a v g = picked _ Call.Drop g
 
-pub shift-known : (x a v : ℕ) → isGood (shiftBy x a v) ≡ true → Call.Shift (virtual a) ≡ shiftBy x a v
-unfolding shiftBy
+pub shift-known : (x a v : ℕ) → isGood (reportBy x a v) ≡ true → Call.Shift (virtual a) ≡ reportBy x a v
+unfolding reportBy
 shift-known x a v g = picked _ (Call.Shift (virtual a)) g
 
 -- past the first four kinds
-pub last-known : (k x a v : ℕ) → isGood (pick (eqb k 5) (shiftBy x a v) Call.Bad) ≡ true → Call.Shift (virtual a) ≡ pick (eqb k 5) (shiftBy x a v) Call.Bad
-last-known k x a v g = let e = picked _ (shiftBy x a v) g in shift-known x a v (ap isGood e ∙ g) ∙ e
+pub last-known : (k x a v : ℕ) → isGood (pick (eqb k 5) (reportBy x a v) Call.Bad) ≡ true → Call.Shift (virtual a) ≡ pick (eqb k 5) (reportBy x a v) Call.Bad
+last-known k x a v g = let e = picked _ (reportBy x a v) g in shift-known x a v (ap isGood e ∙ g) ∙ e
 
 -- what is known of a call is known of one that is the same
 pub alike : (r y z : Call) → z ≡ y → (isGood y ≡ true → r ≡ y) → isGood z ≡ true → r ≡ z

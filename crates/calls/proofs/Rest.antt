@@ -1,11 +1,8 @@
 -- The calls that are left from record i on. Assumes nothing.
-use mathlib.Core.Path.{_≡_, _∙_, ap}
-use mathlib.Core.Bool.{true, false}
-use mathlib.Core.List.{List, [], _∷_}
-use Prim.Native.Nat.{ℕ, zero, suc, _+_, _*_, _-_, _<_, _≤_}
-use native.Mathlib.Omega.{arith}
-use Rattle.page.proofs.Picks.{and-yes, and-no, and-left, and-right}
-use Rattle.calls.specs.Records.{callSize, callAt, callCount, callsFrom, isGood, goodCalls, allGood}
+use Rattle.calls.specs.Names.{_≡_, true, false, List, [], _∷_, ℕ, zero, suc, _+_, _*_, _≤_}
+use Rattle.calls.proofs.Names.{_∙_, ap, _-_, _<_, arith, and-yes, and-no, and-right, callAt, callsFrom, isGood, goodCalls, allGood}
+use Rattle.page.proofs.Picks.{and-left}
+use Rattle.calls.specs.Records.{callSize, callCount}
 
 -- record i, then those behind it
 pub calls-next : (l : List ℕ) (n i : ℕ) → i < n → callsFrom l i (n - i) ≡ callAt l (callSize * i) ∷ callsFrom l (i + 1) (n - (i + 1))

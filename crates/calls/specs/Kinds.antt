@@ -1,8 +1,6 @@
 -- The call of a record's fields, by its kind (02, P1).
-use Rattle.page.specs.Ground.{ℕ, Bool, true, false, eqb}
-use Rattle.page.specs.Pick.{pick, _and_}
-use Rattle.calls.specs.declared.Call.{Call}
-use Rattle.calls.specs.Forms.{writeBy, readBy, requestBy, dropBy, shiftBy}
+use Rattle.calls.specs.Names.{ℕ, Bool, true, false, eqb, pick, _and_, Call}
+use Rattle.calls.specs.Forms.{writeBy, readBy, requestBy, dropBy, reportBy}
 
 -- the kinds by their byte
 unfoldable pub callBy : ℕ → ℕ → ℕ → ℕ → Call
@@ -11,7 +9,7 @@ callBy k x a v =
     (pick (eqb k 2) (readBy x a v)
     (pick (eqb k 3) (requestBy x a v)
     (pick (eqb k 4) (dropBy x a v)
-    (pick (eqb k 5) (shiftBy x a v) Call.Bad))))
+    (pick (eqb k 5) (reportBy x a v) Call.Bad))))
 
 -- the same where the two bytes between are zero
 unfoldable pub callFrom : ℕ → ℕ → ℕ → ℕ → ℕ → ℕ → Call

@@ -1,3 +1,4 @@
+pub mod Names
 pub mod Records
 pub mod Forms
 pub mod Kinds

@@ -1,8 +1,5 @@
 -- Calls as records of 12 bytes (02, P1): kind, offset or access, two zero bytes, address word, value word.
-use Rattle.page.specs.Ground.{ℕ, zero, suc, _+_, _*_, _/_, _%_, Bool, true, List, [], _∷_, eqb, leb, length, getD, take, drop}
-use Rattle.page.specs.Pick.{pick, _and_}
-use Rattle.wire.specs.Words.{wordOf}
-use Rattle.calls.specs.declared.Call.{Call}
+use Rattle.calls.specs.Names.{ℕ, zero, suc, _+_, _*_, _/_, _%_, Bool, true, List, [], _∷_, eqb, leb, length, getD, take, drop, pick, _and_, wordOf, Call}
 use Rattle.calls.specs.Kinds.{callFrom}
 pub use Rattle.calls.specs.Kinds.{isGood}
 

@@ -2,9 +2,8 @@
 use crate::Call;
 use page::Access;
 use page::VirtualAddress;
-ghost use mathlib.Core.Path.{_≡_};
-ghost use Rattle.calls.specs.Forms.{accessOf, writeBy, readBy, requestBy, dropBy, shiftBy};
-ghost use mathlib.Core.Bool.{true};
+ghost use Rattle.calls.specs.Names.{_≡_, true};
+ghost use Rattle.calls.specs.Forms.{accessOf, writeBy, readBy, requestBy, dropBy, reportBy};
 ghost use Rattle.calls.specs.Kinds.{callBy, callFrom, isGood};
 
 // A register's values are below this.
@@ -77,7 +76,7 @@ pub(crate) fn drop_by(byte: u8, address: u32, value: u32) -> Call
 
 // A shift report: an address.
 pub(crate) fn shift_by(byte: u8, address: u32, value: u32) -> Call
-    ensures { λ r. ⌜ r ≡ shiftBy byte address value ⌝ }
+    ensures { λ r. ⌜ r ≡ reportBy byte address value ⌝ }
 {
     if byte != 0 {
         return Call::Bad;

@@ -3,10 +3,7 @@ pub mod forms;
 
 use page::Access;
 use page::VirtualAddress;
-ghost use mathlib.Core.Path.{_≡_};
-ghost use mathlib.Core.Bool.{true};
-ghost use Prim.Native.Nat.{_≤_};
-ghost use lib.ListN.{length};
+ghost use Rattle.calls.specs.Names.{_≡_, true, _≤_, length};
 ghost use Rattle.calls.specs.Records.{callSize, callOf, callAt, callCount, isGood, allGood};
 
 // The bytes of a record.

@@ -1,12 +1,10 @@
 -- A refused record's index, and the count of a list that is tried, have 32 bits. Assumes nothing.
-use mathlib.Core.Path.{_≡_, refl, sym, _∙_, ap, ap₂, subst}
-use mathlib.Core.Bool.{false, not, true≢false}
-use mathlib.Core.List.{List}
-use Prim.Native.Nat.{ℕ, zero, suc, _%_, _^_, _<_, _≤_}
-use native.Mathlib.Omega.{arith}
+use Rattle.capi.specs.Names.{_≡_, List, ℕ, _%_, _^_, _≤_, length, buildOf, Built, ran}
+use Rattle.capi.proofs.Names.{refl, sym, _∙_, ap, ap₂, subst, false, arith, builtWord, cutBuilt}
+use mathlib.Core.Bool.{not, true≢false}
+use Prim.Native.Nat.{zero, suc, _<_}
 use native.Mathlib.Decide.{decLe}
 use lib.Dec.{ltb}
-use lib.ListN.{length}
 use Rattle.page.specs.Words.{megabytes}
 use Rattle.page.proofs.Picks.{pick-by}
 use Rattle.records.specs.Mappings.{mappings}
@@ -16,10 +14,7 @@ use Rattle.records.specs.Refusals.{most, bad, overlapping, checkedFrom, begun, 
 use Rattle.records.proofs.Refusals.{bad-past}
 use Rattle.records.proofs.Accepted.{fine-clean}
 use Rattle.tables.specs.Tables.{imageLength}
-use Rattle.builder.specs.Build.{roomOk, afterCheck, lengthOr, answerOf, Outcome, outcome, buildOf}
-use Rattle.builder.specs.declared.Built.{Built}
-use Rattle.capi.specs.Numbers.{builtWord, cutBuilt}
-use Rattle.run.specs.Run.{ran}
+use Rattle.builder.specs.Build.{roomOk, afterCheck, lengthOr, answerOf, Outcome, outcome}
 use Rattle.capi.specs.Boundary.{buildRan}
 
 -- a record that is not bad is not past the limit

@@ -1,3 +1,3 @@
-pub mod Handing
+pub mod Names
 pub mod Indices
 pub mod Offsets

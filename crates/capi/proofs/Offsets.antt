@@ -1,14 +1,8 @@
 -- An offset in a memory has 28 bits. Assumes nothing.
-use mathlib.Core.Path.{_≡_, refl, sym, ap, ap₂, _∙_, subst}
-use mathlib.Core.Bool.{Bool, true, false}
-use Prim.Native.Nat.{ℕ, _%_, _^_, _≤_}
-use native.Mathlib.Omega.{arith}
-use lib.ListN.{length}
-use Rattle.memory.specs.Memory.{Lent, longest, lentOk, placeIn, fetchedIn, Inside}
-use Rattle.wire.specs.Words.{wordOf}
-use Rattle.memory.specs.declared.Place.{Place}
+use Rattle.capi.specs.Names.{_≡_, ℕ, _%_, _^_, _≤_, length, Lent, placeIn, fetchedIn, wordOf, Place}
+use Rattle.capi.proofs.Names.{refl, sym, ap, ap₂, _∙_, subst, Bool, true, false, arith, placeNumber, cutPlace}
+use Rattle.memory.specs.Memory.{longest, lentOk, Inside}
 use Rattle.memory.proofs.Places.{ok-short, on-ok, ext-ok, place-refused, inside}
-use Rattle.capi.specs.Numbers.{placeNumber, cutPlace}
 use Rattle.capi.specs.Boundary.{fetchOf}
 
 short : (k : ℕ) → k ≤ longest → k % 2 ^ 28 ≡ k

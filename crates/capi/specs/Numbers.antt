@@ -1,7 +1,5 @@
 -- What the byte boundary answers in one number.
-use Rattle.page.specs.Ground.{ℕ, _+_, _*_, _%_, _^_}
-use Rattle.memory.specs.declared.Place.{Place}
-use Rattle.builder.specs.declared.Built.{Built}
+use Rattle.capi.specs.Names.{ℕ, _+_, _*_, _%_, _^_, Place, Built, builtNumber, builtValue}
 
 -- where four bytes lie and the word they are: memory * 2^60 + offset * 2^32 + word
 abbrev pub placeNumber : Place → ℕ → ℕ
@@ -15,13 +13,17 @@ cutPlace (Place.OnChip k) = Place.OnChip (k % 2 ^ 28)
 cutPlace (Place.External k) = Place.External (k % 2 ^ 28)
 cutPlace Place.Nowhere = Place.Nowhere
 
--- the image's length; or 2^63 + number * 2^32 + index or count
+-- a refusal: 2^63 + number * 2^32 + index or count
+abbrev pub refusalWord : Built → ℕ
+refusalWord b = 2 ^ 63 + builtNumber b * 2 ^ 32 + builtValue b
+
+-- the image's length, or a refusal
 abbrev pub builtWord : Built → ℕ
 builtWord (Built.Length n) = n
-builtWord Built.BadMemory = 2 ^ 63 + 4 * 2 ^ 32
-builtWord (Built.BadRecord i) = 2 ^ 63 + 10 * 2 ^ 32 + i
-builtWord (Built.Overlap i) = 2 ^ 63 + 11 * 2 ^ 32 + i
-builtWord (Built.TooLong n) = 2 ^ 63 + 12 * 2 ^ 32 + n
+builtWord Built.BadMemory = refusalWord Built.BadMemory
+builtWord (Built.BadRecord i) = refusalWord (Built.BadRecord i)
+builtWord (Built.Overlap i) = refusalWord (Built.Overlap i)
+builtWord (Built.TooLong n) = refusalWord (Built.TooLong n)
 
 -- the index or count in the bits that there are for it
 abbrev pub cutBuilt : Built → Built

@@ -3,10 +3,7 @@ mod numbers;
 
 use page::PhysicalAddress;
 use session::Bench;
-ghost use mathlib.Core.Path.{_≡_};
-ghost use Rattle.memory.specs.Memory.{lent};
-ghost use Rattle.state.specs.Handed.{pricesOf};
-ghost use Rattle.run.specs.Run.{ran};
+ghost use Rattle.capi.specs.Names.{_≡_, lent, pricesOf, ran};
 ghost use Rattle.capi.specs.Boundary.{runOf, fromOf, fetchOf, buildRan};
 
 // Builds the tables of a list in a memory.
@@ -14,7 +11,7 @@ ghost use Rattle.capi.specs.Boundary.{runOf, fromOf, fetchOf, buildRan};
 pub extern "C" fn nx_build(records: &[u8], base: u32, memory: &mut [u8]) -> u64
     ensures { λ r. ⌜ ran r (now (memory .exit)) ≡ buildRan (now (records .entry)) base (now (memory .entry)) ⌝ }
 {
-    numbers::built_number(builder::build(records, base, memory))
+    numbers::built_number(builder::build(records, PhysicalAddress(base), memory))
 }
 
 // Runs calls from a fresh bench.
@@ -33,7 +30,8 @@ pub extern "C" fn nx_run<'a>(
     extb: f64,
     out: &mut [u8],
 ) -> u64
-    ensures { λ r. ⌜ ran r (now (out .exit)) ≡ runOf (lent (now (on .entry)) onbase (now (ext .entry)) extbase) (pricesOf onkind ona onb extkind exta extb) onkind extkind (now (calls .entry)) (now (out .entry)) ⌝ }
+    ensures { λ r. ⌜ ran r (now (out .exit))
+        ≡ runOf (lent (now (on .entry)) onbase (now (ext .entry)) extbase) (pricesOf onkind ona onb extkind exta extb) onkind extkind (now (calls .entry)) (now (out .entry)) ⌝ }
 {
     let prices = state::read::prices_of(onkind, ona, onb, extkind, exta, extb);
     run::run_from(
@@ -41,9 +39,9 @@ pub extern "C" fn nx_run<'a>(
         0,
         calls,
         on,
-        onbase,
+        PhysicalAddress(onbase),
         ext,
-        extbase,
+        PhysicalAddress(extbase),
         onkind,
         extkind,
         prices,
@@ -70,7 +68,9 @@ pub extern "C" fn nx_from<'a>(
     extb: f64,
     out: &mut [u8],
 ) -> u64
-    ensures { λ r. ⌜ ran r (now (out .exit)) ≡ fromOf (lent (now (on .entry)) onbase (now (ext .entry)) extbase) (pricesOf onkind ona onb extkind exta extb) onkind extkind (now (state .entry)) total misses (now (calls .entry)) (now (out .entry)) ⌝ }
+    ensures { λ r. ⌜ ran r (now (out .exit))
+        ≡ fromOf (lent (now (on .entry)) onbase (now (ext .entry)) extbase) (pricesOf onkind ona onb extkind exta extb)
+        onkind extkind (now (state .entry)) total misses (now (calls .entry)) (now (out .entry)) ⌝ }
 {
     if !state::read::state_ok(state) {
         return 0;
@@ -82,9 +82,9 @@ pub extern "C" fn nx_from<'a>(
         state::read::lock_at(state),
         calls,
         on,
-        onbase,
+        PhysicalAddress(onbase),
         ext,
-        extbase,
+        PhysicalAddress(extbase),
         onkind,
         extkind,
         prices,
@@ -104,9 +104,8 @@ pub extern "C" fn nx_fetch<'a>(
     ensures { λ r. ⌜ r ≡ fetchOf (lent (now (on .entry)) onbase (now (ext .entry)) extbase) address ⌝ }
 {
     let at = PhysicalAddress(address);
-    let part = memory::fetch(on, onbase, ext, extbase, at);
-    numbers::place_number(
-        memory::locate(on, onbase, ext, extbase, at),
-        wire::word_of(part),
-    )
+    let b = PhysicalAddress(onbase);
+    let c = PhysicalAddress(extbase);
+    let part = memory::fetch(on, b, ext, c, at);
+    numbers::place_number(memory::locate(on, b, ext, c, at), wire::word_of(part))
 }

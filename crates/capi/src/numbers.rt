@@ -1,8 +1,7 @@
 // What the byte boundary answers in one number: a build's answer, and a place with its word.
 use builder::Built;
 use memory::Place;
-ghost use mathlib.Core.Path.{_≡_};
-ghost use Prim.Native.Nat.{_+_, _*_, _%_, _^_, _≤_};
+ghost use Rattle.capi.specs.Names.{_≡_, _+_, _*_, _%_, _^_, _≤_};
 ghost use Rattle.capi.specs.Numbers.{placeNumber, cutPlace, builtWord, cutBuilt};
 
 // A refusal of the builder, in one number.

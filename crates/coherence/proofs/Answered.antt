@@ -1,27 +1,14 @@
 -- A request or a retry that no condition refuses is answered, and answered as the plain walk is. Assumes nothing.
-use Prim.Native.Nat.{ℕ, _%_}
-use mathlib.Core.Path.{_≡_, refl, sym, _∙_, ap, subst}
-use mathlib.Core.Bool.{Bool, true, false, not}
-use lib.Dec.{eqb}
-use borrow.Author.Tests.{eq-eqb, lt-leb}
-use Rattle.page.specs.Pick.{pick, _and_, _or_}
-use Rattle.page.proofs.Picks.{pick-yes, pick-no, pick-by, and-rest}
-use Rattle.walk.specs.Distances.{isMissing}
-use Rattle.registers.specs.Answers.{idle, isPrefetch, isRefusal}
-use Rattle.registers.specs.Table.{noRegister, listed, commandOf}
-use Rattle.decision.specs.Decisions.{byAccess, byFound}
-use Rattle.decision.specs.Types.{Access, VirtualAddress, PhysicalAddress, Lent, Reads, Found, Walked, Bill, Prices, Fault, Pending, Answer}
-use Rattle.unit.specs.declared.Device.{Device}
-use Rattle.unit.specs.declared.Outcome.{Outcome}
-use Rattle.unit.specs.Refusals.{Clear}
-use Rattle.unit.specs.Device.{refusedWith, attemptOf}
-use Rattle.unit.specs.Offsets.{acknowledgeAt}
-use Rattle.unit.specs.Calls.{lacks, retryLacks, writeLacks, isMalformed, isUntimely, requestRefusals, requestOf, writeRefusals, writeOf, retried}
-use Rattle.coherence.specs.Agreement.{Coherent}
-use Rattle.walk.specs.Uniform.{Look}
-use Rattle.coherence.specs.Sessions.{lookFrom}
+use Rattle.coherence.specs.Names.{ℕ, _%_, _≡_, Bool, true, false, not, eqb, pick, _and_, isMissing, isPrefetch, isRefusal, byAccess, Access}
+use Rattle.coherence.specs.Names.{VirtualAddress, Lent, Bill, Prices, Fault, Pending, Answer, Device, acknowledgeAt, requestOf, writeOf, Look}
+use Rattle.coherence.proofs.Names.{refl, sym, _∙_, ap, subst, eq-eqb, _or_, pick-yes, pick-by, noRegister, listed, commandOf, byFound}
+use Rattle.coherence.proofs.Names.{PhysicalAddress, Reads, Found, Walked, Outcome, Clear, refusedWith, attemptOf, writeLacks, isMalformed}
+use Rattle.coherence.proofs.Names.{isUntimely, requestRefusals, writeRefusals, retried, Coherent, lookIn, clear-goes-on}
+use borrow.Author.Tests.{lt-leb}
+use Rattle.page.proofs.Picks.{pick-no, and-rest}
+use Rattle.registers.specs.Answers.{idle}
+use Rattle.unit.specs.Calls.{lacks, retryLacks}
 use Rattle.coherence.specs.Answered.{Ready, Answered, RequestAnswered, RetryAnswered}
-use Rattle.unit.proofs.Refusing.{clear-goes-on}
 use Rattle.coherence.proofs.Attempts.{same-walk, attempt-answers}
 
 access-answers : (bits : ℕ) (at : PhysicalAddress) (a : Access) → isRefusal (byAccess bits at a) ≡ false
@@ -37,7 +24,7 @@ plain-refuses va a r (Found.Page p) = access-answers (p .access) _ a
 
 module _ (m : Lent) (base : ℕ) where
   abbrev walked : Look
-  walked = lookFrom m base
+  walked = lookIn m base
 
   module _ (d : Device) (h : Coherent walked base d) (va : VirtualAddress) (there : isMissing (walked va .found) ≡ false) where
     lacks-nothing : lacks m d va ≡ false
@@ -59,10 +46,22 @@ module _ (m : Lent) (base : ℕ) where
       (ap not (g .range), (lt-leb _ _ l, (ap not (g .memories), (ap not (g .money), (ap (λ (x : Pending). not (idle x)) q, (lacks-nothing d h va t, tt))))))))
       (attempt-answered d h va t p b false a)
 
-  retry-clear : (p : Prices) (b : Bill) (d : Device) (v : ℕ) (k : Fault) (va : VirtualAddress) (a : Access) → Ready m p b d → d .pending ≡ Pending.Held k va a → lacks m d va ≡ false → Clear (writeRefusals m p b d acknowledgeAt v)
+  retry-clear : (p : Prices) (b : Bill) (d : Device) (v : ℕ) (k : Fault) (va : VirtualAddress) (a : Access) → Ready m p b d → d .pending ≡ Pending.Held k va a
+      → lacks m d va ≡ false → Clear (writeRefusals m p b d acknowledgeAt v)
   unfolding noRegister isMalformed isUntimely writeLacks _and_ _or_
-  retry-clear p b d v k va a g q n =
-      (ap not (g .range), (refl, (refl, (ap not (g .memories), (ap not (g .money), (refl, (refl, (and-rest (eqb (v % 2) 1) _ (ap idle q), (and-rest (eqb (v % 2) 1) _ (ap (retryLacks m d) q ∙ and-rest (not (isPrefetch k)) _ n), tt)))))))))
+  retry-clear p b d v k va a g q n = (
+    ap not (g .range),
+    (
+      refl,
+      (
+        refl,
+        (
+          ap not (g .memories),
+          (ap not (g .money), (refl, (refl, (and-rest (eqb (v % 2) 1) _ (ap idle q), (and-rest (eqb (v % 2) 1) _ (ap (retryLacks m d) q ∙ and-rest (not (isPrefetch k)) _ n), tt))))),
+        ),
+      ),
+    ),
+  )
 
   pub retry-answered : RetryAnswered m base
   unfolding writeOf commandOf listed pick

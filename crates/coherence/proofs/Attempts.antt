@@ -1,28 +1,22 @@
 -- A request or a retry answers what the walk answers, and with a prefetch it keeps the slots in agreement. Assumes nothing.
-use Prim.Native.Nat.{ℕ, _*_, _%_, _^_, _<_}
-use native.Mathlib.Omega.{arith}
-use mathlib.Core.Path.{_≡_, refl, sym, _∙_, ap, subst}
-use mathlib.Core.Bool.{Bool}
-use Rattle.page.specs.Words.{madeWords, limit}
-use Rattle.page.proofs.Picks.{pick-yes}
+use Rattle.coherence.specs.Names.{ℕ, _*_, _%_, _^_, _<_, _≡_, Bool, limit, slots, byWalk, Access, VirtualAddress, Lent, Bill, Prices, Pending}
+use Rattle.coherence.specs.Names.{Answer, Device, Look}
+use Rattle.coherence.proofs.Names.{arith, refl, sym, _∙_, ap, subst, pick-yes, filled, InRange, byFound, Reads, Page, Found, Walked, attemptOf}
+use Rattle.coherence.proofs.Names.{plain, Below, Coherent, Uniform, lookIn}
+use Rattle.page.specs.Words.{madeWords}
 use Rattle.walk.specs.Distances.{Proper}
 use Rattle.walk.specs.Walk.{readIn}
 use Rattle.walk.proofs.Walks.{walk-proper}
-use Rattle.lanes.specs.Lanes.{slots, lookedUp}
-use Rattle.bank.specs.Changes.{filled, entryFilled}
-use Rattle.bank.proofs.Ranges.{InRange}
+use Rattle.lanes.specs.Lanes.{lookedUp}
+use Rattle.bank.specs.Changes.{entryFilled}
 use Rattle.lanes.proofs.Searches.{Lowest, lowest}
-use Rattle.decision.specs.Decisions.{byFound, byWalk, byMatched, settled}
+use Rattle.decision.specs.Decisions.{byMatched, settled}
 use Rattle.decision.specs.Prefetches.{pageAt, prefetchFound, prefetchMatched, prefetchDecided}
 use Rattle.decision.proofs.Joins.{decided-on}
-use Rattle.decision.specs.Types.{Access, VirtualAddress, Lent, Reads, Page, Found, Walked, Bill, Prices, Matched, Pending, Answer}
+use Rattle.decision.specs.Names.{Matched}
 use Rattle.decision.specs.declared.Decision.{Decision}
-use Rattle.unit.specs.declared.Device.{Device}
-use Rattle.unit.specs.Device.{look, applied, decidedBy, attemptOf}
+use Rattle.unit.specs.Device.{look, applied, decidedBy}
 use Rattle.unit.specs.Calls.{prefetched}
-use Rattle.coherence.specs.Agreement.{plain, Below, Coherent}
-use Rattle.walk.specs.Uniform.{Look, Uniform}
-use Rattle.coherence.specs.Sessions.{lookFrom}
 use Rattle.coherence.proofs.Slots.{Held, made-agrees, fill-agrees}
 
 -- a fault is pending anew only at the address that was asked for
@@ -35,11 +29,11 @@ settled-below va a q (Answer.Refused k) l h = h
 
 module _ (m : Lent) (base : ℕ) where
   abbrev walked : Look
-  walked = lookFrom m base
+  walked = lookIn m base
 
   -- the walk from the base register is the walk from the base
   pub same-walk : (d : Device) → Coherent walked base d → (va : VirtualAddress) → look m d va ≡ walked va
-  same-walk d h va = ap (λ (n : ℕ). lookFrom m n va) (h .base-is)
+  same-walk d h va = ap (λ (n : ℕ). lookIn m n va) (h .base-is)
 
   module _ (d : Device) (h : Coherent walked base d) (va : VirtualAddress) (a : Access) where
     abbrev Walks : Decision → Type 0

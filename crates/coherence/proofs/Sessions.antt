@@ -1,31 +1,20 @@
 -- Every admitted call keeps the slots in agreement, so after any of them each answer is the plain walk's. Assumes nothing.
-use Prim.Native.Nat.{ℕ, _%_, _<_}
-use native.Mathlib.Omega.{arith}
-use mathlib.Core.Path.{_≡_, refl, sym, _∙_, ap, subst}
-use mathlib.Core.Bool.{Bool, true, false, true≢false}
-use mathlib.Core.List.{List, [], _∷_}
-use lib.Dec.{eqb}
-use borrow.Author.Tests.{eqb-true, leb-false, not-true, not-false}
-use Rattle.page.specs.Pick.{pick, _and_}
-use Rattle.page.proofs.Picks.{pick-yes, and-left, and-right}
-use Rattle.bank.proofs.Ranges.{InRange, in-range}
-use Rattle.registers.specs.Answers.{isPrefetch, isRefusal}
-use Rattle.page.specs.Words.{limit}
-use Rattle.registers.specs.Fields.{isOn, isWalking, registersOk, pendingOk}
-use Rattle.registers.specs.Table.{listed, commandOf}
-use Rattle.registers.specs.declared.Command.{Command}
+use Rattle.coherence.specs.Names.{ℕ, _%_, _<_, _≡_, Bool, true, false, List, [], _∷_, eqb, pick, _and_, isPrefetch, isRefusal, limit, isOn}
+use Rattle.coherence.specs.Names.{isWalking, Access, VirtualAddress, Lent, Bill, Prices, Pending, Answer, Device, inRange, acknowledgeAt}
+use Rattle.coherence.specs.Names.{requestOf, writeOf, Call, request, write, read, drop-fault, shift, answered, step, Look}
+use Rattle.coherence.proofs.Names.{arith, refl, sym, _∙_, ap, subst, true≢false, eqb-true, pick-yes, InRange, listed, commandOf, Command}
+use Rattle.coherence.proofs.Names.{Outcome, cleared, doneWith, refusedWith, attemptOf, requestRefusals, writeRefusals, retried, carried, plain}
+use Rattle.coherence.proofs.Names.{Below, Coherent, Uniform, started, lookIn}
+use borrow.Author.Tests.{leb-false, not-true, not-false}
+use Rattle.page.proofs.Picks.{and-left, and-right}
+use Rattle.bank.proofs.Ranges.{in-range}
+use Rattle.registers.specs.Fields.{registersOk, pendingOk}
 use Rattle.registers.proofs.Offsets.{command-at}
-use Rattle.decision.specs.Types.{Access, VirtualAddress, Lent, Bill, Prices, Pending, Answer}
-use Rattle.unit.specs.declared.Device.{Device}
-use Rattle.unit.specs.declared.Outcome.{Outcome}
 use Rattle.unit.specs.declared.Told.{Told}
-use Rattle.unit.specs.Device.{inRange, cleared, toldRefused, doneWith, refusedWith, attemptOf}
-use Rattle.unit.specs.Offsets.{acknowledgeAt}
-use Rattle.unit.specs.Calls.{requestRefusals, requestOf, writeRefusals, writeOf, retried, carried, readRefusals, readOf, dropRefusals, dropOf}
-use Rattle.unit.specs.Machine.{Call, request, write, read, drop-fault, shift, Said, answered, reported, step}
-use Rattle.coherence.specs.Agreement.{plain, Below, Coherent}
-use Rattle.walk.specs.Uniform.{Look, Uniform}
-use Rattle.coherence.specs.Sessions.{BilledCall, after, admitted, Admitted, asks, nothing, retriedOf, asked, started, lookFrom, CacheNeverShows}
+use Rattle.unit.specs.Device.{toldRefused}
+use Rattle.unit.specs.Calls.{readRefusals, readOf, dropRefusals, dropOf}
+use Rattle.unit.specs.Machine.{Said, reported}
+use Rattle.coherence.specs.Sessions.{BilledCall, after, admitted, Admitted, asks, nothing, retriedOf, asked, CacheNeverShows}
 use Rattle.unit.proofs.Refusing.{refuses-by}
 use Rattle.coherence.proofs.Slots.{fresh-agrees}
 use Rattle.coherence.proofs.Attempts.{attempt-answers, attempt-keeps}
@@ -38,7 +27,7 @@ bank-in-range d h = in-range (d .bank) (and-right (pendingOk (d .pending)) _ (an
 
 module _ (m : Lent) (base : ℕ) where
   abbrev walked : Look
-  walked = lookFrom m base
+  walked = lookIn m base
 
   module _ (u : Uniform limit walked) where
     abbrev Ends : Outcome → Type 0
@@ -86,7 +75,8 @@ module _ (m : Lent) (base : ℕ) where
       subst (Plain r va) q (subst (λ (x : VirtualAddress). Plain r x w) p h)
 
   -- only an acknowledgement asks again
-  asked-again : (o v : ℕ) (q : Pending) (va : VirtualAddress) (a : Access) → pick (eqb o acknowledgeAt and eqb (v % 2) 1) (retriedOf q) nothing ≡ asks va a → (commandOf o v ≡ Command.Acknowledge true) × (retriedOf q ≡ asks va a)
+  asked-again : (o v : ℕ) (q : Pending) (va : VirtualAddress) (a : Access) → pick (eqb o acknowledgeAt and eqb (v % 2) 1) (retriedOf q) nothing ≡ asks va a
+      → (commandOf o v ≡ Command.Acknowledge true) × (retriedOf q ≡ asks va a)
   unfolding pick
   asked-again o v q va a = by (eqb o acknowledgeAt and eqb (v % 2) 1) refl
     where
@@ -134,10 +124,10 @@ pub coherent-started : (look : Look) (control base : ℕ) → isOn control ≡ t
 coherent-started look control base on walking =
     record { on = on; walking = walking; base-is = refl; lanes = fresh-agrees look; below = tt }
 
-module _ (m : Lent) (control base : ℕ) (on : isOn control ≡ true) (walking : isWalking control ≡ true) (u : Uniform limit (lookFrom m base)) where
+module _ (m : Lent) (control base : ℕ) (on : isOn control ≡ true) (walking : isWalking control ≡ true) (u : Uniform limit (lookIn m base)) where
   -- after any admitted calls every slot agrees
-  pub coherent-after : (cs : List BilledCall) → Admitted cs → Coherent (lookFrom m base) base (after m (started control base) cs)
-  coherent-after cs e = after-keeps m base u cs (started control base) e (coherent-started (lookFrom m base) control base on walking)
+  pub coherent-after : (cs : List BilledCall) → Admitted cs → Coherent (lookIn m base) base (after m (started control base) cs)
+  coherent-after cs e = after-keeps m base u cs (started control base) e (coherent-started (lookIn m base) control base on walking)
 
   -- what the slots hold never shows
   pub cache-never-shows : CacheNeverShows m control base

@@ -1,26 +1,22 @@
 -- A slot that a walk made agrees, one that is not valid agrees with anything, and fills and flushes keep every slot in agreement.
 -- Assumes nothing.
-use Prim.Native.Nat.{ℕ, zero, suc, _<_}
-use native.Mathlib.Omega.{arith}
-use mathlib.Core.Path.{_≡_, refl, sym, _∙_, ap, ap₂, subst}
-use mathlib.Core.Bool.{Bool, true, false, false≢true}
-use mathlib.Core.List.{List}
-use lib.Dec.{eqb}
-use lib.ListN.{getD, length-set, length-map, replicate}
-use borrow.Author.Tests.{eqb-true, eqb-false}
-use Rattle.page.specs.Words.{wordValid, wordDropped, wordFlushed, wordFlushedAt, madeCam, madeRam, limit}
-use Rattle.page.proofs.Picks.{pick-by}
+use Rattle.coherence.specs.Names.{ℕ, _<_, _≡_, Bool, true, false, List, eqb, getD, limit, slots, byAccess, VirtualAddress, Look}
+use Rattle.coherence.proofs.Names.{arith, refl, sym, _∙_, ap, ap₂, subst, replicate, eqb-true, pick-by, filled, InRange, byFound}
+use Rattle.coherence.proofs.Names.{PhysicalAddress, Page, Found, Lanes, Uniform}
+use Prim.Native.Nat.{zero, suc}
+use mathlib.Core.Bool.{false≢true}
+use lib.ListN.{length-set, length-map}
+use borrow.Author.Tests.{eqb-false}
+use Rattle.page.specs.Words.{wordValid, wordDropped, wordFlushed, wordFlushedAt, madeCam, madeRam}
 use Rattle.page.proofs.Slot.{made-matches, made-access, made-address, dropped-off, off-matches}
-use Rattle.lanes.specs.Lanes.{slots, flushedAll, flushedEntry}
+use Rattle.lanes.specs.Lanes.{flushedAll, flushedEntry}
 use Rattle.bank.specs.Slots.{slotAt}
-use Rattle.bank.specs.Changes.{nextSlot, storedAt, filled}
+use Rattle.bank.specs.Changes.{nextSlot, storedAt}
 use Rattle.bank.proofs.Fills.{stored-keeps, stored-has}
 use Rattle.lanes.proofs.Flushes.{flush-word, entry-word}
-use Rattle.bank.proofs.Ranges.{InRange, nextSlot-lt}
-use Rattle.decision.specs.Decisions.{byAccess, byFound}
-use Rattle.unit.specs.Types.{VirtualAddress, PhysicalAddress, Words, Page, Found, Bank}
-use Rattle.coherence.specs.Agreement.{Agrees, Lanes}
-use Rattle.walk.specs.Uniform.{Look, Uniform}
+use Rattle.bank.proofs.Ranges.{nextSlot-lt}
+use Rattle.unit.specs.Names.{Words, Bank}
+use Rattle.coherence.specs.Agreement.{Agrees}
 
 module _ (look : Look) where
   -- a word that is not valid matches nothing
@@ -39,7 +35,8 @@ module _ (look : Look) where
   flushedAt-agrees at c r h = pick-by (λ (x : ℕ). Agrees look x r) _ _ _ (λ _. dropped-agrees c r) (λ _. h)
 
   -- what a walk makes agrees at every address of its page, where the tables agree with themselves
-  pub made-agrees : Uniform limit look → (va : VirtualAddress) (p : Page) → va .0 < limit → look va .found ≡ Found.Page p → p .access < 4 → Agrees look (madeCam (p .kind) (va .0)) (madeRam (p .kind) (p .frame .0) (p .access))
+  pub made-agrees : Uniform limit look → (va : VirtualAddress) (p : Page) → va .0 < limit → look va .found ≡ Found.Page p → p .access < 4
+      → Agrees look (madeCam (p .kind) (va .0)) (madeRam (p .kind) (p .frame .0) (p .access))
   unfolding byFound
   made-agrees u va p l e n at h a =
       ap₂ (λ (x : ℕ) (y : PhysicalAddress). byAccess x y a) (made-access (p .kind) (p .frame .0) (p .access) n) (made-address (p .kind) (p .frame .0) (p .access) (va .0) at)

@@ -1,31 +1,15 @@
 -- Three register writes start a fresh device, in any order. Assumes nothing.
-use Prim.Native.Nat.{ℕ, _+_, _*_, _/_, _%_, _^_, _<_}
-use native.Mathlib.Omega.{arith}
-use mathlib.Core.Path.{_≡_, refl, _∙_, ap, ap₂}
-use mathlib.Core.Bool.{true, false, not}
-use mathlib.Core.List.{_∷_}
-use lib.ListN.{replicate}
-use borrow.Author.Tests.{eq-eqb}
-use Rattle.page.specs.Pick.{pick, _and_, _or_}
-use Rattle.page.proofs.Picks.{pick-yes, and-yes}
+use Rattle.coherence.specs.Names.{ℕ, _+_, _*_, _/_, _%_, _^_, _<_, _≡_, true, false, not, _∷_, pick, _and_, freshBank, isOn, isWalking, noEntry}
+use Rattle.coherence.specs.Names.{Lent, Bill, Prices, Device, freshDevice, inRange, writeOf, controlAt, baseHighAt, baseLowAt, write, step}
+use Rattle.coherence.proofs.Names.{arith, refl, _∙_, ap, ap₂, replicate, eq-eqb, _or_, pick-yes, and-yes, noRegister, listed, commandOf}
+use Rattle.coherence.proofs.Names.{Setting, Command, Clear, Outcome, doneWith, refusedWith, isMalformed, isUntimely, writeLacks, writeRefusals}
+use Rattle.coherence.proofs.Names.{carried, started, clear-goes-on}
 use Rattle.lanes.specs.Lanes.{allFrom}
-use Rattle.bank.specs.Slots.{bankOk, freshBank}
-use Rattle.registers.specs.Fields.{isOn, isWalking, entryOk, noEntry}
-use Rattle.registers.specs.Table.{noRegister, listed, controlCommand, commandOf}
-use Rattle.registers.specs.declared.Setting.{Setting}
-use Rattle.registers.specs.declared.Command.{Command}
+use Rattle.bank.specs.Slots.{bankOk}
+use Rattle.registers.specs.Fields.{entryOk}
+use Rattle.registers.specs.Table.{controlCommand}
 use Rattle.registers.proofs.Ranges.{registers-ranged}
-use Rattle.decision.specs.Types.{Lent, Bill, Prices}
-use Rattle.unit.specs.declared.Device.{Device}
-use Rattle.unit.specs.Refusals.{Clear}
-use Rattle.unit.specs.declared.Outcome.{Outcome}
-use Rattle.unit.specs.Device.{freshDevice, inRange, doneWith, refusedWith}
-use Rattle.unit.specs.Calls.{isMalformed, isUntimely, writeLacks, writeRefusals, writeOf, carried}
-use Rattle.unit.specs.Offsets.{controlAt, baseHighAt, baseLowAt}
-use Rattle.unit.specs.Machine.{write, step}
-use Rattle.coherence.specs.Sessions.{started}
 use Rattle.coherence.specs.Started.{setsHigh, setsLow, setsControl, orders, Leaves, TurnsOn, startControl, StartedInAnyOrder}
-use Rattle.unit.proofs.Refusing.{clear-goes-on}
 
 -- a started device is in range
 fresh-bank-ok : bankOk freshBank ≡ true

@@ -1,27 +1,15 @@
 -- A register write other than to control and base keeps the slots in agreement. Assumes nothing.
-use Prim.Native.Nat.{ℕ}
-use mathlib.Core.Path.{_≡_, sym, _∙_, subst}
-use mathlib.Core.Bool.{true, false, true≢false}
-use mathlib.Core.List.{List}
-use Rattle.page.specs.Pick.{pick, _and_, _or_}
-use Rattle.page.proofs.Picks.{pick-by, and-yes, or-yes}
+use Rattle.coherence.specs.Names.{ℕ, _≡_, true, false, List, pick, _and_, limit, isWalking, Lent, Bill, Prices, Pending, Device}
+use Rattle.coherence.proofs.Names.{sym, _∙_, subst, true≢false, _or_, pick-by, and-yes, InRange, listed, commandOf, Setting, Command, Outcome}
+use Rattle.coherence.proofs.Names.{cleared, isUntimely, retried, carried, Lanes, Below, Coherent, Uniform, lookIn}
+use Rattle.page.proofs.Picks.{or-yes}
 use Rattle.bank.specs.Changes.{withCams}
-use Rattle.bank.proofs.Ranges.{InRange}
-use Rattle.page.specs.Words.{limit}
-use Rattle.registers.specs.Fields.{isWalking, camAddress, setting}
-use Rattle.registers.specs.Table.{listed, lockCommand, loadCommand, whenBit, commandOf, tended}
-use Rattle.registers.specs.declared.Setting.{Setting}
+use Rattle.registers.specs.Fields.{camAddress, setting}
+use Rattle.registers.specs.Table.{lockCommand, loadCommand, whenBit, tended}
 use Rattle.registers.specs.declared.Tending.{Tending}
-use Rattle.registers.specs.declared.Command.{Command}
 use Rattle.registers.proofs.Offsets.{by-offset, command-elsewhere}
-use Rattle.decision.specs.Types.{Lent, Bill, Prices, Pending}
-use Rattle.unit.specs.declared.Device.{Device}
-use Rattle.unit.specs.declared.Outcome.{Outcome}
-use Rattle.unit.specs.Device.{setRegisters, setBank, cleared}
-use Rattle.unit.specs.Calls.{isUntimely, retried, carried}
-use Rattle.coherence.specs.Agreement.{Lanes, Below, Coherent}
-use Rattle.walk.specs.Uniform.{Uniform}
-use Rattle.coherence.specs.Sessions.{isFixed, lookFrom}
+use Rattle.unit.specs.Device.{setRegisters, setBank}
+use Rattle.coherence.specs.Sessions.{isFixed}
 use Rattle.coherence.proofs.Slots.{flush-agrees, flushAt-agrees}
 use Rattle.coherence.proofs.Attempts.{attempt-keeps, prefetch-keeps}
 
@@ -92,9 +80,9 @@ module _ (v : ℕ) where
         (λ _ _. tt)
         (λ o g _ _. subst Tame (sym (command-elsewhere o v g)) tt)
 
-module _ (m : Lent) (base : ℕ) (u : Uniform limit (lookFrom m base)) (d : Device) (h : Coherent (lookFrom m base) base d) where
+module _ (m : Lent) (base : ℕ) (u : Uniform limit (lookIn m base)) (d : Device) (h : Coherent (lookIn m base) base d) where
   abbrev Keeps : Device → Type 0
-  Keeps e = Coherent (lookFrom m base) base e
+  Keeps e = Coherent (lookIn m base) base e
 
   pub cleared-keeps : Keeps (cleared d)
   cleared-keeps = record { on = h .on; walking = h .walking; base-is = h .base-is; lanes = h .lanes; below = tt }
@@ -105,7 +93,7 @@ module _ (m : Lent) (base : ℕ) (u : Uniform limit (lookFrom m base)) (d : Devi
   setting-keeps (Setting.RamHigh v) e = h
   setting-keeps (Setting.RamLow v) e = h
 
-  with-cams : (cam : List ℕ) → Lanes (lookFrom m base) cam (d .bank .ram) → Keeps (setBank d (withCams (d .bank) cam))
+  with-cams : (cam : List ℕ) → Lanes (lookIn m base) cam (d .bank .ram) → Keeps (setBank d (withCams (d .bank) cam))
   with-cams cam l = record { on = h .on; walking = h .walking; base-is = h .base-is; lanes = l; below = h .below }
 
   tended-keeps : (t : Tending) → Keeps (setBank d (tended (d .bank) (d .registers .staged) t))

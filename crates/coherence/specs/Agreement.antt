@@ -1,13 +1,6 @@
 -- What the slots hold never shows: the plain answer, and slots that agree with it (01, demand 3).
-use Rattle.page.specs.Ground.{ℕ, _<_, _≡_, true, List, getD, length}
-use Rattle.page.specs.Words.{wordMatches, wordAccess, wordAddress, limit}
-use Rattle.lanes.specs.Lanes.{slots}
-use Rattle.registers.specs.Fields.{isOn, isWalking}
-use Rattle.registers.specs.declared.Pending.{Pending}
-use Rattle.walk.specs.Uniform.{Look}
-use Rattle.decision.specs.Types.{Access, VirtualAddress, Answer}
-use Rattle.decision.specs.Decisions.{byAccess, byWalk}
-use Rattle.unit.specs.declared.Device.{Device}
+use Rattle.coherence.specs.Names.{ℕ, _<_, _≡_, true, List, getD, length, wordMatches, wordAccess, wordAddress, limit, slots, isOn, isWalking}
+use Rattle.coherence.specs.Names.{Pending, Look, Access, VirtualAddress, Answer, byAccess, byWalk, Device}
 
 -- what the walk alone answers
 abbrev pub plain : Look → VirtualAddress → Access → Answer

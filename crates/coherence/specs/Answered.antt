@@ -1,18 +1,9 @@
 -- What keeps the promise from being hollow: a request or a retry that the paper does not refuse is answered (01, "When the unit says no").
-use Rattle.page.specs.Ground.{ℕ, _%_, _<_, _≡_, true, false}
-use Rattle.walk.specs.Distances.{isMissing}
-use Rattle.bill.specs.Bill.{moneyOk}
-use Rattle.registers.specs.Answers.{isPrefetch, isRefusal}
-use Rattle.page.specs.Words.{limit}
-use Rattle.registers.specs.declared.Pending.{Pending}
-use Rattle.decision.specs.Types.{Access, VirtualAddress, Lent, lentOk, Bill, Prices, Fault, Answer}
-use Rattle.unit.specs.declared.Device.{Device}
-use Rattle.unit.specs.Device.{inRange}
-use Rattle.unit.specs.Offsets.{acknowledgeAt}
-use Rattle.unit.specs.Calls.{requestOf, writeOf}
+use Rattle.coherence.specs.Names.{ℕ, _%_, _<_, _≡_, true, false, isMissing, moneyOk, isPrefetch, isRefusal, limit, Pending, Access}
+use Rattle.coherence.specs.Names.{VirtualAddress, Lent, lentOk, Bill, Prices, Fault, Answer, Device, inRange, acknowledgeAt, requestOf, writeOf}
+use Rattle.coherence.specs.Names.{Look}
 use Rattle.coherence.specs.Agreement.{plain, Coherent}
-use Rattle.walk.specs.Uniform.{Look}
-use Rattle.coherence.specs.Sessions.{lookFrom}
+use Rattle.walk.specs.Uniform.{lookIn}
 
 -- neither 8 nor 4 nor 9 holds
 pub record Ready (m : Lent) (p : Prices) (b : Bill) (d : Device) : Type 0 where
@@ -29,21 +20,21 @@ pub record Answered (look : Look) (va : VirtualAddress) (a : Access) (r : Answer
 abbrev pub RequestAnswered : Lent → ℕ → Type 0
 RequestAnswered m base =
     (p : Prices) (b : Bill) (d : Device) (va : VirtualAddress) (a : Access) →
-    Coherent (lookFrom m base) base d →
+    Coherent (lookIn m base) base d →
     Ready m p b d →
     d .pending ≡ Pending.Nothing →
     va .0 < limit →
-    isMissing (lookFrom m base va .found) ≡ false →
-    Answered (lookFrom m base) va a (requestOf m p b d va a .answer)
+    isMissing (lookIn m base va .found) ≡ false →
+    Answered (lookIn m base) va a (requestOf m p b d va a .answer)
 
 -- the retry of a pending request: acknowledge, with bit 0 set
 abbrev pub RetryAnswered : Lent → ℕ → Type 0
 RetryAnswered m base =
     (p : Prices) (b : Bill) (d : Device) (v : ℕ) (k : Fault) (va : VirtualAddress) (a : Access) →
-    Coherent (lookFrom m base) base d →
+    Coherent (lookIn m base) base d →
     Ready m p b d →
     d .pending ≡ Pending.Held k va a →
     isPrefetch k ≡ false →
     v % 2 ≡ 1 →
-    isMissing (lookFrom m base va .found) ≡ false →
-    Answered (lookFrom m base) va a (writeOf m p b d acknowledgeAt v .answer)
+    isMissing (lookIn m base va .found) ≡ false →
+    Answered (lookIn m base) va a (writeOf m p b d acknowledgeAt v .answer)

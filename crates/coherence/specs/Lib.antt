@@ -1,3 +1,4 @@
+pub mod Names
 pub mod Agreement
 pub mod Sessions
 pub mod Answered

@@ -1,21 +1,9 @@
 -- A session: any calls but writes to control or base, each with its own prices and bill, and what each asks (01, demand 3).
-use Rattle.page.specs.Ground.{ℕ, _%_, _<_, _≡_, Bool, true, false, not, List, [], _∷_, eqb}
-use Rattle.page.specs.Pick.{pick, _and_}
-use Rattle.page.specs.Words.{physical, limit}
-use Rattle.memory.specs.Memory.{Lent}
-use Rattle.walk.specs.Walk.{walkIn}
-use Rattle.bill.specs.declared.Bill.{Bill}
-use Rattle.bank.specs.Slots.{freshBank}
-use Rattle.registers.specs.Answers.{isPrefetch, isRefusal}
-use Rattle.registers.specs.Fields.{noEntry}
-use Rattle.registers.specs.declared.Pending.{Pending}
-use Rattle.decision.specs.Types.{Access, VirtualAddress, Answer}
-use Rattle.unit.specs.declared.Device.{Device}
-use Rattle.unit.specs.Offsets.{controlAt, acknowledgeAt, baseHighAt, baseLowAt}
-use Rattle.unit.specs.Calls.{oneOf}
-use Rattle.unit.specs.Machine.{Call, request, write, read, drop-fault, shift, answered, step}
+use Rattle.coherence.specs.Names.{ℕ, _%_, _<_, _≡_, Bool, true, false, not, List, [], _∷_, eqb, pick, _and_, physical, limit, Lent, Bill}
+use Rattle.coherence.specs.Names.{freshBank, isPrefetch, isRefusal, noEntry, Pending, Access, VirtualAddress, Answer, Device, controlAt}
+use Rattle.coherence.specs.Names.{acknowledgeAt, baseHighAt, baseLowAt, oneOf, Call, request, write, read, drop-fault, shift, answered, step}
 use Rattle.coherence.specs.Agreement.{plain}
-use Rattle.walk.specs.Uniform.{Look}
+use Rattle.walk.specs.Uniform.{lookIn}
 
 -- a call with the bill that it is handed
 abbrev pub BilledCall : Type 0
@@ -69,10 +57,6 @@ started control base = record {
   pending = Pending.Nothing;
 }
 
--- the plain walk from a base
-abbrev pub lookFrom : Lent → ℕ → Look
-lookFrom m base va = walkIn m base (va .0)
-
 -- after any admitted calls, each request or retry that is not refused answers what the plain walk alone answers
 abbrev pub CacheNeverShows : Lent → ℕ → ℕ → Type 0
 CacheNeverShows m control base =
@@ -81,4 +65,4 @@ CacheNeverShows m control base =
     asked (after m (started control base) cs) c ≡ asks va a →
     step m (after m (started control base) cs) b c .said ≡ answered r →
     isRefusal r ≡ false →
-    (va .0 < limit) × (r ≡ plain (lookFrom m base) va a)
+    (va .0 < limit) × (r ≡ plain (lookIn m base) va a)

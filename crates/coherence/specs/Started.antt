@@ -1,10 +1,6 @@
 -- The start of a session: a fresh device, the base set to its two halves, on and walking (01, "Registers", "Bench sheet").
-use Rattle.page.specs.Ground.{ℕ, _+_, _*_, _/_, _%_, _^_, _<_, _≡_, List, [], _∷_}
-use Rattle.decision.specs.Types.{Lent, Bill, Prices}
-use Rattle.unit.specs.declared.Device.{Device}
-use Rattle.unit.specs.Device.{freshDevice}
-use Rattle.unit.specs.Offsets.{controlAt, baseHighAt, baseLowAt}
-use Rattle.unit.specs.Machine.{write}
+use Rattle.coherence.specs.Names.{ℕ, _+_, _*_, _/_, _%_, _^_, _<_, _≡_, List, [], _∷_, Lent, Bill, Prices, Device, freshDevice, controlAt}
+use Rattle.coherence.specs.Names.{baseHighAt, baseLowAt, write}
 use Rattle.coherence.specs.Sessions.{BilledCall, after, started}
 
 -- the three writes: the halves of the base, and control

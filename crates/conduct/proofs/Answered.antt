@@ -1,29 +1,13 @@
 -- Demand 2: one acknowledgement suffices, and off is virtual. Assumes nothing.
-use mathlib.Core.Path.{_≡_, refl, sym, _∙_, ap, subst}
-use mathlib.Core.Bool.{Bool, true, false, false≢true}
-use Prim.Native.Nat.{ℕ, _%_}
-use lib.Dec.{eqb}
-use lib.ListN.{getD}
-use borrow.Author.Tests.{eq-eqb}
-use Rattle.page.specs.Pick.{pick}
-use Rattle.page.specs.Words.{physical, permits, wordAccess, wordAddress}
-use Rattle.page.proofs.Picks.{pick-yes, pick-no}
-use Rattle.bill.specs.declared.Seen.{Seen}
-use Rattle.lanes.specs.declared.Matched.{Matched}
-use Rattle.lanes.proofs.Searches.{found}
-use Rattle.registers.specs.Answers.{isPrefetch}
-use Rattle.registers.specs.Fields.{isOn}
-use Rattle.registers.specs.Table.{listed, commandOf}
-use Rattle.registers.specs.declared.Pending.{Pending}
-use Rattle.decision.specs.Decisions.{plainly, byAccess, meteredOnce}
-use Rattle.decision.proofs.Joins.{decided-off, decided-on}
-use Rattle.unit.specs.Device.{look, decidedBy, concluded, attemptOf}
-use Rattle.unit.specs.Offsets.{acknowledgeAt}
-use Rattle.unit.specs.Calls.{retried, carried}
-use Rattle.unit.specs.Machine.{request, write, read, drop-fault, shift, answered}
-use Rattle.conduct.specs.Types.{Access, VirtualAddress, Lent, Bill, Prices, Fault, Answer, Decision, Device, Outcome}
-use Rattle.conduct.specs.Asked.{Asked, nothing, attempt, prefetch, asked}
-use Rattle.conduct.specs.Answered.{LowestMatch, OneAcknowledgement, OffIsVirtual}
+use Rattle.conduct.specs.Names.{_≡_, Bool, true, false, ℕ, _%_, eqb, getD, pick, physical, permits, wordAccess, wordAddress, Seen, Matched}
+use Rattle.conduct.specs.Names.{isPrefetch, isOn, listed, Pending, look, acknowledgeAt, request, write, read, drop-fault, shift, answered}
+use Rattle.conduct.specs.Names.{Access, VirtualAddress, Lent, Bill, Prices, Fault, Answer, Decision, Device, Outcome}
+use Rattle.conduct.proofs.Names.{refl, sym, _∙_, ap, subst, false≢true, eq-eqb, pick-yes, pick-no, found, commandOf, byAccess, meteredOnce}
+use Rattle.conduct.proofs.Names.{decided-on, decidedBy, attemptOf, retried, carried, Attempted, nothing, attempt, prefetch, attempted, LowestMatch}
+use Rattle.decision.specs.Decisions.{plainly}
+use Rattle.decision.proofs.Joins.{decided-off}
+use Rattle.unit.specs.Device.{concluded}
+use Rattle.conduct.specs.Answered.{OneAcknowledgement, OffIsVirtual}
 use Rattle.conduct.proofs.Writes.{write-by}
 use Rattle.conduct.proofs.Calls.{accepted-request, accepted-write}
 
@@ -58,15 +42,15 @@ module _ (b : Bill) (again : Bool) (va : VirtualAddress) (a : Access) where
   abbrev Virtual : Outcome → Type 0
   Virtual x = (answered (x .answer) ≡ answered (Answer.Address (physical (va .0)))) × (x .tally .words ≡ 0) × (x .bill ≡ b) × (x .device .pending ≡ Pending.Nothing)
 
-  abbrev Off : Asked → Outcome → Type 0
+  abbrev Off : Attempted → Outcome → Type 0
   Off q x = q ≡ attempt again va a → Virtual x
 
-  abbrev isAttempt : Asked → Bool
+  abbrev isAttempt : Attempted → Bool
   isAttempt nothing = false
   isAttempt (attempt t x r) = true
   isAttempt (prefetch x) = false
 
-  no-attempt : {P : Type 0} (q : Asked) → isAttempt q ≡ false → q ≡ attempt again va a → P
+  no-attempt : {P : Type 0} (q : Attempted) → isAttempt q ≡ false → q ≡ attempt again va a → P
   no-attempt q n e = absurd (false≢true (sym n ∙ ap isAttempt e))
 
 no-words : (t : Bool) → meteredOnce t 0 .words ≡ 0
@@ -88,7 +72,7 @@ pub off-is-virtual : OffIsVirtual
 off-is-virtual m d b (request x r p) again va a off e h =
     accepted-request m p b d (Virtual b again va a) x r (λ _. off-asked m d b p off again va a false x r e) h
 off-is-virtual m d b (write o v p) again va a off e h =
-    accepted-write m p b d (Off b again va a (asked d (write o v p))) o v
+    accepted-write m p b d (Off b again va a (attempted d (write o v p))) o v
     (write-by m p b d v (Off b again va a) (no-attempt b again va a nothing refl) (no-attempt b again va a nothing refl)
     (λ x r _. off-asked m d b p off again va a true x r)
     (λ _. no-attempt b again va a (prefetch _) refl)

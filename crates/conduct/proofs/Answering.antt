@@ -1,35 +1,17 @@
 -- Demand 2: what a request or a retry answers while the unit is on, a prefetch and a shift report. Assumes nothing.
-use mathlib.Core.Path.{_≡_, refl, sym, _∙_, ap, subst}
-use mathlib.Core.Bool.{Bool, true, false, not, true≢false, false≢true}
-use Prim.Native.Nat.{ℕ, _<_}
-use lib.ListN.{getD}
+use Rattle.conduct.specs.Names.{_≡_, Bool, true, false, not, ℕ, _<_, getD, pick, limit, permits, wordAccess, wordAddress, physicalOf, slots}
+use Rattle.conduct.specs.Names.{lookedUp, isRefusal, isOn, isWalking, listed, Fault, Answer, pageAt, Shift, inRange, look, cleared, prefetchAt}
+use Rattle.conduct.specs.Names.{noMatch, dropRefusals, request, write, read, drop-fault, shift, answered, Access, VirtualAddress}
+use Rattle.conduct.specs.Names.{PhysicalAddress, Lent, lentOk, Reads, Page, Found, Bill, Prices, Matched, Decision, Device, Outcome, Told}
+use Rattle.conduct.proofs.Names.{refl, sym, _∙_, ap, subst, true≢false, false≢true, pick-yes, pick-no, isMissing, found, commandOf, byAccess}
+use Rattle.conduct.proofs.Names.{byFound, prefetchFound, prefetchMatched, prefetchDecided, shiftBy, decided-on, refuses, told, toldRefused}
+use Rattle.conduct.proofs.Names.{decidedBy, attemptOf, lacks, writeOf, dropOf, shiftOf, refuses-by, Accepted, Attempted, nothing, attempt}
+use Rattle.conduct.proofs.Names.{prefetch, attempted, LowestMatch}
 use borrow.Author.Tests.{lt-leb}
-use Rattle.page.specs.Pick.{pick}
-use Rattle.page.specs.Words.{limit, permits, wordAccess, wordAddress}
-use Rattle.page.proofs.Picks.{pick-yes, pick-no}
-use Rattle.walk.specs.Descriptors.{physicalOf}
-use Rattle.walk.specs.Distances.{isMissing}
-use Rattle.lanes.specs.Lanes.{slots, lookedUp}
-use Rattle.lanes.proofs.Searches.{found, lowest, Lowest}
-use Rattle.registers.specs.Answers.{isRefusal}
-use Rattle.registers.specs.Fields.{isOn, isWalking}
-use Rattle.registers.specs.Table.{listed, commandOf}
-use Rattle.registers.specs.declared.Fault.{Fault}
-use Rattle.registers.specs.declared.Answer.{Answer}
-use Rattle.decision.specs.Decisions.{byAccess, byFound}
-use Rattle.decision.specs.Prefetches.{pageAt, prefetchFound, prefetchMatched, prefetchDecided, shiftBy}
-use Rattle.decision.specs.declared.Shift.{Shift}
-use Rattle.decision.proofs.Joins.{decided-on, decided-miss, decided-walk}
-use Rattle.unit.specs.Refusals.{refuses}
-use Rattle.unit.specs.Device.{inRange, look, cleared, told, toldRefused, decidedBy, attemptOf}
-use Rattle.unit.specs.Offsets.{prefetchAt}
-use Rattle.unit.specs.Calls.{noMatch, lacks, writeOf, dropRefusals, dropOf, shiftOf}
-use Rattle.unit.proofs.Refusing.{refuses-by}
-use Rattle.unit.specs.Machine.{request, write, read, drop-fault, shift, answered}
-use Rattle.conduct.specs.Types.{Access, VirtualAddress, PhysicalAddress, Lent, lentOk, Reads, Page, Found, Bill, Prices, Matched, Decision, Device, Outcome, Told}
-use Rattle.conduct.specs.Refused.{Accepted}
-use Rattle.conduct.specs.Asked.{Asked, nothing, attempt, prefetch, asked}
-use Rattle.conduct.specs.Answered.{LowestMatch, NoSlot, WalkAnswers, OnAnswers, AnswersOn, PrefetchAnswers, PrefetchAnswered, ShiftTells, ShiftAnswered, done, NothingSaid}
+use Rattle.lanes.proofs.Searches.{lowest, Lowest}
+use Rattle.decision.proofs.Joins.{decided-miss, decided-walk}
+use Rattle.conduct.specs.Answered.{NoSlot, WalkAnswers, OnAnswers, AnswersOn, PrefetchAnswers, PrefetchAnswered, ShiftTells, ShiftAnswered}
+use Rattle.conduct.specs.Answered.{done, NothingSaid}
 use Rattle.conduct.proofs.Tests.{rest}
 use Rattle.conduct.proofs.Writes.{write-by}
 use Rattle.conduct.proofs.Calls.{accepted-request, accepted-write}
@@ -92,7 +74,7 @@ module _ (m : Lent) (d : Device) (va : VirtualAddress) (a : Access) (on : isOn (
   }
 
 module _ (m : Lent) (d : Device) (b : Bill) (p : Prices) (on : isOn (d .registers .control) ≡ true) (again : Bool) (va : VirtualAddress) (a : Access) where
-  abbrev On : Asked → Outcome → Type 0
+  abbrev On : Attempted → Outcome → Type 0
   On q o = q ≡ attempt again va a → OnAnswers m d va a (answered (o .answer))
 
   asked-answers : (t : Bool) (x : VirtualAddress) (r : Access) → lacks m d x ≡ false → On (attempt t x r) (attemptOf m p b t d x r)
@@ -102,12 +84,12 @@ module _ (m : Lent) (d : Device) (b : Bill) (p : Prices) (on : isOn (d .register
       subst (λ (z : Access). OnAnswers m d va z (answered (decidedBy (look m d x) d x r .answer))) s
       (subst (λ (y : VirtualAddress). OnAnswers m d y r (answered (decidedBy (look m d x) d x r .answer))) q (on-answers m d x r on h))
 
-abbrev isAttempt : Asked → Bool
+abbrev isAttempt : Attempted → Bool
 isAttempt nothing = false
 isAttempt (attempt t x r) = true
 isAttempt (prefetch x) = false
 
-no-attempt : {P : Type 0} (again : Bool) (va : VirtualAddress) (a : Access) (q : Asked) → isAttempt q ≡ false → q ≡ attempt again va a → P
+no-attempt : {P : Type 0} (again : Bool) (va : VirtualAddress) (a : Access) (q : Attempted) → isAttempt q ≡ false → q ≡ attempt again va a → P
 no-attempt again va a q n e = absurd (false≢true (sym n ∙ ap isAttempt e))
 
 pub answers-on : AnswersOn
@@ -115,7 +97,7 @@ answers-on m d b (request x r p) again va a on e h =
     accepted-request m p b d (λ (o : Outcome). OnAnswers m d va a (answered (o .answer))) x r
     (λ c. asked-answers m d b p on again va a false x r (c .1 .1 .1 .1 .1 .0) e) h
 answers-on m d b (write o v p) again va a on e h =
-    accepted-write m p b d (On m d b p on again va a (asked d (write o v p))) o v
+    accepted-write m p b d (On m d b p on again va a (attempted d (write o v p))) o v
     (write-by m p b d v (On m d b p on again va a) (no-attempt again va a nothing refl) (no-attempt again va a nothing refl)
     (λ x r n. asked-answers m d b p on again va a true x r n)
     (λ _. no-attempt again va a (prefetch _) refl)
@@ -166,20 +148,20 @@ shift-answered m d b va s r l o e =
 
 -- a write that asks for no address
 module _ (m : Lent) (d : Device) (b : Bill) (p : Prices) where
-  abbrev Quiet : Asked → Outcome → Type 0
+  abbrev Quiet : Attempted → Outcome → Type 0
   Quiet q x = q ≡ nothing → answered (x .answer) ≡ done
 
-  abbrev isAsked : Asked → Bool
+  abbrev isAsked : Attempted → Bool
   isAsked nothing = false
   isAsked (attempt t x r) = true
   isAsked (prefetch x) = true
 
-  asks-some : {P : Type 0} (q : Asked) → isAsked q ≡ true → q ≡ nothing → P
+  asks-some : {P : Type 0} (q : Attempted) → isAsked q ≡ true → q ≡ nothing → P
   asks-some q n e = absurd (true≢false (sym n ∙ ap isAsked e))
 
-  write-says : (o v : ℕ) → asked d (write o v p) ≡ nothing → Accepted m d b (write o v p) → answered (writeOf m p b d o v .answer) ≡ done
+  write-says : (o v : ℕ) → attempted d (write o v p) ≡ nothing → Accepted m d b (write o v p) → answered (writeOf m p b d o v .answer) ≡ done
   write-says o v e h =
-      accepted-write m p b d (Quiet (asked d (write o v p))) o v
+      accepted-write m p b d (Quiet (attempted d (write o v p))) o v
       (write-by m p b d v Quiet (λ _. refl) (λ _. refl) (λ va a _. asks-some (attempt true va a) refl) (λ _. asks-some (prefetch (pageAt v)) refl) o (λ _ _ _. refl))
       h e
 

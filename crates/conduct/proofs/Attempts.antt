@@ -1,25 +1,11 @@
 -- What a request, a retry or a prefetch comes to, by the plain walk of its address. Assumes nothing.
-use mathlib.Core.Path.{_≡_, refl, sym, _∙_, ap}
-use mathlib.Core.Bool.{Bool, true, false, true≢false, false≢true}
-use mathlib.Core.List.{List}
-use Prim.Native.Nat.{ℕ}
-use lib.ListN.{getD}
-use Rattle.page.specs.Pick.{pick, _and_}
-use Rattle.page.specs.Words.{wordAccess}
-use Rattle.page.proofs.Picks.{pick-yes, pick-no, pick-by, and-left, and-right}
-use Rattle.walk.specs.Distances.{isMissing}
-use Rattle.lanes.specs.Lanes.{lookedUp}
-use Rattle.bank.specs.declared.Fill.{Fill}
-use Rattle.registers.specs.Answers.{isRefusal}
-use Rattle.registers.specs.Fields.{isOn, isWalking}
-use Rattle.decision.specs.Decisions.{byAccess, byFound, byWalk, byMatched, decided, meteredOnce, tallyOf}
-use Rattle.decision.proofs.Joins.{decided-on}
-use Rattle.unit.specs.Device.{look, decidedBy}
-use Rattle.unit.specs.Calls.{noMatch, lacks}
-use Rattle.conduct.specs.Types.{Access, VirtualAddress, PhysicalAddress, Lent, Reads, Found, Walked, Seen, Matched, Answer, Decision, Device}
-use Rattle.conduct.specs.Asked.{walksFor, readsFor}
-use Rattle.conduct.specs.Filled.{pageFill, fillFor}
-use Rattle.conduct.specs.Metered.{seenFor}
+use Rattle.conduct.specs.Names.{_≡_, Bool, true, false, List, ℕ, getD, pick, _and_, wordAccess, lookedUp, Fill, isRefusal, isOn, isWalking}
+use Rattle.conduct.specs.Names.{look, noMatch, Access, VirtualAddress, PhysicalAddress, Lent, Reads, Found, Walked, Seen, Matched, Answer}
+use Rattle.conduct.specs.Names.{Decision, Device}
+use Rattle.conduct.proofs.Names.{refl, sym, _∙_, ap, true≢false, false≢true, pick-yes, pick-no, pick-by, and-left, and-right, isMissing}
+use Rattle.conduct.proofs.Names.{byAccess, byFound, byMatched, decided, meteredOnce, decided-on, decidedBy, lacks, walksFor, readsFor}
+use Rattle.conduct.proofs.Names.{pageFill, fillFor, seenFor}
+use Rattle.decision.specs.Decisions.{byWalk, tallyOf}
 use Rattle.conduct.proofs.Tests.{rest, pick-both}
 
 -- an address or a fault: what the meters count

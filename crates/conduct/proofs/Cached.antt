@@ -1,22 +1,12 @@
 -- Demand 2: a translation fault is never cached. Assumes nothing.
-use mathlib.Core.Path.{_≡_, refl, sym, _∙_, ap, subst}
-use mathlib.Core.Bool.{Bool, true, false, false≢true}
-use mathlib.Core.List.{List}
-use Prim.Native.Nat.{ℕ}
-use Rattle.page.proofs.Picks.{pick-by}
-use Rattle.lanes.specs.Lanes.{lookedUp}
-use Rattle.bank.specs.Changes.{entryFilled}
-use Rattle.bank.specs.declared.Fill.{Fill}
-use Rattle.registers.specs.Table.{commandOf, valueAt}
-use Rattle.decision.specs.Decisions.{byAccess, byFound}
-use Rattle.decision.specs.Prefetches.{pageAt, prefetchFound, prefetchMatched, prefetchDecided}
-use Rattle.unit.specs.Device.{look, cleared, told, toldRefused, refusedWith, decidedBy, attemptOf}
-use Rattle.unit.specs.Calls.{requestRefusals, requestOf, writeRefusals, carried, writeOf, readRefusals, readOf, dropRefusals, dropOf}
-use Rattle.unit.specs.Machine.{Call, request, write, read, drop-fault, shift, Said, answered, reported, step}
-use Rattle.conduct.specs.Types.{Access, VirtualAddress, PhysicalAddress, Lent, Reads, Found, Walked, Bill, Matched, Fault, Answer, Decision, Device, Outcome, Told}
-use Rattle.conduct.specs.Asked.{Asked, walksFor}
+use Rattle.conduct.specs.Names.{_≡_, Bool, true, false, List, ℕ, lookedUp, Fill, pageAt, look, cleared, requestRefusals, writeRefusals}
+use Rattle.conduct.specs.Names.{readRefusals, dropRefusals, Call, request, write, read, drop-fault, shift, Said, answered, reported, step}
+use Rattle.conduct.specs.Names.{Access, VirtualAddress, PhysicalAddress, Lent, Reads, Found, Walked, Bill, Matched, Fault, Answer, Decision}
+use Rattle.conduct.specs.Names.{Device, Outcome, Told}
+use Rattle.conduct.proofs.Names.{refl, sym, _∙_, ap, subst, false≢true, pick-by, entryFilled, commandOf, valueAt, byAccess, byFound}
+use Rattle.conduct.proofs.Names.{prefetchFound, prefetchMatched, prefetchDecided, told, toldRefused, refusedWith, decidedBy, attemptOf}
+use Rattle.conduct.proofs.Names.{requestOf, carried, writeOf, readOf, dropOf, Attempted, walksFor, refuses-by}
 use Rattle.conduct.specs.Filled.{FaultNotCached}
-use Rattle.unit.proofs.Refusing.{refuses-by}
 use Rattle.conduct.proofs.Attempts.{decided-still, decided-walks}
 use Rattle.conduct.proofs.Writes.{write-by}
 
@@ -86,7 +76,7 @@ uncached m d b (request va a p) =
     (λ _ e. ap (entryFilled (d .bank)) (attempt-uncached m d va a e))
 uncached m d b (write o v p) =
     refuses-by (refusedWith d b) (carried m p b d (commandOf o v)) (Kept d) (writeRefusals m p b d o v) (λ k _. refl)
-    (write-by m p b d v (λ (q : Asked). Kept d) (λ _. refl) (λ _. refl)
+    (write-by m p b d v (λ (q : Attempted). Kept d) (λ _. refl) (λ _. refl)
     (λ va a _ e. ap (entryFilled (d .bank)) (attempt-uncached m d va a e))
     (λ _ e. ap (entryFilled (d .bank)) (prefetch-uncached (look m d (pageAt v)) (d .bank .cam) (pageAt v) e))
     o (λ _ _ e. absurd (false≢true e)))

@@ -1,23 +1,11 @@
 -- A call that is not refused does what it asks, and no more: what holds of that holds of its step. Assumes nothing.
-use mathlib.Core.Path.{_≡_, refl, sym, _∙_, ap, ap₂}
-use mathlib.Core.Bool.{Bool, true, false}
-use Prim.Native.Nat.{ℕ}
-use Rattle.memory.specs.Reads.{wordCount}
-use Rattle.bill.specs.Bill.{readsPosted, seenPosted}
-use Rattle.bank.specs.Changes.{entryFilled}
-use Rattle.registers.specs.Table.{commandOf}
-use Rattle.decision.specs.Decisions.{meteredOnce}
-use Rattle.decision.specs.Prefetches.{pageAt, prefetchDecided}
-use Rattle.unit.specs.Refusals.{Clear}
-use Rattle.unit.specs.Device.{look, refusedWith, decidedBy, attemptOf}
-use Rattle.unit.specs.Offsets.{prefetchAt}
-use Rattle.unit.specs.Calls.{lacks, requestRefusals, requestOf, writeRefusals, prefetched, carried, writeOf}
-use Rattle.unit.specs.Machine.{request, write, Said, answered}
-use Rattle.conduct.specs.Types.{Access, VirtualAddress, Lent, Bill, Prices, Reads, Seen, Decision, Device, Outcome}
-use Rattle.conduct.specs.Refused.{Accepted}
-use Rattle.conduct.specs.Asked.{attempt, prefetch, readsFor}
-use Rattle.conduct.specs.Filled.{fillFor}
-use Rattle.conduct.specs.Metered.{tallyAsked, wordsOnly, billAsked}
+use Rattle.conduct.specs.Names.{_≡_, Bool, true, false, ℕ, wordCount, readsPosted, seenPosted, pageAt, Clear, look, prefetchAt, requestRefusals}
+use Rattle.conduct.specs.Names.{writeRefusals, request, write, Said, answered, Access, VirtualAddress, Lent, Bill, Prices, Reads, Seen}
+use Rattle.conduct.specs.Names.{Decision, Device, Outcome}
+use Rattle.conduct.proofs.Names.{refl, sym, _∙_, ap, ap₂, entryFilled, commandOf, meteredOnce, prefetchDecided, refusedWith, decidedBy}
+use Rattle.conduct.proofs.Names.{attemptOf, lacks, requestOf, prefetched, carried, writeOf, Accepted, attempt, prefetch, readsFor, fillFor}
+use Rattle.conduct.proofs.Names.{tallyAsked, billAsked}
+use Rattle.conduct.specs.Metered.{wordsOnly}
 use Rattle.conduct.proofs.Firsts.{accepted-by}
 use Rattle.conduct.proofs.Attempts.{Does, met-tally, attempt-met, attempt-seen, attempt-does}
 use Rattle.conduct.proofs.Prefetches.{prefetch-seen, prefetch-does}

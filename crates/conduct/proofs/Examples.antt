@@ -1,35 +1,24 @@
 -- The theorems are not empty: small devices, computed by hand and here. Assumes nothing.
-use mathlib.Core.Path.{_≡_, refl}
-use mathlib.Core.List.{[], _∷_}
-use Prim.Native.Nat.{ℕ}
+use Rattle.conduct.specs.Names.{_≡_, [], _∷_, ℕ, pick, _and_, physical, wordMatches, wordAddress, slotAt, nextSlot, nextVictim, camAddress}
+use Rattle.conduct.specs.Names.{listed, Pending, Answer, Fault, freshDevice, inRange, acknowledgeAt, flushAt, entryFlushAt, request, write}
+use Rattle.conduct.specs.Names.{answered, Step, step, Access, Words, Lent, Prices, Device}
+use Rattle.conduct.proofs.Names.{refl, take, _or_, wordFlushed, wordFlushedAt, placeIn, wordOf, readIn, walkFrom, bankOk, firstOf, allFrom}
+use Rattle.conduct.proofs.Names.{registersOk, noRegister, whenBit, commandOf, byAccess, byFound, decided, refuses, setBank, lacks, isMalformed}
+use Rattle.conduct.proofs.Names.{isUntimely, writeLacks, requestOf, writeOf}
 use lib.Count.{trailingZeros}
 use lib.Ieee.{ofBits, ofFields, odd, le, lt, eq}
-use lib.ListN.{take}
 use Rattle.page.specs.Low.{upper, joined}
-use Rattle.page.specs.Pick.{pick, _and_, _or_}
-use Rattle.page.specs.Words.{virtual, physical, kindOf, wordMatches, wordAddress, wordDropped, wordFlushed, wordFlushedAt, madeCam, madeRam}
-use Rattle.memory.specs.Memory.{lent, memoryOk, apart, memoriesOk, holds, placeWithin, placeIn}
-use Rattle.wire.specs.Words.{wordOf}
-use Rattle.walk.specs.Walk.{firstAt, readIn, walkFrom}
+use Rattle.page.specs.Words.{virtual, kindOf, wordDropped, madeCam, madeRam}
+use Rattle.memory.specs.Memory.{lent, memoryOk, apart, memoriesOk, liesIn, placeWithin}
+use Rattle.walk.specs.Walk.{firstAt}
 use Rattle.prices.specs.Prices.{f0, figureOk, every}
 use Rattle.bill.specs.Bill.{freshBill, moneyOk}
 use Rattle.prices.specs.declared.Price.{Price}
-use Rattle.bank.specs.Slots.{bankOk, freshBank, slotAt}
-use Rattle.bank.specs.Changes.{nextSlot, nextVictim, storedAt, lockedAt, filled}
-use Rattle.walk.specs.Descriptors.{firstOf}
-use Rattle.lanes.specs.Lanes.{lookedFrom, allFrom, flushedAll, flushedEntry}
-use Rattle.registers.specs.Fields.{entryOk, registersOk, freshRegisters, withControl, withStaged, camAddress}
-use Rattle.registers.specs.Table.{listed, noRegister, whenBit, commandOf}
-use Rattle.registers.specs.declared.Pending.{Pending}
-use Rattle.registers.specs.declared.Answer.{Answer}
-use Rattle.registers.specs.declared.Fault.{Fault}
-use Rattle.decision.specs.Decisions.{byAccess, byFound, decided}
-use Rattle.unit.specs.Refusals.{refuses}
-use Rattle.unit.specs.Device.{freshDevice, inRange, setRegisters, setBank}
-use Rattle.unit.specs.Offsets.{acknowledgeAt, flushAt, entryFlushAt}
-use Rattle.unit.specs.Calls.{lacks, isMalformed, isUntimely, writeLacks, requestOf, writeOf}
-use Rattle.unit.specs.Machine.{request, write, answered, Step, step}
-use Rattle.conduct.specs.Types.{Access, Words, Lent, Prices, Device}
+use Rattle.bank.specs.Slots.{freshBank}
+use Rattle.bank.specs.Changes.{storedAt, lockedAt, filled}
+use Rattle.lanes.specs.Lanes.{lookedFrom, flushedAll, flushedEntry}
+use Rattle.registers.specs.Fields.{entryOk, freshRegisters, withControl, withStaged}
+use Rattle.unit.specs.Device.{setRegisters}
 use Rattle.conduct.specs.Metered.{oneFresh, oneRetry}
 
 abbrev free : Prices
@@ -64,7 +53,9 @@ walk-fills :
     × (asking running 0x012345 Access.Write .said ≡ answered (Answer.Fault Fault.Permission))
     × (slotAt (asking running 0x012345 Access.Write .device .bank) 5 ≡ section)
     × (asking running 0x012345 Access.Write .device .bank .victim ≡ 6)
-unfolding requestOf refuses pick _and_ _or_ inRange registersOk entryOk bankOk allFrom memoriesOk memoryOk apart moneyOk every figureOk le lt eq ofBits ofFields odd trailingZeros lacks decided lookedFrom wordMatches kindOf walkFrom firstAt upper joined readIn placeIn placeWithin holds wordOf firstOf byFound byAccess filled nextSlot nextVictim madeCam madeRam
+unfolding requestOf refuses pick _and_ _or_ inRange registersOk entryOk bankOk allFrom memoriesOk memoryOk apart moneyOk every figureOk le lt eq
+    ofBits ofFields odd trailingZeros lacks decided lookedFrom wordMatches kindOf walkFrom firstAt upper joined readIn placeIn placeWithin liesIn
+    wordOf firstOf byFound byAccess filled nextSlot nextVictim madeCam madeRam
 walk-fills = (refl, refl, refl, refl, refl)
 
 -- one that finds none fills nothing, and one that lacks its word is refused 3
@@ -73,7 +64,9 @@ walk-faults :
     × (asking running 0x112345 Access.Read .tally ≡ oneFresh 1)
     × (asking running 0x112345 Access.Read .device .bank ≡ running .bank)
     × (asking running 0x212345 Access.Read .said ≡ answered (Answer.Refused 3))
-unfolding requestOf refuses pick _and_ _or_ inRange registersOk entryOk bankOk allFrom memoriesOk memoryOk apart moneyOk every figureOk le lt eq ofBits ofFields odd trailingZeros lacks decided lookedFrom wordMatches kindOf walkFrom firstAt upper readIn placeIn placeWithin holds wordOf firstOf byFound
+unfolding requestOf refuses pick _and_ _or_ inRange registersOk entryOk bankOk allFrom memoriesOk memoryOk apart moneyOk every figureOk le lt eq
+    ofBits ofFields odd trailingZeros lacks decided lookedFrom wordMatches kindOf walkFrom firstAt upper readIn placeIn placeWithin liesIn wordOf
+    firstOf byFound
 walk-faults = (refl, refl, refl, refl)
 
 -- on with a slot that the host loaded after the miss: one acknowledgement gives the address
@@ -88,7 +81,9 @@ acknowledged :
     (step twoWords waiting freshBill (write acknowledgeAt 1 free) .said ≡ answered (Answer.Address (physical 0x11212345)))
     × (step twoWords waiting freshBill (write acknowledgeAt 1 free) .tally ≡ oneRetry 0)
     × (step twoWords waiting freshBill (write acknowledgeAt 1 free) .device .pending ≡ Pending.Nothing)
-unfolding writeOf refuses pick _and_ _or_ inRange registersOk entryOk bankOk allFrom memoriesOk memoryOk apart moneyOk every figureOk le lt eq ofBits ofFields odd trailingZeros noRegister isMalformed isUntimely writeLacks lacks commandOf listed decided lookedFrom wordMatches kindOf byAccess wordAddress upper joined
+unfolding writeOf refuses pick _and_ _or_ inRange registersOk entryOk bankOk allFrom memoriesOk memoryOk apart moneyOk every figureOk le lt eq ofBits
+    ofFields odd trailingZeros noRegister isMalformed isUntimely writeLacks lacks commandOf listed decided lookedFrom wordMatches kindOf byAccess
+    wordAddress upper joined
 acknowledged = (refl, refl, refl)
 
 -- slot 0 is valid, slot 1 valid and preserved, and the CAM registers have slot 1's address
@@ -103,5 +98,6 @@ loaded = record {
 flushed :
     (take 2 (step twoWords loaded freshBill (write flushAt 1 free) .device .bank .cam) ≡ 0 ∷ 0x400c ∷ [])
     × (take 2 (step twoWords loaded freshBill (write entryFlushAt 1 free) .device .bank .cam) ≡ 0x4 ∷ 0x4008 ∷ [])
-unfolding writeOf refuses pick _and_ _or_ inRange registersOk entryOk bankOk allFrom noRegister isMalformed isUntimely writeLacks commandOf listed whenBit flushedAll flushedEntry camAddress wordFlushed wordFlushedAt wordDropped wordMatches kindOf
+unfolding writeOf refuses pick _and_ _or_ inRange registersOk entryOk bankOk allFrom noRegister isMalformed isUntimely writeLacks commandOf listed
+    whenBit flushedAll flushedEntry camAddress wordFlushed wordFlushedAt wordDropped wordMatches kindOf
 flushed = (refl, refl)

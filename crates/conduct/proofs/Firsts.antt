@@ -1,14 +1,8 @@
 -- A call with a list of refusals is refused by the first whose condition holds, and goes on where none does. Assumes nothing.
-use mathlib.Core.Path.{_≡_, refl, sym, _∙_, ap, subst}
-use mathlib.Core.Bool.{Bool, true, false, true≢false}
-use mathlib.Core.List.{[], _∷_}
+use Rattle.conduct.specs.Names.{_≡_, Bool, true, false, [], _∷_, ℕ, Refusals, First, Clear, Said}
+use Rattle.conduct.proofs.Names.{refl, sym, _∙_, ap, subst, true≢false, pick-yes, pick-no, clear-goes-on, refuses-by, refuses, saidRefused}
 use mathlib.Core.Logic.{_⊎_, inl, inr}
-use Prim.Native.Nat.{ℕ}
-use Rattle.page.proofs.Picks.{pick-yes, pick-no}
-use Rattle.unit.proofs.Refusing.{clear-goes-on, refuses-by}
-use Rattle.unit.specs.Refusals.{Refusing, Refusals, refuses, First, Clear}
-use Rattle.unit.specs.Machine.{Said}
-use Rattle.conduct.specs.Refused.{saidRefused}
+use Rattle.unit.specs.Refusals.{Refusing}
 
 -- either some condition holds first, or none holds
 pub first-or-clear : {K : Type 0} (rs : Refusing K) → ((k : K) × First rs k) ⊎ Clear rs
@@ -38,7 +32,8 @@ module _ {K A : Type 0} (say : K → A) (else : A) where
 
 module _ {A : Type 0} (say : ℕ → A) (else : A) where
   -- what holds where no condition does holds of a call that is not refused
-  pub accepted-by : (P : A → Type 0) (said : A → Said) (rs : Refusals) → ((k : ℕ) → saidRefused (said (say k)) ≡ true) → (Clear rs → P else) → saidRefused (said (refuses rs say else)) ≡ false → P (refuses rs say else)
+  pub accepted-by : (P : A → Type 0) (said : A → Said) (rs : Refusals) → ((k : ℕ) → saidRefused (said (say k)) ≡ true) → (Clear rs → P else)
+      → saidRefused (said (refuses rs say else)) ≡ false → P (refuses rs say else)
   accepted-by P said rs f g = refuses-by say else (λ (x : A). saidRefused (said x) ≡ false → P x) rs (λ k h. absurd (true≢false (sym (f k) ∙ h))) (λ c _. g c)
 
 -- one law for every list of refusals: where a refusal is told by what it says, and what follows is none, it is answered exactly
@@ -58,7 +53,8 @@ module _ {K A : Type 0} (say : K → A) (else : A) (rs : Refusing K) (no : A →
       subst P (sym (first-refuses say else rs (g .0) (g .1))) (f (g .0))
 
   module _ (says : (k : K) → First rs k → (no (say k) ≡ true) × (key (say k) ≡ k)) where
-    pub exactly-first : (k : K) → ((no (refuses rs say else) ≡ true) × (key (refuses rs say else) ≡ k) → First rs k) × (First rs k → (no (refuses rs say else) ≡ true) × (key (refuses rs say else) ≡ k))
+    pub exactly-first : (k : K)
+        → ((no (refuses rs say else) ≡ true) × (key (refuses rs say else) ≡ k) → First rs k) × (First rs k → (no (refuses rs say else) ≡ true) × (key (refuses rs say else) ≡ k))
     exactly-first k = (only, λ f. there k f)
       where
         there : (j : K) → First rs j → (no (refuses rs say else) ≡ true) × (key (refuses rs say else) ≡ j)

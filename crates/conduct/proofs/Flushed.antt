@@ -1,24 +1,14 @@
 -- Demand 2, the flushes: V is kept exactly where it should be, and nothing else changes. Assumes nothing.
-use mathlib.Core.Path.{_≡_, refl, sym, _∙_, ap, subst}
-use mathlib.Core.Bool.{true, not}
-use Prim.Native.Nat.{ℕ, _/_, _%_}
-use native.Mathlib.Omega.{arith}
-use borrow.Author.Tests.{eq-eqb, ne-eqb}
-use Rattle.page.specs.Pick.{pick, _and_, _or_}
-use Rattle.page.specs.Words.{wordValid, wordMatches, wordFlushed, wordFlushedAt}
-use Rattle.page.proofs.Picks.{pick-yes, pick-no, pick-by, and-yes, and-no}
+use Rattle.conduct.specs.Names.{_≡_, true, not, ℕ, _/_, _%_, pick, _and_, wordValid, wordMatches, camAddress, listed, Clear, inRange}
+use Rattle.conduct.specs.Names.{writeRefusals, flushAt, entryFlushAt, VirtualAddress, Lent, Bill, Prices, Command, Tending, Device, Outcome}
+use Rattle.conduct.proofs.Names.{refl, sym, _∙_, ap, subst, arith, eq-eqb, ne-eqb, _or_, wordFlushed, wordFlushedAt, pick-yes, pick-no}
+use Rattle.conduct.proofs.Names.{pick-by, and-yes, noRegister, whenBit, commandOf, setBank, refusedWith, isMalformed, isUntimely, writeLacks}
+use Rattle.conduct.proofs.Names.{carried, writeOf, clear-goes-on, refuses-by}
+use Rattle.page.proofs.Picks.{and-no}
 use Rattle.page.proofs.Slot.{dropped-off, dropped-rest}
 use Rattle.bank.specs.Changes.{bankFlushed, bankFlushedAt}
 use Rattle.lanes.proofs.Flushes.{flush-word, flush-exact as word-exact, entry-word}
-use Rattle.registers.specs.Fields.{camAddress}
-use Rattle.registers.specs.Table.{listed, noRegister, whenBit, commandOf}
-use Rattle.unit.specs.Refusals.{Clear}
-use Rattle.unit.specs.Device.{inRange, setBank, refusedWith}
-use Rattle.unit.specs.Calls.{isMalformed, isUntimely, writeLacks, writeRefusals, carried, writeOf}
-use Rattle.conduct.specs.Types.{VirtualAddress, Lent, Bill, Prices, Command, Tending, Device, Outcome}
-use Rattle.unit.specs.Offsets.{flushAt, entryFlushAt}
 use Rattle.conduct.specs.Flushed.{flushKeeps, entryFlushKeeps, camAt, ValidWhere, Flushes, FlushExact}
-use Rattle.unit.proofs.Refusing.{clear-goes-on, refuses-by}
 
 -- a flushed word keeps all but V
 abbrev Rest : ℕ → ℕ → Type 0

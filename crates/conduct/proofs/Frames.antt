@@ -1,26 +1,21 @@
 -- A page that a walk over bytes finds starts below 2^32. Assumes nothing.
-use mathlib.Core.Path.{sym, _∙_, subst}
-use mathlib.Core.List.{List}
-use Prim.Native.Nat.{ℕ, _+_, _^_, _<_}
+use Rattle.conduct.specs.Names.{List, ℕ, _+_, _^_, _<_, getD, Lent, Found}
+use Rattle.conduct.proofs.Names.{sym, _∙_, subst, arith, take, pick-by, placeIn, wordOf, firstOf, readIn, walkFrom, BytesFit}
 use native.Mathlib.Nat.{lt-of-le-of-lt}
-use native.Mathlib.Omega.{arith}
-use lib.ListN.{getD, take, drop}
+use lib.ListN.{drop}
 use lib.Seq.{getD-take, getD-drop}
 use Rattle.page.specs.Words.{lowBits}
 use Rattle.page.specs.declared.Kind.{Kind}
-use Rattle.page.proofs.Picks.{pick-by}
 use Rattle.page.proofs.Lower.{upper-le}
-use Rattle.memory.specs.Memory.{placeIn, partAt, fetchedIn}
-use Rattle.wire.specs.Words.{littleEndian, wordOf}
+use Rattle.memory.specs.Memory.{partAt, fetchedIn}
+use Rattle.wire.specs.Words.{littleEndian}
 use Rattle.memory.specs.declared.Place.{Place}
 use Rattle.memory.specs.declared.Source.{Source}
-use Rattle.walk.specs.Descriptors.{firstOf, secondOf}
-use Rattle.walk.specs.Walk.{coarseAt, fineAt, readAt, readIn, sourceAt, afterSecond, byFirst, afterFirst, walkFrom, walkIn}
+use Rattle.walk.specs.Descriptors.{secondOf}
+use Rattle.walk.specs.Walk.{coarseAt, fineAt, readAt, sourceAt, afterSecond, byFirst, afterFirst, walkIn}
 use Rattle.walk.specs.declared.First.{First}
 use Rattle.walk.specs.declared.Table.{Table}
 use Rattle.walk.specs.declared.Read.{Read}
-use Rattle.conduct.specs.Types.{Lent, Found}
-use Rattle.conduct.specs.Refused.{BytesFit}
 
 -- four bytes are a word below 2^32
 little : (a b c d : ℕ) → a < 256 → b < 256 → c < 256 → d < 256 → littleEndian a b c d < 2 ^ 32

@@ -1,28 +1,12 @@
 -- Demand 2: what is pending after each call. Assumes nothing.
-use mathlib.Core.Path.{_≡_, refl, sym, _∙_, ap}
-use mathlib.Core.Bool.{Bool, true, false, true≢false, false≢true}
-use mathlib.Core.List.{List}
-use Prim.Native.Nat.{ℕ, _%_}
-use native.Mathlib.Omega.{arith}
-use lib.Dec.{eqb}
-use borrow.Author.Tests.{eq-eqb, ne-eqb}
-use Rattle.lanes.specs.Lanes.{lookedUp}
-use Rattle.registers.specs.Answers.{isRefusal, isPrefetch}
-use Rattle.registers.specs.Table.{listed, commandOf, valueAt}
-use Rattle.registers.proofs.Offsets.{by-offset}
-use Rattle.decision.specs.Decisions.{settled}
-use Rattle.decision.specs.Prefetches.{pageAt, prefetchFound, prefetchMatched, prefetchDecided}
-use Rattle.page.specs.Pick.{pick}
-use Rattle.page.proofs.Picks.{pick-yes, pick-no}
-use Rattle.unit.specs.Refusals.{Clear}
-use Rattle.unit.specs.Device.{look, cleared, told, toldRefused, doneWith, refusedWith, decidedBy, attemptOf}
-use Rattle.unit.specs.Offsets.{prefetchAt, acknowledgeAt}
-use Rattle.unit.specs.Calls.{requestRefusals, requestOf, writeRefusals, retried, carried, writeOf, readRefusals, readOf, dropRefusals, dropOf}
-use Rattle.unit.specs.Machine.{request, write, read, drop-fault, shift, Said, answered, reported, stepOut}
-use Rattle.unit.proofs.Refusing.{refuses-by}
-use Rattle.conduct.specs.Types.{Access, VirtualAddress, Lent, Reads, Found, Walked, Bill, Prices, Matched, Fault, Pending, Answer, Device, Outcome, Told}
-use Rattle.conduct.specs.Refused.{saidRefused}
-use Rattle.conduct.specs.Asked.{Asked, nothing, attempt, prefetch, asked}
+use Rattle.conduct.specs.Names.{_≡_, Bool, true, false, List, ℕ, _%_, eqb, lookedUp, isRefusal, isPrefetch, listed, pageAt, pick, Clear, look}
+use Rattle.conduct.specs.Names.{cleared, doneWith, prefetchAt, acknowledgeAt, requestRefusals, writeRefusals, readRefusals, dropRefusals}
+use Rattle.conduct.specs.Names.{request, write, read, drop-fault, shift, Said, answered, reported, stepOut, Access, VirtualAddress, Lent, Reads}
+use Rattle.conduct.specs.Names.{Found, Walked, Bill, Prices, Matched, Fault, Pending, Answer, Device, Outcome, Told}
+use Rattle.conduct.proofs.Names.{refl, sym, _∙_, ap, true≢false, false≢true, arith, eq-eqb, ne-eqb, commandOf, valueAt, by-offset, settled}
+use Rattle.conduct.proofs.Names.{prefetchFound, prefetchMatched, prefetchDecided, pick-yes, pick-no, told, toldRefused, refusedWith, decidedBy}
+use Rattle.conduct.proofs.Names.{attemptOf, requestOf, retried, carried, writeOf, readOf, dropOf, refuses-by, saidRefused, Attempted, nothing}
+use Rattle.conduct.proofs.Names.{attempt, prefetch, attempted}
 use Rattle.conduct.specs.Held.{HeldBy, FaultHeld, FaultDropped}
 use Rattle.conduct.proofs.Attempts.{isMet}
 use Rattle.conduct.proofs.Writes.{write-by}
@@ -33,7 +17,7 @@ abbrev saidMet : Said → Bool
 saidMet (answered r) = isMet r
 saidMet (reported s) = false
 
-module _ (q : Asked) (s : Said) (n : saidMet s ≡ false) where
+module _ (q : Attempted) (s : Said) (n : saidMet s ≡ false) where
   unmet : {P : Type 0} (r : Answer) → isMet r ≡ true → s ≡ answered r → P
   unmet r h e = absurd (true≢false (sym h ∙ sym (ap saidMet e) ∙ n))
 
@@ -121,7 +105,7 @@ read-still d =
     (λ o e c. absurd (true≢false (sym e ∙ c .1 .0)))
 
 module _ (d : Device) where
-  abbrev Holds : Asked → Outcome → Type 0
+  abbrev Holds : Attempted → Outcome → Type 0
   Holds q x = HeldBy q (d .pending) (x .device .pending) (answered (x .answer))
 
   abbrev Tells : Told → Type 0
@@ -137,8 +121,8 @@ fault-held m d b (request va a p) =
     (λ k. still (attempt false va a) (answered (Answer.Refused k)) refl (d .pending))
     (λ _. attempt-held va a (d .pending) false (decidedBy (look m d va) d va a .answer))
 fault-held m d b (write o v p) =
-    refuses-by (refusedWith d b) (carried m p b d (commandOf o v)) (Holds d (asked d (write o v p))) (writeRefusals m p b d o v)
-    (λ k. still (asked d (write o v p)) (answered (Answer.Refused k)) refl (d .pending))
+    refuses-by (refusedWith d b) (carried m p b d (commandOf o v)) (Holds d (attempted d (write o v p))) (writeRefusals m p b d o v)
+    (λ k. still (attempted d (write o v p)) (answered (Answer.Refused k)) refl (d .pending))
     (write-by m p b d v (Holds d) (done d _) (done d _)
     (λ va a _. attempt-held va a (d .pending) true (decidedBy (look m d va) d va a .answer))
     (λ _. prefetch-held (pageAt v) (d .pending) _ (fetches (look m d (pageAt v)) (d .bank .cam) (pageAt v)))

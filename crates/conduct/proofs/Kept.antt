@@ -1,27 +1,13 @@
 -- Demand 2: what each call leaves alone. Assumes nothing.
-use mathlib.Core.Path.{_≡_, refl, sym, _∙_, ap}
-use mathlib.Core.Bool.{Bool, true, false, true≢false}
-use mathlib.Core.Logic.{_≢_}
-use Prim.Native.Nat.{ℕ, _+_, _*_, _/_, _%_, _^_, _<_}
-use native.Mathlib.Omega.{arith}
-use lib.Dec.{eqb}
-use borrow.Author.Tests.{eq-eqb, eqb-false}
-use Rattle.page.specs.Pick.{pick, _and_, _or_}
-use Rattle.page.proofs.Picks.{pick-by}
-use Rattle.bank.specs.Changes.{entryFilled}
-use Rattle.bank.proofs.Fills.{fill-lock}
-use Rattle.registers.specs.Table.{listed, controlCommand, lockCommand, loadCommand, whenBit, commandOf, valueAt}
-use Rattle.registers.specs.declared.Answer.{Answer}
-use Rattle.registers.specs.declared.Tending.{Tending}
-use Rattle.registers.proofs.Offsets.{by-offset}
-use Rattle.decision.specs.Prefetches.{pageAt, prefetchDecided}
-use Rattle.unit.specs.Refusals.{Clear}
-use Rattle.unit.specs.Device.{look, cleared, told, toldRefused, refusedWith, decidedBy, attemptOf}
-use Rattle.unit.specs.Offsets.{prefetchAt, controlAt, acknowledgeAt, baseHighAt, baseLowAt, lockAt, loadAt, camHighAt, camLowAt, ramHighAt, ramLowAt, flushAt, entryFlushAt}
-use Rattle.unit.specs.Calls.{mayWalk, requestRefusals, requestOf, writeRefusals, retried, carried, writeOf, readRefusals, readOf, dropRefusals, dropOf}
-use Rattle.unit.specs.Machine.{request, write, read, shift}
-use Rattle.unit.proofs.Refusing.{refuses-by}
-use Rattle.conduct.specs.Types.{Access, VirtualAddress, Lent, Bill, Prices, Bank, Fill, Pending, Command, Device, Outcome, Told}
+use Rattle.conduct.specs.Names.{_≡_, Bool, true, false, _≢_, ℕ, _+_, _*_, _/_, _%_, _^_, _<_, eqb, pick, _and_, listed, Answer, Tending, pageAt}
+use Rattle.conduct.specs.Names.{Clear, look, cleared, prefetchAt, controlAt, acknowledgeAt, baseHighAt, baseLowAt, lockAt, loadAt, camHighAt}
+use Rattle.conduct.specs.Names.{camLowAt, ramHighAt, ramLowAt, flushAt, entryFlushAt, mayWalk, requestRefusals, writeRefusals, readRefusals}
+use Rattle.conduct.specs.Names.{dropRefusals, request, write, read, shift, Access, VirtualAddress, Lent, Bill, Prices, Bank, Fill, Pending}
+use Rattle.conduct.specs.Names.{Command, Device, Outcome, Told}
+use Rattle.conduct.proofs.Names.{refl, sym, _∙_, ap, true≢false, arith, eq-eqb, eqb-false, _or_, pick-by, entryFilled, fill-lock}
+use Rattle.conduct.proofs.Names.{controlCommand, lockCommand, loadCommand, whenBit, commandOf, valueAt, by-offset, prefetchDecided, told}
+use Rattle.conduct.proofs.Names.{toldRefused, refusedWith, decidedBy, attemptOf, requestOf, retried, carried, writeOf, readOf, dropOf}
+use Rattle.conduct.proofs.Names.{refuses-by}
 use Rattle.conduct.specs.Kept.{isReset, WriteKeeps, Frames}
 
 -- no fill moves the lock base

@@ -1,3 +1,4 @@
+pub mod Names
 pub mod Firsts
 pub mod Tests
 pub mod Attempts

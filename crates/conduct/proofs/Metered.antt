@@ -1,24 +1,18 @@
 -- Demand 2, the meters and the bill: each call that is not refused adds what its plain walk reads. Assumes nothing.
-use mathlib.Core.Path.{_≡_, refl, sym, _∙_, ap, ap₂, subst}
-use mathlib.Core.List.{[], _∷_}
-use mathlib.Core.Bool.{Bool, true, false}
-use Prim.Native.Nat.{ℕ, _+_}
-use native.Mathlib.Omega.{arith}
-use borrow.Author.Tests.{not-false}
-use Rattle.page.proofs.Picks.{pick-by, and-left, or-yes, or-no}
-use Rattle.meters.specs.Posted.{noTally, stopped, posted, Within}
+use Rattle.conduct.specs.Names.{_≡_, [], _∷_, Bool, true, false, ℕ, _+_, noTally, posted, BelowStop, readsPosted, Good, pageAt, mayWalk, Call}
+use Rattle.conduct.specs.Names.{request, write, read, drop-fault, shift, step, Bench, run, Lent, Tally, Device, Bill, Prices, Outcome}
+use Rattle.conduct.proofs.Names.{refl, sym, _∙_, ap, ap₂, subst, arith, not-false, pick-by, and-left, or-yes, or-no, Accepted, saidRefused}
+use Rattle.conduct.proofs.Names.{Unchanged, Attempted, nothing, attempt, prefetch, retryAttempted, writeAttempted, attempted, readsFor}
+use Rattle.conduct.proofs.Names.{tallyAsked, seenFor}
+use Rattle.conduct.proofs.Names.{billAsked}
+use Rattle.meters.specs.Posted.{stopped}
 use Rattle.meters.specs.declared.Meters.{Meters}
 use Rattle.meters.proofs.Posting.{posted-zero, posted-within}
 use Rattle.prices.specs.Prices.{pricesOk}
-use Rattle.bill.specs.Bill.{readsPosted, Good}
 use Rattle.bill.proofs.Stays.{stays-reads, stays-seen, money-prices}
-use Rattle.decision.specs.Prefetches.{pageAt}
-use Rattle.unit.specs.Calls.{mayWalk}
-use Rattle.unit.specs.Machine.{Call, request, write, read, drop-fault, shift, step, Bench, benchAfter, run}
-use Rattle.conduct.specs.Types.{Lent, Tally, Device, Bill, Prices, Outcome}
-use Rattle.conduct.specs.Refused.{Accepted, saidRefused, Unchanged, BenchStays, GoodKept}
-use Rattle.conduct.specs.Asked.{Asked, nothing, attempt, prefetch, retryAsked, writeAsked, asked, readsFor}
-use Rattle.conduct.specs.Metered.{tallyAsked, seenFor, billAsked, billOf, Metered, Billed, added, tallied, PostedMeters}
+use Rattle.unit.specs.Machine.{benchAfter}
+use Rattle.conduct.specs.Refused.{BenchStays, GoodKept}
+use Rattle.conduct.specs.Metered.{billOf, Metered, WordsBilled, added, tallied, PostedMeters}
 use Rattle.conduct.proofs.Tests.{rest}
 use Rattle.conduct.proofs.Writes.{write-by}
 use Rattle.conduct.proofs.Calls.{attempt-tally, attempt-bill, prefetch-tally, prefetch-bill, accepted-request, accepted-write}
@@ -29,25 +23,25 @@ metered m d b (request va a p) =
     accepted-request m p b d (λ (x : Outcome). x .tally ≡ tallyAsked m d (attempt false va a)) va a
     (λ c. attempt-tally m p b d false va a (c .1 .1 .1 .1 .1 .0))
 metered m d b (write o v p) =
-    accepted-write m p b d (λ (x : Outcome). x .tally ≡ tallyAsked m d (asked d (write o v p))) o v
-    (write-by m p b d v (λ (q : Asked) (x : Outcome). x .tally ≡ tallyAsked m d q) refl refl (attempt-tally m p b d true) (prefetch-tally m p b d v) o (λ _ _. refl))
+    accepted-write m p b d (λ (x : Outcome). x .tally ≡ tallyAsked m d (attempted d (write o v p))) o v
+    (write-by m p b d v (λ (q : Attempted) (x : Outcome). x .tally ≡ tallyAsked m d q) refl refl (attempt-tally m p b d true) (prefetch-tally m p b d v) o (λ _ _. refl))
 metered m d b (read o) = λ _. refl
 metered m d b drop-fault = λ _. refl
 metered m d b (shift va) = λ _. refl
 
-pub billed : Billed
+pub billed : WordsBilled
 billed m d b (request va a p) =
     accepted-request m p b d (λ (x : Outcome). x .bill ≡ billAsked m d p b (attempt false va a)) va a
     (λ c. attempt-bill m p b d false va a (c .1 .1 .1 .1 .1 .0))
 billed m d b (write o v p) =
-    accepted-write m p b d (λ (x : Outcome). x .bill ≡ billAsked m d p b (asked d (write o v p))) o v
-    (write-by m p b d v (λ (q : Asked) (x : Outcome). x .bill ≡ billAsked m d p b q) refl refl (attempt-bill m p b d true) (prefetch-bill m p b d v) o (λ _ _. refl))
+    accepted-write m p b d (λ (x : Outcome). x .bill ≡ billAsked m d p b (attempted d (write o v p))) o v
+    (write-by m p b d v (λ (q : Attempted) (x : Outcome). x .bill ≡ billAsked m d p b q) refl refl (attempt-bill m p b d true) (prefetch-bill m p b d v) o (λ _ _. refl))
 billed m d b (read o) = λ _. refl
 billed m d b drop-fault = λ _. refl
 billed m d b (shift va) = λ _. refl
 
 -- a refused call leaves the whole bench as it is
-module _ (m : Lent) (s : Bench) (c : Call) (w : Within (s .meters)) where
+module _ (m : Lent) (s : Bench) (c : Call) (w : BelowStop (s .meters)) where
   stay : step m (s .device) (s .bill) c .tally ≡ noTally → run m s (c ∷ []) .meters ≡ s .meters
   stay e = ap (posted (s .meters)) e ∙ posted-zero (s .meters) w
 
@@ -77,18 +71,18 @@ posted-meters m s (c ∷ cs) w =
 
 -- a good bill stays good
 module _ (m : Lent) (d : Device) (p : Prices) (b : Bill) (g : Good b) where
-  asked-good : (q : Asked) → pricesOk p ≡ true → Good (billAsked m d p b q)
+  asked-good : (q : Attempted) → pricesOk p ≡ true → Good (billAsked m d p b q)
   asked-good nothing h = g
   asked-good (attempt again va a) h = stays-seen (readsPosted p b (readsFor m d va)) (seenFor d va) (stays-reads p b (readsFor m d va) g h)
   asked-good (prefetch va) h = stays-reads p b (readsFor m d va) g h
 
   -- a write that asks for something is of a register with prices
-  write-good : (o v : ℕ) → (mayWalk o ≡ true → pricesOk p ≡ true) → Good (billAsked m d p b (writeAsked (d .pending) o v))
-  unfolding writeAsked
+  write-good : (o v : ℕ) → (mayWalk o ≡ true → pricesOk p ≡ true) → Good (billAsked m d p b (writeAttempted (d .pending) o v))
+  unfolding writeAttempted
   write-good o v h =
-      pick-by (λ (q : Asked). Good (billAsked m d p b q)) _ _ _ (λ e. asked-good (prefetch (pageAt v)) (h (or-yes _ _ e)))
-      (λ e. pick-by (λ (q : Asked). Good (billAsked m d p b q)) _ _ _
-      (λ f. asked-good (retryAsked (d .pending)) (h (or-no _ _ e ∙ or-yes _ _ (and-left _ _ f)))) (λ _. g))
+      pick-by (λ (q : Attempted). Good (billAsked m d p b q)) _ _ _ (λ e. asked-good (prefetch (pageAt v)) (h (or-yes _ _ e)))
+      (λ e. pick-by (λ (q : Attempted). Good (billAsked m d p b q)) _ _ _
+      (λ f. asked-good (retryAttempted (d .pending)) (h (or-no _ _ e ∙ or-yes _ _ (and-left _ _ f)))) (λ _. g))
 
 bill-good : (m : Lent) (d : Device) (b : Bill) (c : Call) → Good b → Accepted m d b c → Good (billOf m d b c)
 bill-good m d b (request va a p) g h =

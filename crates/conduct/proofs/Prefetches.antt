@@ -1,19 +1,8 @@
 -- What a prefetch comes to, by the plain walk of its address. Assumes nothing.
-use mathlib.Core.Path.{_≡_, refl, _∙_, ap}
-use mathlib.Core.Bool.{Bool, true, false, true≢false, false≢true}
-use Rattle.page.specs.Pick.{_and_}
-use Rattle.page.proofs.Picks.{and-left, and-right}
-use Rattle.walk.specs.Distances.{isMissing}
-use Rattle.bill.specs.declared.Seen.{Seen}
-use Rattle.lanes.specs.Lanes.{lookedUp}
-use Rattle.registers.specs.Answers.{isRefusal}
-use Rattle.registers.specs.Fields.{isOn, isWalking}
-use Rattle.decision.specs.Prefetches.{prefetchFound, prefetchMatched, prefetchDecided}
-use Rattle.unit.specs.Device.{look}
-use Rattle.unit.specs.Calls.{noMatch}
-use Rattle.conduct.specs.Types.{VirtualAddress, Lent, Reads, Found, Walked, Matched, Decision, Device}
-use Rattle.conduct.specs.Asked.{walksFor}
-use Rattle.conduct.specs.Filled.{pageFill}
+use Rattle.conduct.specs.Names.{_≡_, Bool, true, false, _and_, Seen, lookedUp, isRefusal, isOn, isWalking, look, noMatch, VirtualAddress, Lent}
+use Rattle.conduct.specs.Names.{Reads, Found, Walked, Matched, Decision, Device}
+use Rattle.conduct.proofs.Names.{refl, _∙_, ap, true≢false, false≢true, and-left, and-right, isMissing, prefetchFound, prefetchMatched}
+use Rattle.conduct.proofs.Names.{prefetchDecided, walksFor, pageFill}
 use Rattle.conduct.proofs.Tests.{rest, front}
 use Rattle.conduct.proofs.Attempts.{Still, Does, does-still, does-walk}
 

@@ -1,28 +1,18 @@
 -- Demand 1: from a device in range every call hands back one in range. Assumes nothing.
-use mathlib.Core.Path.{_≡_, refl, _∙_}
-use mathlib.Core.Bool.{Bool, true, false}
-use mathlib.Core.List.{List}
-use Prim.Native.Nat.{ℕ, _%_, _^_, _<_}
-use native.Mathlib.Omega.{arith}
-use borrow.Author.Tests.{lt-ltb, ltb-true, leb-false}
-use Rattle.page.specs.Pick.{_and_}
-use Rattle.page.proofs.Picks.{pick-by, and-yes, and-left, and-right}
-use Rattle.lanes.specs.Lanes.{allFrom, lookedUp}
-use Rattle.bank.specs.Slots.{bankOk}
+use Rattle.conduct.specs.Names.{_≡_, Bool, true, false, List, ℕ, _%_, _^_, _<_, _and_, lookedUp, limit, pageAt, freshDevice, inRange, cleared}
+use Rattle.conduct.specs.Names.{look, requestRefusals, writeRefusals, readRefusals, dropRefusals, request, write, read, drop-fault, shift}
+use Rattle.conduct.specs.Names.{Access, VirtualAddress, Lent, Reads, Found, Walked, Bill, Prices, Matched, Fault, Pending, Answer, Decision}
+use Rattle.conduct.specs.Names.{Command, Device, Outcome, Told}
+use Rattle.conduct.proofs.Names.{refl, _∙_, arith, lt-ltb, leb-false, pick-by, and-yes, and-left, and-right, allFrom, bankOk, registersOk}
+use Rattle.conduct.proofs.Names.{pendingOk, commandOf, valueAt, registers-in-range, byFound, byMatched, decided, settled, prefetchFound}
+use Rattle.conduct.proofs.Names.{prefetchMatched, prefetchDecided, prefetchKept, told, toldRefused, refusedWith, decidedBy, attemptOf}
+use Rattle.conduct.proofs.Names.{requestOf, prefetched, retried, carried, writeOf, readOf, dropOf, BytesFit, refuses-by}
+use borrow.Author.Tests.{ltb-true}
 use Rattle.lanes.proofs.Ranges.{madeCam-ok, madeRam-ok}
 use Rattle.bank.proofs.Ranges.{fillOk, entry-ok}
-use Rattle.page.specs.Words.{limit}
-use Rattle.registers.specs.Fields.{registersOk, pendingOk}
-use Rattle.registers.specs.Table.{commandOf, valueAt}
-use Rattle.registers.proofs.Ranges.{registers-in-range, fresh-ok, withPrefetch-ok, set-ok, load-ok, copy-ok, tended-ok, CommandOk, command-ok}
-use Rattle.decision.specs.Decisions.{byFound, byMatched, decided, settled}
-use Rattle.decision.specs.Prefetches.{pageAt, prefetchFound, prefetchMatched, prefetchDecided, prefetchKept}
-use Rattle.unit.specs.Device.{freshDevice, inRange, cleared, told, toldRefused, refusedWith, look, applied, decidedBy, attemptOf}
-use Rattle.unit.specs.Calls.{requestRefusals, requestOf, writeRefusals, prefetched, retried, carried, writeOf, readRefusals, readOf, dropRefusals, dropOf}
-use Rattle.unit.specs.Machine.{request, write, read, drop-fault, shift}
-use Rattle.conduct.specs.Types.{Access, VirtualAddress, Lent, Reads, Found, Walked, Bill, Prices, Matched, Fault, Pending, Answer, Decision, Command, Device, Outcome, Told}
-use Rattle.conduct.specs.Refused.{BytesFit, RangeKept}
-use Rattle.unit.proofs.Refusing.{refuses-by}
+use Rattle.registers.proofs.Ranges.{fresh-ok, withPrefetch-ok, set-ok, load-ok, copy-ok, tended-ok, CommandOk, command-ok}
+use Rattle.unit.specs.Device.{applied}
+use Rattle.conduct.specs.Refused.{RangeKept}
 use Rattle.conduct.proofs.Frames.{FrameFits, walk-fits}
 
 -- a device in range, by its parts

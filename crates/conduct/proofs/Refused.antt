@@ -1,23 +1,13 @@
 -- Demand 1 for every call: refused exactly when the paper says, and then nothing changes. Assumes nothing.
-use mathlib.Core.Path.{_≡_, refl, sym, _∙_}
-use mathlib.Core.Bool.{true, false, true≢false}
-use Prim.Native.Nat.{ℕ}
-use borrow.Author.Tests.{not-false}
-use Rattle.meters.specs.Posted.{noTally}
-use Rattle.page.specs.Pick.{pick}
-use Rattle.walk.specs.Distances.{isMissing}
-use Rattle.registers.specs.Answers.{isRefusal}
-use Rattle.registers.specs.Table.{listed, commandOf, valueAt}
-use Rattle.registers.proofs.Offsets.{by-offset}
-use Rattle.registers.specs.declared.Answer.{Answer}
-use Rattle.decision.specs.Prefetches.{pageAt, shiftBy}
-use Rattle.unit.specs.Refusals.{Refusals, refuses, First, Clear}
-use Rattle.unit.specs.Device.{inRange, look, cleared, told, toldRefused, refusedWith, decidedBy, attemptOf}
-use Rattle.unit.specs.Calls.{lacks, requestRefusals, requestOf, writeRefusals, carried, writeOf, readRefusals, readOf, dropRefusals, dropOf, shiftRefusals, shiftOf}
-use Rattle.unit.specs.Machine.{Call, request, write, read, drop-fault, shift, reported, saidNumber, Step, stepOut, stepTold, step}
-use Rattle.conduct.specs.Types.{Access, VirtualAddress, Lent, Found, Bill, Prices, Shift, Device, Outcome}
-use Rattle.conduct.specs.Refused.{refusalsOf, shiftRefused, saidRefused, RefusedWith, Accepted, Unchanged, ExactlyWhen, AcceptedWhen, NothingChanges}
-use Rattle.conduct.specs.Asked.{Asked}
+use Rattle.conduct.specs.Names.{_≡_, true, false, ℕ, noTally, pick, isRefusal, listed, Answer, pageAt, Refusals, First, Clear, inRange, look}
+use Rattle.conduct.specs.Names.{cleared, requestRefusals, writeRefusals, readRefusals, dropRefusals, shiftRefusals, Call, request, write, read}
+use Rattle.conduct.specs.Names.{drop-fault, shift, reported, saidNumber, Step, stepOut, step, Access, VirtualAddress, Lent, Found, Bill, Prices}
+use Rattle.conduct.specs.Names.{Shift, Device, Outcome}
+use Rattle.conduct.proofs.Names.{refl, sym, _∙_, true≢false, not-false, isMissing, commandOf, valueAt, by-offset, shiftBy, refuses, told}
+use Rattle.conduct.proofs.Names.{toldRefused, refusedWith, decidedBy, attemptOf, lacks, requestOf, carried, writeOf, readOf, dropOf, shiftOf}
+use Rattle.conduct.proofs.Names.{saidRefused, Accepted, Unchanged, Attempted}
+use Rattle.unit.specs.Machine.{stepTold}
+use Rattle.conduct.specs.Refused.{refusalsOf, shiftRefused, RefusedWith, ExactlyWhen, AcceptedWhen, NothingChanges}
 use Rattle.conduct.proofs.Firsts.{exactly-first, accepted-clear, refused-by}
 use Rattle.conduct.proofs.Attempts.{attempt-met, met-no-refusal}
 use Rattle.conduct.proofs.Prefetches.{prefetch-answers}
@@ -29,7 +19,7 @@ attempt-answers m d va a h = met-no-refusal (decidedBy (look m d va) d va a .ans
 
 write-answers : (m : Lent) (p : Prices) (b : Bill) (d : Device) (v o : ℕ) → Clear (writeRefusals m p b d o v) → isRefusal (carried m p b d (commandOf o v) .answer) ≡ false
 write-answers m p b d v o =
-    write-by m p b d v (λ (q : Asked) (x : Outcome). isRefusal (x .answer) ≡ false)
+    write-by m p b d v (λ (q : Attempted) (x : Outcome). isRefusal (x .answer) ≡ false)
     refl refl (attempt-answers m d)
     (λ c. prefetch-answers m d (pageAt v) (prefetch-there m p b d v c))
     o (λ _ _. refl)

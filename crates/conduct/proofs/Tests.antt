@@ -1,10 +1,6 @@
 -- What a test says of its parts. Assumes nothing.
-use mathlib.Core.Path.{_≡_, refl, sym, _∙_}
-use mathlib.Core.Bool.{Bool, true, false, true≢false}
-use Prim.Native.Nat.{ℕ, _<_}
-use native.Mathlib.Omega.{arith}
-use Rattle.page.specs.Pick.{pick, _and_, _or_}
-use Rattle.page.proofs.Picks.{and-yes}
+use Rattle.conduct.specs.Names.{_≡_, Bool, true, false, ℕ, _<_, pick, _and_}
+use Rattle.conduct.proofs.Names.{refl, sym, _∙_, true≢false, arith, _or_, and-yes}
 
 -- a test that failed for its second part, or for its first
 pub rest : (t x : Bool) → t ≡ true → (t and x) ≡ false → x ≡ false

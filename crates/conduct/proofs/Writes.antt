@@ -1,42 +1,29 @@
 -- What a write does past its refusals, by its offset: it is never refused there. Assumes nothing.
-use mathlib.Core.Path.{_≡_, refl, sym, _∙_, ap, subst}
-use mathlib.Core.Bool.{true, false, not, true≢false}
-use Prim.Native.Nat.{ℕ, _/_, _%_}
-use native.Mathlib.Omega.{arith}
-use lib.Dec.{eqb, leb}
-use borrow.Author.Tests.{eqb-false, leb-false, lt-ltb, not-false}
-use Rattle.page.specs.Pick.{pick, _and_, _or_}
-use Rattle.page.proofs.Picks.{pick-yes, pick-by, and-yes, and-left, and-right}
-use Rattle.walk.specs.Distances.{isMissing}
-use Rattle.lanes.specs.Lanes.{slots, lookedUp}
-use Rattle.registers.specs.Answers.{isPrefetch}
-use Rattle.registers.specs.Fields.{isOn, isWalking}
-use Rattle.registers.specs.Table.{listed, controlCommand, lockCommand, loadCommand, whenBit, commandOf}
-use Rattle.registers.proofs.Offsets.{by-offset}
-use Rattle.decision.specs.Prefetches.{pageAt}
-use Rattle.unit.specs.Refusals.{Clear}
-use Rattle.unit.specs.Device.{look, cleared, doneWith, attemptOf}
-use Rattle.unit.specs.Offsets.{prefetchAt, acknowledgeAt, lockAt, loadAt}
-use Rattle.unit.specs.Calls.{noMatch, lacks, isReadOnly, mayWalk, retryLacks, writeLacks, isMalformed, isUntimely, writeRefusals, prefetched, heldRetried, retried, carried}
-use Rattle.conduct.specs.Types.{Access, VirtualAddress, Lent, Bill, Prices, Fault, Pending, Command, Device, Outcome, Tending}
-use Rattle.conduct.specs.Asked.{Asked, nothing, attempt, prefetch, retryAsked, writeAsked}
+use Rattle.conduct.specs.Names.{_≡_, true, false, not, ℕ, _/_, _%_, eqb, pick, _and_, slots, lookedUp, isPrefetch, isOn, isWalking, listed}
+use Rattle.conduct.specs.Names.{pageAt, Clear, look, cleared, doneWith, prefetchAt, acknowledgeAt, lockAt, loadAt, noMatch, mayWalk}
+use Rattle.conduct.specs.Names.{writeRefusals, Access, VirtualAddress, Lent, Bill, Prices, Fault, Pending, Command, Device, Outcome, Tending}
+use Rattle.conduct.proofs.Names.{refl, sym, _∙_, ap, subst, true≢false, arith, leb, eqb-false, leb-false, lt-ltb, not-false, _or_, pick-yes}
+use Rattle.conduct.proofs.Names.{pick-by, and-yes, and-left, and-right, isMissing, controlCommand, lockCommand, loadCommand, whenBit}
+use Rattle.conduct.proofs.Names.{commandOf, by-offset, attemptOf, lacks, writeLacks, isMalformed, isUntimely, prefetched, retried, carried}
+use Rattle.conduct.proofs.Names.{Attempted, nothing, attempt, prefetch, retryAttempted, writeAttempted}
+use Rattle.unit.specs.Calls.{isReadOnly, retryLacks, heldRetried}
 use Rattle.conduct.proofs.Tests.{rest, either-left, either-right, pick-both, four}
 
-module _ (m : Lent) (p : Prices) (b : Bill) (d : Device) (v : ℕ) (P : Asked → Outcome → Type 0) where
+module _ (m : Lent) (p : Prices) (b : Bill) (d : Device) (v : ℕ) (P : Attempted → Outcome → Type 0) where
   -- what a write of acknowledge does: nothing, a drop, or a retry
   module _
       (stays : P nothing (doneWith b d))
       (drops : P nothing (doneWith b (cleared d)))
       (retries : (va : VirtualAddress) (a : Access) → lacks m d va ≡ false → P (attempt true va a) (attemptOf m p b true d va a)) where
-    held-by : (k : Fault) (va : VirtualAddress) (a : Access) → retryLacks m d (Pending.Held k va a) ≡ false → P (retryAsked (Pending.Held k va a)) (heldRetried m p b d k va a)
+    held-by : (k : Fault) (va : VirtualAddress) (a : Access) → retryLacks m d (Pending.Held k va a) ≡ false → P (retryAttempted (Pending.Held k va a)) (heldRetried m p b d k va a)
     held-by k va a h = pick-both P _ _ _ _ _ (λ _. drops) (λ e. retries va a (rest (not (isPrefetch k)) _ (ap not e) h))
 
-    retry-by : (q : Pending) → retryLacks m d q ≡ false → P (retryAsked q) (retried m p b d q)
+    retry-by : (q : Pending) → retryLacks m d q ≡ false → P (retryAttempted q) (retried m p b d q)
     retry-by Pending.Nothing h = stays
     retry-by (Pending.Held k va a) h = held-by k va a h
 
-    acknowledge-by : writeLacks m d acknowledgeAt v ≡ false → P (writeAsked (d .pending) acknowledgeAt v) (carried m p b d (Command.Acknowledge (eqb (v % 2) 1)))
-    unfolding writeAsked writeLacks pick _and_ _or_
+    acknowledge-by : writeLacks m d acknowledgeAt v ≡ false → P (writeAttempted (d .pending) acknowledgeAt v) (carried m p b d (Command.Acknowledge (eqb (v % 2) 1)))
+    unfolding writeAttempted writeLacks pick _and_ _or_
     acknowledge-by h = pick-both P (eqb (v % 2) 1) _ _ _ _ (λ e. retry-by (d .pending) (rest _ _ e h)) (λ _. stays)
 
   -- what a write of another register does: it leaves some device, and neither reads nor meters
@@ -72,7 +59,7 @@ module _ (m : Lent) (p : Prices) (b : Bill) (d : Device) (v : ℕ) (P : Asked �
   Sets o = mayWalk o ≡ false → (d′ : Device) → P nothing (doneWith b d′)
 
   abbrev Goes : ℕ → Type 0
-  Goes o = Clear (writeRefusals m p b d o v) → P (writeAsked (d .pending) o v) (carried m p b d (commandOf o v))
+  Goes o = Clear (writeRefusals m p b d o v) → P (writeAttempted (d .pending) o v) (carried m p b d (commandOf o v))
 
   read-only : (o : ℕ) → isReadOnly o ≡ true → Goes o
   read-only o e c = absurd (true≢false (sym e ∙ c .1 .1 .0))
@@ -84,7 +71,7 @@ module _ (m : Lent) (p : Prices) (b : Bill) (d : Device) (v : ℕ) (P : Asked �
       → ((va : VirtualAddress) (a : Access) → lacks m d va ≡ false → P (attempt true va a) (attemptOf m p b true d va a))
       → (Clear (writeRefusals m p b d prefetchAt v) → P (prefetch (pageAt v)) (prefetched m p b d v))
       → (o : ℕ) → Sets o → Goes o
-  unfolding commandOf listed writeAsked pick _and_ _or_
+  unfolding commandOf listed writeAttempted pick _and_ _or_
   write-by stays drops retries fetches =
       by-offset (λ (o : ℕ). Sets o → Goes o)
       (λ s c. fetches c)

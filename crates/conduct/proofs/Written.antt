@@ -1,33 +1,16 @@
 -- Demand 2: what is written is read back; reset, load and copy. Assumes nothing.
-use mathlib.Core.Path.{_≡_, refl, sym, _∙_, ap, subst}
-use mathlib.Core.Bool.{true, false, not, true≢false}
-use mathlib.Core.Logic.{_≢_}
-use Prim.Native.Nat.{ℕ, _+_, _*_, _/_, _%_, _^_, _<_}
-use native.Mathlib.Omega.{arith}
-use lib.Dec.{eqb, leb}
-use borrow.Author.Tests.{eq-eqb, ne-eqb, lt-ltb, leb-false, not-false}
-use Rattle.page.specs.Pick.{pick, _and_, _or_}
-use Rattle.page.proofs.Picks.{pick-yes, pick-no, and-yes, and-left, and-right}
-use Rattle.lanes.specs.Lanes.{slots}
-use Rattle.bank.specs.Slots.{slotAt}
+use Rattle.conduct.specs.Names.{_≡_, true, false, not, _≢_, ℕ, _+_, _*_, _/_, _%_, _^_, _<_, eqb, pick, _and_, slots, slotAt, isRefusal}
+use Rattle.conduct.specs.Names.{wordsOf, entryOf, listed, Setting, pageAt, Clear, look, inRange, freshDevice, controlAt, acknowledgeAt, lockAt}
+use Rattle.conduct.specs.Names.{loadAt, writeRefusals, readRefusals, write, answered, stepOut, step, Lent, Bill, Prices, Answer, Command}
+use Rattle.conduct.specs.Names.{Device, Outcome, Told}
+use Rattle.conduct.proofs.Names.{refl, sym, _∙_, ap, subst, true≢false, arith, leb, eq-eqb, ne-eqb, lt-ltb, leb-false, not-false, _or_}
+use Rattle.conduct.proofs.Names.{pick-yes, pick-no, and-yes, and-left, and-right, in-range, registersOk, pendingOk, noRegister, controlCommand}
+use Rattle.conduct.proofs.Names.{lockCommand, loadCommand, commandOf, valueAt, by-offset, registers-in-range, prefetchDecided, prefetchKept}
+use Rattle.conduct.proofs.Names.{told, toldRefused, refusedWith, isMalformed, isUntimely, writeLacks, carried, writeOf, readOf, clear-goes-on}
+use Rattle.conduct.proofs.Names.{refuses-by, Accepted, LanesFit}
 use Rattle.bank.proofs.Fills.{stored-keeps, stored-has}
-use Rattle.bank.proofs.Ranges.{in-range}
-use Rattle.registers.specs.Answers.{isRefusal}
-use Rattle.registers.specs.Fields.{registersOk, pendingOk, wordsOf, entryOf}
-use Rattle.registers.specs.Table.{listed, noRegister, controlCommand, lockCommand, loadCommand, commandOf, valueAt}
-use Rattle.registers.specs.declared.Setting.{Setting}
-use Rattle.registers.proofs.Offsets.{by-offset}
-use Rattle.registers.proofs.Ranges.{registers-in-range, entry-words}
-use Rattle.decision.specs.Prefetches.{pageAt, prefetchDecided, prefetchKept}
-use Rattle.unit.specs.Refusals.{Clear}
-use Rattle.unit.specs.Device.{look, inRange, freshDevice, told, toldRefused, refusedWith}
-use Rattle.unit.specs.Offsets.{controlAt, acknowledgeAt, lockAt, loadAt}
-use Rattle.unit.specs.Calls.{isMalformed, isUntimely, writeLacks, writeRefusals, carried, writeOf, withLoaded, withCopy, readRefusals, readOf}
-use Rattle.unit.specs.Machine.{write, answered, stepOut, step}
-use Rattle.unit.proofs.Refusing.{clear-goes-on, refuses-by}
-use Rattle.conduct.specs.Types.{Lent, Bill, Prices, Answer, Command, Device, Outcome, Told}
-use Rattle.conduct.specs.Refused.{Accepted}
-use Rattle.conduct.specs.Filled.{LanesFit}
+use Rattle.registers.proofs.Ranges.{entry-words}
+use Rattle.unit.specs.Calls.{withLoaded, withCopy}
 use Rattle.conduct.specs.Written.{keptBits, ReadBack, shownOf, ReadShown, Resets, ResetFresh, Loads, Copies, LoadCopied, LoadThenCopy}
 use Rattle.conduct.proofs.Tests.{either-left, either-right, pick-both}
 use Rattle.conduct.proofs.Writes.{prefetch-there}
@@ -88,7 +71,8 @@ module _ (m : Lent) (p : Prices) (b : Bill) (d : Device) (v : ℕ) where
   unfolding commandOf keptBits valueAt listed pick _or_
   shows fit =
       by-offset Shows
-      (λ c _. ap Answer.Value (kept-is (v % 2 ^ 14) (d .registers .prefetch) (prefetchDecided (look m d (pageAt v)) (d .bank .cam) (pageAt v) .answer) (prefetch-answers m d (pageAt v) (prefetch-there m p b d v c))))
+      (λ c _. ap Answer.Value (kept-is (v % 2 ^ 14) (d .registers .prefetch) (prefetchDecided (look m d (pageAt v)) (d .bank .cam) (pageAt v) .answer)
+      (prefetch-answers m d (pageAt v) (prefetch-there m p b d v c))))
       (λ c. absurd (true≢false (c .1 .1 .0)))
       (λ c _. control-shows)
       (λ c. absurd (true≢false (c .1 .1 .0)))

@@ -1,22 +1,12 @@
 -- Demand 2, what a request, a retry, a prefetch and a shift report answer (01, "The unit", "The walk", "Registers", "Meters and the walk
 -- bill").
-use Rattle.page.specs.Ground.{ℕ, _%_, _<_, _≡_, Bool, true, false, List, [], _∷_, getD}
-use Rattle.page.specs.Words.{limit, physical, permits, wordAccess, wordMatches, wordAddress}
-use mathlib.Core.Logic.{_≢_}
-use lib.IntN.{ℤ}
-use Rattle.walk.specs.Descriptors.{physicalOf, distanceOf, foundNumber}
-use Rattle.lanes.specs.Lanes.{slots}
-use Rattle.registers.specs.Answers.{isPrefetch}
-use Rattle.registers.specs.Fields.{isOn, isWalking}
-use Rattle.registers.specs.declared.Pending.{Pending}
-use Rattle.registers.specs.declared.Answer.{Answer}
-use Rattle.decision.specs.Prefetches.{pageAt, shiftNumber, shiftValues}
-use Rattle.unit.specs.Offsets.{prefetchAt, acknowledgeAt}
-use Rattle.unit.specs.Device.{inRange, look}
-use Rattle.unit.specs.Machine.{Call, write, drop-fault, shift, Said, answered, reported, step}
-use Rattle.conduct.specs.Types.{Access, VirtualAddress, Lent, lentOk, Page, Found, Bill, Prices, Fault, Shift, Device}
+use Rattle.conduct.specs.Names.{ℕ, _%_, _<_, _≡_, Bool, true, false, List, [], _∷_, getD, limit, physical, permits, wordAccess, wordMatches}
+use Rattle.conduct.specs.Names.{wordAddress, _≢_, ℤ, physicalOf, distanceOf, foundNumber, slots, isPrefetch, isOn, isWalking, Pending, Answer}
+use Rattle.conduct.specs.Names.{pageAt, shiftNumber, shiftValues, prefetchAt, acknowledgeAt, inRange, look, Call, write, drop-fault, shift}
+use Rattle.conduct.specs.Names.{Said, answered, reported, step, Access, VirtualAddress, Lent, lentOk, Page, Found, Bill, Prices, Fault, Shift}
+use Rattle.conduct.specs.Names.{Device}
 use Rattle.conduct.specs.Refused.{Accepted}
-use Rattle.conduct.specs.Asked.{nothing, attempt, asked}
+use Rattle.conduct.specs.Asked.{nothing, attempt, attempted}
 
 -- slot i matches an address, and no lower slot does
 pub record LowestMatch (d : Device) (va : VirtualAddress) (i : ℕ) : Type 0 where
@@ -40,7 +30,7 @@ OneAcknowledgement =
 abbrev pub OffIsVirtual : Type 0
 OffIsVirtual =
     (m : Lent) (d : Device) (b : Bill) (c : Call) (again : Bool) (va : VirtualAddress) (a : Access)
-    → isOn (d .registers .control) ≡ false → asked d c ≡ attempt again va a → Accepted m d b c
+    → isOn (d .registers .control) ≡ false → attempted d c ≡ attempt again va a → Accepted m d b c
     → (step m d b c .said ≡ answered (Answer.Address (physical (va .0)))) × (step m d b c .tally .words ≡ 0) × (step m d b c .bill ≡ b)
     × (step m d b c .device .pending ≡ Pending.Nothing)
 
@@ -72,7 +62,7 @@ pub record OnAnswers (m : Lent) (d : Device) (va : VirtualAddress) (a : Access) 
 abbrev pub AnswersOn : Type 0
 AnswersOn =
     (m : Lent) (d : Device) (b : Bill) (c : Call) (again : Bool) (va : VirtualAddress) (a : Access)
-    → isOn (d .registers .control) ≡ true → asked d c ≡ attempt again va a → Accepted m d b c
+    → isOn (d .registers .control) ≡ true → attempted d c ≡ attempt again va a → Accepted m d b c
     → OnAnswers m d va a (step m d b c .said)
 
 -- accepted, with nothing to say
@@ -109,7 +99,7 @@ ShiftAnswered =
 
 -- a write that asks for no address, and a drop, say nothing where they are not refused
 pub record SaysNothing (m : Lent) (d : Device) (b : Bill) : Type 0 where
-  pub write : (o v : ℕ) (p : Prices) → asked d (write o v p) ≡ nothing → Accepted m d b (write o v p) → step m d b (write o v p) .said ≡ done
+  pub write : (o v : ℕ) (p : Prices) → attempted d (write o v p) ≡ nothing → Accepted m d b (write o v p) → step m d b (write o v p) .said ≡ done
   pub dropped : Accepted m d b drop-fault → step m d b drop-fault .said ≡ done
 
 abbrev pub NothingSaid : Type 0

@@ -1,46 +1,38 @@
 -- What a call asks of the slots, and what the plain walk gives for it (01, "The unit", "The walk", "Registers").
-use Rattle.page.specs.Ground.{ℕ, _%_, _≡_, Bool, true, false, eqb}
-use Rattle.page.specs.Pick.{pick, _and_}
-use Rattle.lanes.specs.Lanes.{lookedUp}
-use Rattle.registers.specs.Answers.{isPrefetch}
-use Rattle.registers.specs.Fields.{isOn, isWalking}
-use Rattle.decision.specs.Prefetches.{pageAt}
-use Rattle.unit.specs.Device.{look}
-use Rattle.unit.specs.Offsets.{prefetchAt, acknowledgeAt}
-use Rattle.unit.specs.Calls.{noMatch, mayWalk}
-use Rattle.unit.specs.Machine.{Call, request, write, read, drop-fault, shift}
-use Rattle.conduct.specs.Types.{Access, VirtualAddress, Lent, Reads, Pending, Device}
+use Rattle.conduct.specs.Names.{ℕ, _%_, _≡_, Bool, true, false, eqb, pick, _and_, lookedUp, isPrefetch, isOn, isWalking, pageAt, look}
+use Rattle.conduct.specs.Names.{prefetchAt, acknowledgeAt, noMatch, mayWalk, Call, request, write, read, drop-fault, shift, Access}
+use Rattle.conduct.specs.Names.{VirtualAddress, Lent, Reads, Pending, Device}
 
 -- nothing, an attempt (a retry or a fresh request), or a prefetch
-pub data Asked : Type 0 where
-  nothing : Asked
-  attempt : Bool → VirtualAddress → Access → Asked
-  prefetch : VirtualAddress → Asked
+pub data Attempted : Type 0 where
+  nothing : Attempted
+  attempt : Bool → VirtualAddress → Access → Attempted
+  prefetch : VirtualAddress → Attempted
 
 -- an acknowledgement retries the pending request as it was; a pending prefetch is only dropped
-abbrev pub retryAsked : Pending → Asked
-retryAsked Pending.Nothing = nothing
-retryAsked (Pending.Held k va a) = pick (isPrefetch k) nothing (attempt true va a)
+abbrev pub retryAttempted : Pending → Attempted
+retryAttempted Pending.Nothing = nothing
+retryAttempted (Pending.Held k va a) = pick (isPrefetch k) nothing (attempt true va a)
 
 -- a write of prefetch asks for its page, one of acknowledge with bit 0 for the retry
-unfoldable pub writeAsked : Pending → ℕ → ℕ → Asked
-writeAsked q o v =
+unfoldable pub writeAttempted : Pending → ℕ → ℕ → Attempted
+writeAttempted q o v =
     pick (eqb o prefetchAt) (prefetch (pageAt v))
-    (pick (eqb o acknowledgeAt and eqb (v % 2) 1) (retryAsked q) nothing)
+    (pick (eqb o acknowledgeAt and eqb (v % 2) 1) (retryAttempted q) nothing)
 
 -- what a call asks for
-abbrev pub asked : Device → Call → Asked
-asked d (request va a p) = attempt false va a
-asked d (write o v p) = writeAsked (d .pending) o v
-asked d (read o) = nothing
-asked d drop-fault = nothing
-asked d (shift va) = nothing
+abbrev pub attempted : Device → Call → Attempted
+attempted d (request va a p) = attempt false va a
+attempted d (write o v p) = writeAttempted (d .pending) o v
+attempted d (read o) = nothing
+attempted d drop-fault = nothing
+attempted d (shift va) = nothing
 
 -- what is asked is asked for this address
-abbrev pub AsksFor : VirtualAddress → Asked → Type 0
-AsksFor va nothing = ⊥
-AsksFor va (attempt again x a) = x ≡ va
-AsksFor va (prefetch x) = x ≡ va
+abbrev pub AttemptedAt : VirtualAddress → Attempted → Type 0
+AttemptedAt va nothing = ⊥
+AttemptedAt va (attempt again x a) = x ≡ va
+AttemptedAt va (prefetch x) = x ≡ va
 
 -- the calls that may walk: a request, a write of prefetch or acknowledge, and the shift report
 abbrev pub callWalks : Call → Bool

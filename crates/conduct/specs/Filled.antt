@@ -1,18 +1,8 @@
 -- Demand 2, the slots after each call that may walk (01, "The walk").
-use Rattle.page.specs.Ground.{ℕ, _<_, _≡_, true, length}
-use Rattle.page.specs.Pick.{pick}
-use Rattle.page.specs.Words.{madeWords}
-use mathlib.Core.Logic.{_≢_}
-use Rattle.lanes.specs.Lanes.{slots}
-use Rattle.bank.specs.Slots.{slotAt}
-use Rattle.bank.specs.Changes.{nextSlot, nextVictim}
-use Rattle.registers.specs.declared.Answer.{Answer}
-use Rattle.registers.specs.declared.Fault.{Fault}
-use Rattle.unit.specs.Device.{look}
-use Rattle.unit.specs.Machine.{Call, answered, step}
-use Rattle.conduct.specs.Types.{VirtualAddress, Words, Lent, Found, Bill, Bank, Fill, Device}
+use Rattle.conduct.specs.Names.{ℕ, _<_, _≡_, true, length, pick, madeWords, _≢_, slots, slotAt, nextSlot, nextVictim, Answer, Fault, look, Call}
+use Rattle.conduct.specs.Names.{answered, step, VirtualAddress, Words, Lent, Found, Bill, Bank, Fill, Device}
 use Rattle.conduct.specs.Refused.{Accepted}
-use Rattle.conduct.specs.Asked.{Asked, nothing, attempt, prefetch, asked, AsksFor, callWalks, walksFor}
+use Rattle.conduct.specs.Asked.{Attempted, nothing, attempt, prefetch, attempted, AttemptedAt, callWalks, walksFor}
 
 -- a walk that finds a page fills a slot with it, one that finds none fills nothing
 abbrev pub pageFill : VirtualAddress → Found → Fill
@@ -25,7 +15,7 @@ unfoldable pub fillFor : Lent → Device → VirtualAddress → Fill
 fillFor m d va = pick (walksFor d va) (pageFill va (look m d va .found)) Fill.Nothing
 
 -- what is filled for what a call asks
-abbrev pub fillAsked : Lent → Device → Asked → Fill
+abbrev pub fillAsked : Lent → Device → Attempted → Fill
 fillAsked m d nothing = Fill.Nothing
 fillAsked m d (attempt again va a) = fillFor m d va
 fillAsked m d (prefetch va) = fillFor m d va
@@ -57,12 +47,12 @@ LanesFit b = (length (b .cam) ≡ slots) × (length (b .ram) ≡ slots)
 abbrev pub OneSlotFilled : Type 0
 OneSlotFilled =
     (m : Lent) (d : Device) (b : Bill) (c : Call) → LanesFit (d .bank) → callWalks c ≡ true → Accepted m d b c
-    → FilledBy (fillAsked m d (asked d c)) (d .bank) (step m d b c .device .bank)
+    → FilledBy (fillAsked m d (attempted d c)) (d .bank) (step m d b c .device .bank)
 
 -- where the plain walk finds no page for what a call asks, neither a slot nor the victim changes
 abbrev pub NoPageNoFill : Type 0
 NoPageNoFill =
-    (m : Lent) (d : Device) (b : Bill) (c : Call) (va : VirtualAddress) → AsksFor va (asked d c) → look m d va .found ≡ Found.NoPage
+    (m : Lent) (d : Device) (b : Bill) (c : Call) (va : VirtualAddress) → AttemptedAt va (attempted d c) → look m d va .found ≡ Found.NoPage
     → step m d b c .device .bank ≡ d .bank
 
 -- a translation fault is never cached: no call that answers one changes the slots

@@ -1,12 +1,6 @@
 -- Demand 2, the slots after a write of a flush register (01, "Registers").
-use Rattle.page.specs.Ground.{ℕ, _/_, _%_, _≡_, Bool, true, not, getD}
-use Rattle.page.specs.Pick.{_and_}
-use Rattle.page.specs.Words.{wordValid, wordPreserved, wordMatches}
-use Rattle.registers.specs.Fields.{camAddress}
-use Rattle.unit.specs.Device.{inRange}
-use Rattle.unit.specs.Offsets.{flushAt, entryFlushAt}
-use Rattle.unit.specs.Machine.{write, step}
-use Rattle.conduct.specs.Types.{Lent, Bill, Prices, Device}
+use Rattle.conduct.specs.Names.{ℕ, _/_, _%_, _≡_, Bool, true, not, getD, _and_, wordValid, wordPreserved, wordMatches, camAddress, inRange}
+use Rattle.conduct.specs.Names.{flushAt, entryFlushAt, write, step, Lent, Bill, Prices, Device}
 
 -- the CAM word of a slot
 abbrev pub camAt : Device → ℕ → ℕ

@@ -1,16 +1,12 @@
 -- Demand 2, the pending fault after each call (01, "Registers", "When the unit says no").
-use Rattle.page.specs.Ground.{ℕ, _%_, _≡_, Bool, true}
-use Rattle.registers.specs.declared.Answer.{Answer}
-use Rattle.unit.specs.Device.{cleared, doneWith}
-use Rattle.unit.specs.Offsets.{prefetchAt, acknowledgeAt}
-use Rattle.unit.specs.Machine.{Call, write, drop-fault, Said, answered, stepOut, step}
-use Rattle.conduct.specs.Types.{Access, VirtualAddress, PhysicalAddress, Lent, Bill, Prices, Fault, Pending, Device}
+use Rattle.conduct.specs.Names.{ℕ, _%_, _≡_, Bool, true, Answer, cleared, doneWith, prefetchAt, acknowledgeAt, Call, write, drop-fault, Said}
+use Rattle.conduct.specs.Names.{answered, stepOut, step, Access, VirtualAddress, PhysicalAddress, Lent, Bill, Prices, Fault, Pending, Device}
 use Rattle.conduct.specs.Refused.{saidRefused, Accepted}
-use Rattle.conduct.specs.Asked.{Asked, attempt, prefetch, asked}
+use Rattle.conduct.specs.Asked.{Attempted, attempt, prefetch, attempted}
 
 -- a request or a retry that answers a fault holds it with its address and access; a prefetch's fault is 24, and holds prefetch,
 -- the page and read; an address clears the pending fault; a refusal leaves it
-pub record HeldBy (q : Asked) (before after : Pending) (s : Said) : Type 0 where
+pub record HeldBy (q : Attempted) (before after : Pending) (s : Said) : Type 0 where
   pub fault : (again : Bool) (va : VirtualAddress) (a : Access) (k : Fault) → q ≡ attempt again va a → s ≡ answered (Answer.Fault k) → after ≡ Pending.Held k va a
   pub prefetched :
       (va : VirtualAddress) (k : Fault) → q ≡ prefetch va → s ≡ answered (Answer.Fault k)
@@ -21,7 +17,7 @@ pub record HeldBy (q : Asked) (before after : Pending) (s : Said) : Type 0 where
 -- so it is after every call
 abbrev pub FaultHeld : Type 0
 FaultHeld =
-    (m : Lent) (d : Device) (b : Bill) (c : Call) → HeldBy (asked d c) (d .pending) (step m d b c .device .pending) (step m d b c .said)
+    (m : Lent) (d : Device) (b : Bill) (c : Call) → HeldBy (attempted d c) (d .pending) (step m d b c .device .pending) (step m d b c .said)
 
 -- a drop clears the pending fault; acknowledging a pending prefetch only drops it, and with bit 0 clear does nothing; a prefetch
 -- that finds its page leaves what is pending

@@ -1,11 +1,7 @@
 -- Demand 2, what each call leaves alone (01, "The unit", "Registers").
-use Rattle.page.specs.Ground.{ℕ, _/_, _%_, _^_, _<_, _≡_, Bool, false, eqb}
-use Rattle.page.specs.Pick.{_and_}
-use mathlib.Core.Logic.{_≢_}
-use Rattle.unit.specs.Offsets.{prefetchAt, controlAt, baseHighAt, baseLowAt, lockAt, loadAt, camHighAt, camLowAt, ramHighAt, ramLowAt, flushAt, entryFlushAt}
-use Rattle.unit.specs.Calls.{mayWalk}
-use Rattle.unit.specs.Machine.{request, write, read, drop-fault, shift, step}
-use Rattle.conduct.specs.Types.{Access, VirtualAddress, Lent, Bill, Prices, Device}
+use Rattle.conduct.specs.Names.{ℕ, _/_, _%_, _^_, _<_, _≡_, Bool, false, eqb, _and_, _≢_, prefetchAt, controlAt, baseHighAt, baseLowAt, lockAt}
+use Rattle.conduct.specs.Names.{loadAt, camHighAt, camLowAt, ramHighAt, ramLowAt, flushAt, entryFlushAt, mayWalk, request, write, read}
+use Rattle.conduct.specs.Names.{drop-fault, shift, step, Access, VirtualAddress, Lent, Bill, Prices, Device}
 
 -- a write of control with bit 0 clear
 abbrev pub isReset : ℕ → ℕ → Bool

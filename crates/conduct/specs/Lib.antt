@@ -1,4 +1,3 @@
-pub mod Types
 pub mod Refused
 pub mod Asked
 pub mod Filled
@@ -8,3 +7,4 @@ pub mod Answered
 pub mod Held
 pub mod Kept
 pub mod Written
+pub mod Names

@@ -1,16 +1,7 @@
 -- Demand 1, for every call: a refusal comes exactly when the paper says, and then nothing changes; a device in range stays in range.
-use Rattle.page.specs.Ground.{ℕ, _^_, _<_, _≡_, Bool, true, false, [], _∷_, getD}
-use Rattle.memory.specs.Memory.{Lent}
-use Rattle.meters.specs.Posted.{noTally, Within}
-use Rattle.bill.specs.declared.Bill.{Bill}
-use Rattle.bill.specs.Bill.{Good}
-use Rattle.registers.specs.Answers.{isRefusal}
-use Rattle.decision.specs.declared.Shift.{Shift}
-use Rattle.unit.specs.declared.Device.{Device}
-use Rattle.unit.specs.Refusals.{Refusals, First, Clear}
-use Rattle.unit.specs.Device.{inRange}
-use Rattle.unit.specs.Calls.{requestRefusals, writeRefusals, readRefusals, dropRefusals, shiftRefusals}
-use Rattle.unit.specs.Machine.{Call, request, write, read, drop-fault, shift, Said, answered, reported, saidNumber, Step, step, Bench, run}
+use Rattle.conduct.specs.Names.{ℕ, _^_, _<_, _≡_, Bool, true, false, [], _∷_, getD, Lent, noTally, BelowStop, Bill, Good, isRefusal, Shift, Device}
+use Rattle.conduct.specs.Names.{Refusals, First, Clear, inRange, requestRefusals, writeRefusals, readRefusals, dropRefusals, shiftRefusals}
+use Rattle.conduct.specs.Names.{Call, request, write, read, drop-fault, shift, Said, answered, reported, saidNumber, Step, step, Bench, run}
 
 -- the refusals of each call
 abbrev pub refusalsOf : Lent → Device → Bill → Call → Refusals
@@ -64,7 +55,7 @@ NothingChanges =
 -- so the whole bench is as it was, its meters too; that the lent bytes are is by type: no call is lent them to write
 abbrev pub BenchStays : Type 0
 BenchStays =
-    (m : Lent) (s : Bench) (c : Call) → Within (s .meters) → saidRefused (step m (s .device) (s .bill) c .said) ≡ true → run m s (c ∷ []) ≡ s
+    (m : Lent) (s : Bench) (c : Call) → BelowStop (s .meters) → saidRefused (step m (s .device) (s .bill) c .said) ≡ true → run m s (c ∷ []) ≡ s
 
 -- every call leaves a good bill good
 abbrev pub GoodKept : Type 0

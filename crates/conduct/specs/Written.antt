@@ -1,17 +1,9 @@
 -- Demand 2, the registers: read back, reset, load and copy (01, "Registers").
-use Rattle.page.specs.Ground.{ℕ, _+_, _*_, _/_, _%_, _^_, _<_, _≡_, true, [], _∷_, eqb}
-use Rattle.page.specs.Pick.{pick}
-use mathlib.Core.Logic.{_≢_}
-use Rattle.meters.specs.Posted.{noTally}
-use Rattle.bank.specs.Slots.{slotAt}
-use Rattle.registers.specs.Answers.{faultStatus, faultAddress}
-use Rattle.registers.specs.Fields.{wordsOf, entryOf}
-use Rattle.registers.specs.Table.{listed}
-use Rattle.registers.specs.declared.Answer.{Answer}
-use Rattle.unit.specs.Device.{freshDevice, inRange}
-use Rattle.unit.specs.Offsets.{prefetchAt, walkStatusAt, controlAt, faultHighAt, faultLowAt, faultStatusAt, acknowledgeAt, baseHighAt, baseLowAt, lockAt, loadAt, camHighAt, camLowAt, ramHighAt, ramLowAt, flushAt, entryFlushAt, readCamHighAt, readCamLowAt, readRamHighAt, readRamLowAt}
-use Rattle.unit.specs.Machine.{write, read, answered, Step, step}
-use Rattle.conduct.specs.Types.{Lent, Bill, Prices, Device}
+use Rattle.conduct.specs.Names.{ℕ, _+_, _*_, _/_, _%_, _^_, _<_, _≡_, true, [], _∷_, eqb, pick, _≢_, noTally, slotAt, faultStatus, faultAddress}
+use Rattle.conduct.specs.Names.{wordsOf, entryOf, listed, Answer, freshDevice, inRange, prefetchAt, walkStatusAt, controlAt, faultHighAt}
+use Rattle.conduct.specs.Names.{faultLowAt, faultStatusAt, acknowledgeAt, baseHighAt, baseLowAt, lockAt, loadAt, camHighAt, camLowAt, ramHighAt}
+use Rattle.conduct.specs.Names.{ramLowAt, flushAt, entryFlushAt, readCamHighAt, readCamLowAt, readRamHighAt, readRamLowAt, write, read}
+use Rattle.conduct.specs.Names.{answered, Step, step, Lent, Bill, Prices, Device}
 use Rattle.conduct.specs.Refused.{Accepted, BytesFit}
 use Rattle.conduct.specs.Filled.{LanesFit}
 

@@ -1,17 +1,8 @@
 -- The parts of a decision, put together. Assumes nothing.
-use mathlib.Core.Path.{_≡_, _∙_, ap}
-use mathlib.Core.Bool.{true, false}
-use mathlib.Core.List.{List}
-use Prim.Native.Nat.{ℕ}
-use Rattle.page.specs.Words.{physical}
-use Rattle.page.proofs.Picks.{pick-yes, pick-no}
-use Rattle.lanes.specs.Lanes.{lookedUp}
-use Rattle.registers.specs.Fields.{isOn, isWalking}
-use Rattle.bill.specs.declared.Seen.{Seen}
-use Rattle.registers.specs.declared.Fault.{Fault}
-use Rattle.registers.specs.declared.Answer.{Answer}
-use Rattle.decision.specs.Types.{Access, VirtualAddress, Walked, Matched}
-use Rattle.decision.specs.Decisions.{plainly, byWalk, byMatched, decided}
+use Rattle.decision.specs.Names.{_≡_, true, false, List, ℕ, physical, lookedUp, isOn, isWalking, Seen, Fault, Answer, Access, VirtualAddress}
+use Rattle.decision.specs.Names.{Walked, Matched}
+use Rattle.decision.proofs.Names.{_∙_, ap, pick-yes, pick-no, plainly}
+use Rattle.decision.specs.Decisions.{byWalk, byMatched, decided}
 use Rattle.decision.specs.Prefetches.{prefetchMatched, prefetchDecided}
 
 module _ (w : Walked) (c : ℕ) (cam ram : List ℕ) (va : VirtualAddress) (a : Access) where

@@ -1,15 +1,8 @@
 -- What a request or a retry comes to, by the state and the memories alone: answer, slot to fill, words read, match or not
 -- (01, "The unit", "The walk").
-use Rattle.page.specs.Ground.{ℕ, Bool, true, false, List, getD}
-use Rattle.page.specs.Pick.{pick}
-use Rattle.page.specs.Words.{physical, permits, wordAccess, wordAddress, madeWords}
-use Rattle.walk.specs.Descriptors.{physicalOf}
-use Rattle.meters.specs.Posted.{noTally}
-use Rattle.bill.specs.Bill.{readsPosted, seenPosted}
-use Rattle.lanes.specs.Lanes.{lookedUp}
-use Rattle.registers.specs.Fields.{isOn, isWalking}
-use Rattle.bank.specs.declared.Fill.{Fill}
-use Rattle.decision.specs.Types.{Access, VirtualAddress, PhysicalAddress, Reads, Page, Found, Walked, Tally, Bill, Prices, Seen, Matched, Fault, Pending, Answer, Decision}
+use Rattle.decision.specs.Names.{ℕ, Bool, true, false, List, getD, pick, physical, permits, wordAccess, wordAddress, madeWords, physicalOf}
+use Rattle.decision.specs.Names.{noTally, readsPosted, seenPosted, lookedUp, isOn, isWalking, Fill, Access, VirtualAddress, PhysicalAddress}
+use Rattle.decision.specs.Names.{Reads, Page, Found, Walked, Tally, Bill, Prices, Seen, Matched, Fault, Pending, Answer, Decision}
 
 -- a page's byte, or a permission fault
 unfoldable pub byAccess : ℕ → PhysicalAddress → Access → Answer

@@ -1,3 +1,3 @@
-pub mod Types
 pub mod Decisions
 pub mod Prefetches
+pub mod Names

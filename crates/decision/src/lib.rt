@@ -10,7 +10,7 @@ use registers::Answer;
 use registers::Fault;
 use registers::Pending;
 use walk::Found;
-ghost use mathlib.Core.Path.{_≡_};
+ghost use Rattle.decision.specs.Names.{_≡_};
 ghost use Rattle.decision.specs.Decisions.{byAccess, plainly, byMatch, settled, meteredOnce, tallyOf};
 ghost use Rattle.decision.specs.Prefetches.{prefetchKept, shiftBy};
 

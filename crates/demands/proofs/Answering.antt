@@ -1,25 +1,14 @@
 -- Each request and each retry that the paper does not refuse is answered, as the list says. Assumes nothing.
-use mathlib.Core.Path.{_≡_, sym, _∙_, ap, subst}
-use mathlib.Core.Bool.{true}
-use mathlib.Core.List.{List, [], _∷_}
-use Prim.Native.Nat.{ℕ}
-use Rattle.memory.specs.Memory.{Lent}
-use Rattle.records.specs.Mappings.{mappings}
-use Rattle.records.specs.Meanings.{holder}
-use Rattle.unit.specs.declared.Device.{Device}
+use Rattle.demands.specs.Demands.Names.{_≡_, true, List, [], _∷_, ℕ, Lent, mappings, Device, step, BytesFit, BilledCall, after}
+use Rattle.demands.proofs.Names.{sym, _∙_, ap, subst, holder, range-kept, started, lookIn, startControl, start-on, start-walking}
+use Rattle.demands.proofs.Names.{image-translates, ValuesFit, Session}
 use Rattle.unit.specs.Device.{inRange}
-use Rattle.unit.specs.Machine.{step}
-use Rattle.conduct.specs.Refused.{BytesFit}
-use Rattle.conduct.proofs.Ranged.{range-kept}
 use Rattle.coherence.specs.Agreement.{Coherent, Below}
-use Rattle.coherence.specs.Sessions.{BilledCall, after, started, lookFrom}
-use Rattle.coherence.specs.Started.{startControl}
 use Rattle.coherence.proofs.Sessions.{coherent-after}
-use Rattle.coherence.proofs.Started.{start-on, start-walking, start-in-range}
+use Rattle.coherence.proofs.Started.{start-in-range}
 use Rattle.coherence.proofs.Answered.{request-answered, retry-answered}
 use Rattle.translates.specs.Statements.{Translates}
-use Rattle.translates.proofs.Theorems.{image-translates}
-use Rattle.demands.specs.Answering.{ValuesFit, Session, RequestsAnswered, RetriesAnswered}
+use Rattle.demands.specs.Answering.{RequestsAnswered, RetriesAnswered}
 use Rattle.demands.proofs.Lists.{list-said, as-list, gives-found, start-is, base-low, base-128}
 
 -- every device of a session is in range
@@ -35,9 +24,9 @@ module _ (rs : List ℕ) (base : ℕ) (m : Lent) (d : Device) (s : Session rs ba
   device-is : d ≡ after m (started (startControl (s .v)) base) (s .calls)
   device-is = s .device ∙ ap (λ (x : Device). after m x (s .calls)) (start-is rs base (s .room) (s .len) (s .accepted) m (s .v) (s .p) (s .b) (s .on))
 
-  coherent : Coherent (lookFrom m base) base d
+  coherent : Coherent (lookIn m base) base d
   coherent =
-      subst (Coherent (lookFrom m base) base) (sym device-is)
+      subst (Coherent (lookIn m base) base) (sym device-is)
       (coherent-after m (startControl (s .v)) base (start-on (s .v)) (start-walking (s .v)) (owes .uniform) (s .calls) (s .admitted))
 
   in-range : inRange d ≡ true
@@ -51,8 +40,8 @@ requests-answered rs base m d s p b va a q l money =
     let t = owes rs base m d s in
     let g = t .gives va l in
     as-list _ _ (request-answered m base p b d va a (coherent rs base m d s) (record { range = in-range rs base m d s; memories = s .lent; money = money }) q l
-    (gives-found (holder (mappings rs) va) va (lookFrom m base va .found) g) .plainly
-    ∙ list-said (lookFrom m base) (mappings rs) va a g)
+    (gives-found (holder (mappings rs) va) va (lookIn m base va .found) g) .plainly
+    ∙ list-said (lookIn m base) (mappings rs) va a g)
 
 pub retries-answered : RetriesAnswered
 retries-answered rs base m d s p b v k va a q f o money =
@@ -60,5 +49,5 @@ retries-answered rs base m d s p b v k va a q f o money =
     let h = coherent rs base m d s in
     let g = t .gives va (subst Below q (h .below)) in
     as-list _ _ (retry-answered m base p b d v k va a h (record { range = in-range rs base m d s; memories = s .lent; money = money }) q f o
-    (gives-found (holder (mappings rs) va) va (lookFrom m base va .found) g) .plainly
-    ∙ list-said (lookFrom m base) (mappings rs) va a g)
+    (gives-found (holder (mappings rs) va) va (lookIn m base va .found) g) .plainly
+    ∙ list-said (lookIn m base) (mappings rs) va a g)

@@ -1,24 +1,11 @@
 -- The builder's answer is the first of its refusals, else the image's length, and then it leaves the image. Assumes nothing.
-use mathlib.Core.Path.{_≡_, refl, sym, _∙_, ap, subst}
-use mathlib.Core.Bool.{Bool, true, false, not, false≢true}
-use mathlib.Core.List.{List, [], _∷_}
-use mathlib.Core.Logic.{inl, inr}
-use Prim.Native.Nat.{ℕ, zero, suc}
-use lib.Dec.{eqb, ltb}
-use lib.ListN.{length}
-use Rattle.page.specs.Pick.{pick}
-use Rattle.page.specs.Words.{megabytes}
-use Rattle.records.specs.Mappings.{mappings}
-use Rattle.records.specs.Refusals.{bad, overlapping, begun, checkedFrom, checked}
+use Rattle.demands.specs.Demands.Names.{_≡_, Bool, true, false, not, List, [], _∷_, ℕ, zero, suc, eqb, ltb, length, megabytes, mappings, bad}
+use Rattle.demands.specs.Demands.Names.{overlapping, begun, imageLength, image, Built, roomOk, answerOf, buildOf, Refusing, First, Clear}
+use Rattle.demands.proofs.Names.{refl, sym, _∙_, ap, subst, false≢true, inl, inr, pick, image-length-is, accepted, leaves-image}
+use Rattle.records.specs.Refusals.{checkedFrom, checked}
 use Rattle.records.specs.declared.Checked.{Checked}
-use Rattle.tables.specs.Tables.{imageLength}
-use Rattle.builder.specs.Image.{image}
-use Rattle.builder.proofs.Whole.{image-length-is}
-use Rattle.builder.specs.declared.Built.{Built}
-use Rattle.builder.specs.Build.{roomOk, afterCheck, lengthOr, answerOf, leaves, buildOf}
-use Rattle.builder.proofs.Answers.{accepted}
-use Rattle.translates.proofs.Theorems.{leaves-image}
-use Rattle.unit.specs.Refusals.{Refusing, refuses, First, Clear}
+use Rattle.builder.specs.Build.{afterCheck, lengthOr, leaves}
+use Rattle.unit.specs.Refusals.{refuses}
 use Rattle.conduct.proofs.Firsts.{exactly-first, accepted-clear}
 use Rattle.demands.specs.Building.{recordRefusals, buildRefusals, builtRefused, builtSaid, BuildRefuses, BuildLeaves}
 
@@ -39,7 +26,8 @@ first-each P (r ∷ rs) k e (inl f) = subst P (f .1) (e .0)
 first-each P (r ∷ rs) k e (inr f) = first-each P rs k (e .1) (f .1)
 
 -- one record: 10, else 11, else what follows
-one-record : (s t : Bool) (i : ℕ) (x : Checked) (b y : Built) → afterCheck x b ≡ y → afterCheck (pick s (Checked.BadRecord i) (pick t (Checked.Overlap i) x)) b ≡ pick s (Built.BadRecord i) (pick t (Built.Overlap i) y)
+one-record : (s t : Bool) (i : ℕ) (x : Checked) (b y : Built) → afterCheck x b ≡ y
+    → afterCheck (pick s (Checked.BadRecord i) (pick t (Checked.Overlap i) x)) b ≡ pick s (Built.BadRecord i) (pick t (Built.Overlap i) y)
 unfolding pick
 one-record true t i x b y e = refl
 one-record false true i x b y e = refl

@@ -1,45 +1,29 @@
 -- Demand 3 in the buyer's order, and a session with list A. Assumes nothing.
-use mathlib.Core.Path.{_≡_, refl, sym, _∙_, ap, ap₂, subst}
-use mathlib.Core.Bool.{Bool, true}
-use mathlib.Core.List.{List, [], _∷_, _++_}
-use mathlib.Core.Logic.{inl, inr}
-use Prim.Native.Nat.{ℕ, zero, suc, _+_, _-_, _/_, _<_}
-use native.Mathlib.Omega.{arith}
+use Rattle.demands.specs.Demands.Names.{_≡_, Bool, true, List, [], _∷_, _++_, ℕ, zero, suc, _<_, ltb, length, drop, replicate, Access, virtual}
+use Rattle.demands.specs.Demands.Names.{megabytes, Lent, lentOk, mappings, meaning, imageLength, image, Built, roomOk, answerOf, buildOf}
+use Rattle.demands.specs.Demands.Names.{moneyOk, freshBill, Answer, BilledCall, after, Admitted, Standing, Bytes, recordsA, baseA, Device}
+use Rattle.demands.proofs.Names.{refl, sym, _∙_, ap, ap₂, subst, inl, inr, arith, pick, byteOf, holder, image-length-is, accepted}
+use Rattle.demands.proofs.Names.{leaves-image, meantAs, ValuesFit, Session}
+use Prim.Native.Nat.{_+_, _-_, _/_}
 use native.Mathlib.Decide.{decLe}
-use lib.Dec.{ltb}
 use lib.Count.{trailingZeros}
 use lib.Ieee.{ofFields, ofBits, odd, le, lt, eq}
-use lib.ListN.{length, drop, getD, replicate, length-append, length-drop, length-replicate, List·getD-append}
+use lib.ListN.{getD, length-append, length-drop, length-replicate, List·getD-append}
 use lib.Seq.{getD-append-add}
 use borrow.Author.Tests.{ltb-true}
-use Rattle.page.specs.Pick.{pick, _and_, _or_}
+use Rattle.page.specs.Pick.{_and_, _or_}
 use Rattle.page.specs.Low.{upper, joined}
-use Rattle.page.specs.declared.Access.{Access}
-use Rattle.page.specs.Words.{virtual, megabytes, kindOf}
+use Rattle.page.specs.Words.{kindOf}
 use Rattle.page.proofs.Picks.{and-yes, and-left, and-right}
-use Rattle.memory.specs.Memory.{Lent, lentOk, memoryOk, apart, memoriesOk}
+use Rattle.memory.specs.Memory.{memoryOk, apart, memoriesOk}
 use Rattle.wire.specs.Words.{wordOf, wordBytes}
-use Rattle.records.specs.Mappings.{mappings, mappingsFrom, mappingOf, byteOf, holds}
-use Rattle.records.specs.Meanings.{holder, meaning}
-use Rattle.tables.specs.Tables.{imageLength}
-use Rattle.builder.specs.Image.{image}
+use Rattle.records.specs.Mappings.{mappingsFrom, mappingOf, holds}
 use Rattle.wire.specs.Spliced.{bytesBy}
-use Rattle.builder.proofs.Whole.{image-length-is}
-use Rattle.builder.specs.declared.Built.{Built}
-use Rattle.builder.specs.Build.{roomOk, answerOf, buildOf}
-use Rattle.builder.proofs.Answers.{accepted}
 use Rattle.prices.specs.Prices.{figureOk, every}
-use Rattle.bill.specs.Bill.{moneyOk, freshBill}
-use Rattle.registers.specs.declared.Answer.{Answer}
-use Rattle.coherence.specs.Sessions.{BilledCall, after, Admitted}
-use Rattle.translates.specs.Statements.{Has, Standing, Bytes}
-use Rattle.translates.specs.ListA.{recordsA, baseA}
-use Rattle.translates.proofs.Theorems.{bytes-drop, leaves-image, built-has}
+use Rattle.translates.specs.Statements.{Has}
+use Rattle.translates.proofs.Theorems.{bytes-drop, built-has}
 use Rattle.translates.proofs.Samples.{accepts-a}
-use Rattle.demands.specs.Demands.{said}
-use Rattle.demands.specs.Answering.{ValuesFit, Session}
 use Rattle.demands.specs.Buyer.{LentAt, BuiltThenCalled, builtIn, BuiltSession, roomA, pricesA, memoryA, deviceA, callsA, byteA, Exhibited}
-use Rattle.unit.specs.declared.Device.{Device}
 use Rattle.demands.proofs.Lists.{start-is}
 use Rattle.demands.proofs.Proved.{demand-3}
 use Rattle.demands.proofs.Answering.{requests-answered}
@@ -175,7 +159,7 @@ session-a : (cs : List BilledCall) → Admitted cs → ValuesFit cs → Session 
 session-a cs adm fit = built-session recordsA baseA roomA (replicate roomA 0) 7 pricesA freshBill cs bytes-a (zero-bytes roomA) built-a refl adm fit
 
 -- what the list says of one address
-byte-a : said (meaning (mappings recordsA) (virtual 0x012345) Access.Read) ≡ Answer.Address byteA
+byte-a : meantAs (meaning (mappings recordsA) (virtual 0x012345) Access.Read) ≡ Answer.Address byteA
 unfolding meaning holder holds byteOf mappings mappingsFrom mappingOf wordOf kindOf pick _and_ _or_ upper joined
 byte-a = refl
 

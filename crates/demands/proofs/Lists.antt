@@ -1,40 +1,30 @@
 -- The plain walk over an image answers as the list, and the start is what its writes leave. Assumes nothing.
-use mathlib.Core.Path.{_≡_, refl, sym, _∙_, ap, ap₂, subst}
-use mathlib.Core.Bool.{Bool, true, false, false≢true}
-use mathlib.Core.List.{List}
-use Prim.Native.Nat.{ℕ, _%_, _^_, _<_}
-use native.Mathlib.Omega.{arith}
-use Rattle.page.specs.Pick.{pick}
-use Rattle.page.specs.Words.{permits, megabytes, limit}
-use Rattle.memory.specs.Memory.{Lent, lentOk}
+use Rattle.demands.specs.Demands.Names.{_≡_, Bool, true, false, List, ℕ, _%_, _<_, megabytes, limit, Lent, lentOk, Meaning, mappings, meaning}
+use Rattle.demands.specs.Demands.Names.{Built, answerOf, Access, VirtualAddress, PhysicalAddress, Bill, Prices, Answer, TurnsOn, start}
+use Rattle.demands.proofs.Names.{refl, sym, _∙_, ap, ap₂, subst, false≢true, arith, pick, byteOf, holder, accepted, Uniform, started, lookIn}
+use Rattle.demands.proofs.Names.{startControl, started-in-any-order, meantAs, AsList}
+use Prim.Native.Nat.{_^_}
+use Rattle.page.specs.Words.{permits}
 use Rattle.walk.specs.Distances.{isMissing}
 use Rattle.walk.proofs.Walks.{walk-refused}
 use Rattle.records.specs.declared.Mapping.{Mapping}
 use Rattle.records.specs.declared.Held.{Held}
-use Rattle.records.specs.declared.Meaning.{Meaning}
-use Rattle.records.specs.Mappings.{mappings, byteOf}
-use Rattle.records.specs.Meanings.{holder, meaning, heldMeaning}
-use Rattle.builder.specs.declared.Built.{Built}
-use Rattle.builder.specs.Build.{answerOf}
-use Rattle.builder.proofs.Answers.{accepted, room-unit, room-memory}
+use Rattle.records.specs.Meanings.{heldMeaning}
+use Rattle.builder.proofs.Answers.{room-unit, room-memory}
 use Rattle.tables.proofs.Places.{image-first}
-use Rattle.decision.specs.Types.{Access, VirtualAddress, PhysicalAddress, Reads, Found, Walked, Bill, Prices, Answer}
+use Rattle.decision.specs.Names.{Reads, Found, Walked}
 use Rattle.decision.specs.Decisions.{byAccess, byFound}
 use Rattle.coherence.specs.Agreement.{plain}
-use Rattle.walk.specs.Uniform.{Look, Uniform}
-use Rattle.coherence.specs.Sessions.{started, lookFrom}
-use Rattle.coherence.specs.Started.{TurnsOn, start, startControl}
-use Rattle.coherence.proofs.Started.{started-in-any-order}
+use Rattle.walk.specs.Uniform.{Look}
 use Rattle.translates.specs.Statements.{Gives}
-use Rattle.demands.specs.Demands.{said, AsList}
 
 -- a byte with its access, and what a mapping says of it
-access-said : (m : Mapping) (va : VirtualAddress) (a : Access) (t : Bool) → permits (m .access) a ≡ t → byAccess (m .access) (byteOf m va) a ≡ said (heldMeaning (Held.By m) va a)
+access-said : (m : Mapping) (va : VirtualAddress) (a : Access) (t : Bool) → permits (m .access) a ≡ t → byAccess (m .access) (byteOf m va) a ≡ meantAs (heldMeaning (Held.By m) va a)
 unfolding byAccess pick
 access-said m va a true e = rw e
 access-said m va a false e = rw e
 
-pub gives-said : (h : Held) (va : VirtualAddress) (a : Access) (r : Reads) (f : Found) → Gives h va f → byFound va a r f .answer ≡ said (heldMeaning h va a)
+pub gives-said : (h : Held) (va : VirtualAddress) (a : Access) (r : Reads) (f : Found) → Gives h va f → byFound va a r f .answer ≡ meantAs (heldMeaning h va a)
 unfolding byFound
 gives-said (Held.By m) va a r (Found.Page p) g =
     ap₂ (λ (x : PhysicalAddress) (n : ℕ). byAccess n x a) (g .0) (g .1) ∙ access-said m va a (permits (m .access) a) refl
@@ -44,17 +34,17 @@ gives-said Held.Nobody va a r (Found.Page p) g = absurd g
 gives-said Held.Nobody va a r Found.NoPage g = refl
 gives-said Held.Nobody va a r Found.Missing g = absurd g
 
-pub list-said : (look : Look) (ms : List Mapping) (va : VirtualAddress) (a : Access) → Gives (holder ms va) va (look va .found) → plain look va a ≡ said (meaning ms va a)
+pub list-said : (look : Look) (ms : List Mapping) (va : VirtualAddress) (a : Access) → Gives (holder ms va) va (look va .found) → plain look va a ≡ meantAs (meaning ms va a)
 unfolding meaning
 list-said look ms va a g = gives-said (holder ms va) va a (look va .reads) (look va .found) g
 
 -- in the paper's number and values too
-numbers : (x : Meaning) → AsList (said x) x
+numbers : (x : Meaning) → AsList (meantAs x) x
 numbers (Meaning.Byte p) = record { answer = refl; number = refl; values = refl }
 numbers Meaning.Permission = record { answer = refl; number = refl; values = refl }
 numbers Meaning.Translation = record { answer = refl; number = refl; values = refl }
 
-pub as-list : (r : Answer) (x : Meaning) → r ≡ said x → AsList r x
+pub as-list : (r : Answer) (x : Meaning) → r ≡ meantAs x → AsList r x
 as-list r x e = subst (λ (y : Answer). AsList y x) (sym e) (numbers x)
 
 -- a walk that gives what the list says misses no word
@@ -65,13 +55,13 @@ gives-found (Held.By m) va Found.Missing g = absurd g
 gives-found Held.Nobody va Found.Missing g = absurd g
 
 -- over refused memories a walk finds nothing at all
-pub refused-uniform : (m : Lent) (base : ℕ) → lentOk m ≡ false → Uniform limit (lookFrom m base)
+pub refused-uniform : (m : Lent) (base : ℕ) → lentOk m ≡ false → Uniform limit (lookIn m base)
 refused-uniform m base e va va′ p low f s = absurd (none (sym (ap (λ (w : Walked). w .found) (walk-refused m e base (va .0))) ∙ f))
   where
     none : Found.Missing ≡ Found.Page p → ⊥
     none q = false≢true (sym (ap isMissing q))
 
-pub refused-plain : (m : Lent) (base : ℕ) (va : VirtualAddress) (a : Access) → lentOk m ≡ false → plain (lookFrom m base) va a ≡ Answer.Refused 3
+pub refused-plain : (m : Lent) (base : ℕ) (va : VirtualAddress) (a : Access) → lentOk m ≡ false → plain (lookIn m base) va a ≡ Answer.Refused 3
 unfolding byFound
 refused-plain m base va a e = ap (λ (w : Walked). byFound va a (w .reads) (w .found) .answer) (walk-refused m e base (va .0))
 

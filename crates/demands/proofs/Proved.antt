@@ -1,20 +1,11 @@
 -- The three demands hold. Assumes nothing.
-use Rattle.page.specs.Words.{limit}
-use mathlib.Core.Path.{_≡_, refl, sym, _∙_, ap, subst}
-use mathlib.Core.Bool.{Bool, true, false, true≢false}
-use Rattle.memory.specs.Memory.{lentOk}
-use Rattle.records.specs.Mappings.{mappings}
-use Rattle.records.specs.Meanings.{meaning}
-use Rattle.registers.specs.Answers.{isRefusal}
-use Rattle.unit.specs.declared.Device.{Device}
-use Rattle.unit.specs.Machine.{answered, step}
-use Rattle.walk.specs.Uniform.{Uniform}
-use Rattle.coherence.specs.Sessions.{after, asked, asks, started, lookFrom, CacheNeverShows}
-use Rattle.coherence.specs.Started.{startControl}
+use Rattle.demands.specs.Demands.Names.{limit, _≡_, Bool, true, false, lentOk, mappings, meaning, isRefusal, Device, answered, step, after, asked, asks}
+use Rattle.demands.proofs.Names.{refl, sym, _∙_, ap, subst, Uniform, started, lookIn, startControl, start-on, start-walking, range-kept}
+use Rattle.demands.proofs.Names.{image-translates, AsList}
+use mathlib.Core.Bool.{true≢false}
+use Rattle.coherence.specs.Sessions.{CacheNeverShows}
 use Rattle.coherence.proofs.Sessions.{cache-never-shows}
-use Rattle.coherence.proofs.Started.{start-on, start-walking}
 use Rattle.conduct.proofs.Refused.{exactly-when, accepted-when, nothing-changes}
-use Rattle.conduct.proofs.Ranged.{range-kept}
 use Rattle.conduct.proofs.Filled.{locked-kept, one-slot-filled, no-page-no-fill}
 use Rattle.conduct.proofs.Cached.{fault-not-cached}
 use Rattle.conduct.proofs.Flushed.{flush-exact}
@@ -24,9 +15,8 @@ use Rattle.conduct.proofs.Answering.{answers-on, prefetch-answered, shift-answe
 use Rattle.conduct.proofs.Held.{fault-held, fault-dropped}
 use Rattle.conduct.proofs.Kept.{frames}
 use Rattle.conduct.proofs.Written.{read-back, read-shown, reset-fresh, load-copied, load-then-copy}
-use Rattle.translates.proofs.Theorems.{image-translates}
 use Rattle.demands.proofs.Building.{build-refuses, build-leaves}
-use Rattle.demands.specs.Demands.{Demand1, Demand2, Demand3, AsList}
+use Rattle.demands.specs.Demands.{Demand1, Demand2, Demand3}
 use Rattle.demands.proofs.Lists.{list-said, as-list, refused-uniform, refused-plain, start-is}
 
 pub demand-1 : Demand1
@@ -73,7 +63,7 @@ demand-3 rs base room len m v p b₀ cs b c va a r bytes acc standing on adm =
     (sym (start-is rs base room len acc m v p b₀ on))
     (by (lentOk m) refl)
   where
-    never : Uniform limit (lookFrom m base) → CacheNeverShows m (startControl v) base
+    never : Uniform limit (lookIn m base) → CacheNeverShows m (startControl v) base
     never = cache-never-shows m (startControl v) base (start-on v) (start-walking v)
 
     by : (t : Bool) → lentOk m ≡ t → asked (after m (started (startControl v) base) cs) c ≡ asks va a →
@@ -81,7 +71,7 @@ demand-3 rs base room len m v p b₀ cs b c va a r bytes acc standing on adm =
     by true e q s f =
         let t = image-translates rs base room len m bytes acc e standing in
         let n = never (t .uniform) cs b c va a r adm q s f in
-        as-list r _ (n .1 ∙ list-said (lookFrom m base) (mappings rs) va a (t .gives va (n .0)))
+        as-list r _ (n .1 ∙ list-said (lookIn m base) (mappings rs) va a (t .gives va (n .0)))
     by false e q s f =
         let n = never (refused-uniform m base e) cs b c va a r adm q s f in
         absurd (true≢false (sym (ap isRefusal (n .1 ∙ refused-plain m base va a e)) ∙ f))

@@ -1,8 +1,8 @@
 -- All of it holds. Assumes nothing.
+use Rattle.demands.proofs.Names.{started-in-any-order}
 use Rattle.demands.specs.Signed.{Signed}
 use Rattle.demands.proofs.Proved.{demand-1, demand-2, demand-3}
 use Rattle.demands.proofs.Answering.{requests-answered, retries-answered}
-use Rattle.coherence.proofs.Started.{started-in-any-order}
 use Rattle.demands.proofs.Buyer.{built-then-called, built-session, exhibited}
 
 pub signed : Signed

@@ -1,23 +1,8 @@
 -- What keeps demand 3 from being hollow: each request that the paper does not refuse is in fact answered, and so is each retry.
-use Rattle.page.specs.Words.{megabytes, limit}
-use Rattle.page.specs.Ground.{ℕ, _%_, _<_, _≡_, true, false, List, [], _∷_}
-use Rattle.memory.specs.Memory.{Lent, lentOk}
-use Rattle.bill.specs.Bill.{moneyOk}
-use Rattle.records.specs.Mappings.{mappings}
-use Rattle.records.specs.Meanings.{meaning}
-use Rattle.builder.specs.declared.Built.{Built}
-use Rattle.builder.specs.Image.{image}
-use Rattle.builder.specs.Build.{answerOf}
-use Rattle.registers.specs.Answers.{isPrefetch}
-use Rattle.registers.specs.declared.Pending.{Pending}
-use Rattle.decision.specs.Types.{Access, VirtualAddress, Bill, Prices, Fault}
-use Rattle.unit.specs.declared.Device.{Device}
-use Rattle.unit.specs.Offsets.{acknowledgeAt}
-use Rattle.unit.specs.Calls.{requestOf, writeOf}
-use Rattle.conduct.specs.Refused.{BytesFit, ValueFits}
-use Rattle.coherence.specs.Sessions.{BilledCall, after, Admitted}
-use Rattle.coherence.specs.Started.{TurnsOn, start}
-use Rattle.translates.specs.Statements.{Bytes, Standing}
+use Rattle.demands.specs.Demands.Names.{megabytes, limit, ℕ, _%_, _<_, _≡_, true, false, List, [], _∷_, Lent, lentOk, moneyOk, mappings}
+use Rattle.demands.specs.Demands.Names.{meaning, Built, image, answerOf, isPrefetch, Pending, Access, VirtualAddress, Bill, Prices, Fault}
+use Rattle.demands.specs.Demands.Names.{Device, acknowledgeAt, requestOf, writeOf, BytesFit, ValueFits, BilledCall, after, Admitted, TurnsOn}
+use Rattle.demands.specs.Demands.Names.{start, Bytes, Standing}
 use Rattle.demands.specs.Demands.{AsList}
 
 -- every value written has 16 bits, as its type says

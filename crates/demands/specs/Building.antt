@@ -1,14 +1,8 @@
 -- The builder, demand 1: each refusal, with its index or count, exactly when the paper says (01, "When the unit says no"); and demand 2:
 -- what an accepted build answers and leaves (01, "The builder").
-use Rattle.page.specs.Words.{megabytes}
-use Rattle.page.specs.Ground.{ℕ, zero, suc, _≡_, Bool, true, false, not, List, [], _∷_, _++_, eqb, ltb, length, drop}
-use Rattle.records.specs.Mappings.{mappings}
-use Rattle.records.specs.Refusals.{bad, overlapping, begun}
-use Rattle.tables.specs.Tables.{imageLength}
-use Rattle.builder.specs.Image.{image}
-use Rattle.builder.specs.declared.Built.{Built}
-use Rattle.builder.specs.Build.{roomOk, answerOf, buildOf, builtNumber, builtValue}
-use Rattle.unit.specs.Refusals.{Refusing, First, Clear}
+use Rattle.demands.specs.Demands.Names.{megabytes, ℕ, zero, suc, _≡_, Bool, true, false, not, List, [], _∷_, _++_, eqb, ltb, length, drop}
+use Rattle.demands.specs.Demands.Names.{mappings, bad, overlapping, begun, imageLength, image, Built, roomOk, answerOf, buildOf, builtNumber}
+use Rattle.demands.specs.Demands.Names.{builtValue, Refusing, First, Clear}
 
 -- record by record, 10 then 11, each with the record's index; then the rest
 abbrev pub recordRefusals : List ℕ → ℕ → ℕ → Refusing (ℕ × ℕ) → Refusing (ℕ × ℕ)

@@ -1,27 +1,10 @@
 -- Demand 3 in the buyer's order: build a list into a memory, lend that memory, start, call. And a session with list A.
-use Rattle.page.specs.Words.{virtual, physical}
-use Rattle.page.specs.Ground.{ℕ, _≡_, false, List, [], _∷_, replicate}
-use Rattle.page.specs.declared.PhysicalAddress.{PhysicalAddress}
-use Rattle.memory.specs.Memory.{Lent, lent}
-use Rattle.bill.specs.Bill.{f1, freshBill}
-use Rattle.records.specs.Mappings.{mappings}
-use Rattle.records.specs.Meanings.{meaning}
-use Rattle.builder.specs.declared.Built.{Built}
-use Rattle.builder.specs.Build.{buildOf}
-use Rattle.prices.specs.declared.Price.{Price}
-use Rattle.registers.specs.Answers.{isRefusal}
-use Rattle.decision.specs.Types.{Access, VirtualAddress, Bill, Prices, Answer}
-use Rattle.unit.specs.declared.Device.{Device}
-use Rattle.unit.specs.Offsets.{prefetchAt, acknowledgeAt}
-use Rattle.unit.specs.Calls.{requestOf}
-use Rattle.unit.specs.Machine.{Call, request, write, read, drop-fault, answered, step}
-use Rattle.coherence.specs.Sessions.{BilledCall, after, Admitted, asked, asks}
-use Rattle.coherence.specs.Started.{TurnsOn, start}
-use Rattle.translates.specs.Statements.{Bytes}
-use Rattle.translates.specs.ListA.{recordsA, baseA}
+use Rattle.demands.specs.Demands.Names.{virtual, physical, ℕ, _≡_, false, List, [], _∷_, replicate, PhysicalAddress, Lent, lent, f1, freshBill}
+use Rattle.demands.specs.Demands.Names.{mappings, meaning, Built, buildOf, Price, isRefusal, Access, VirtualAddress, Bill, Prices, Answer}
+use Rattle.demands.specs.Demands.Names.{Device, prefetchAt, acknowledgeAt, requestOf, Call, request, write, read, drop-fault, answered, step}
+use Rattle.demands.specs.Demands.Names.{BilledCall, after, Admitted, asked, asks, TurnsOn, start, Bytes, recordsA, baseA, _⊎_}
 use Rattle.demands.specs.Demands.{AsList}
 use Rattle.demands.specs.Answering.{ValuesFit, Session}
-use mathlib.Core.Logic.{_⊎_}
 
 -- bytes are lent at a base, as the on-chip or the external memory
 abbrev pub LentAt : List ℕ → ℕ → Lent → Type 0

@@ -1,29 +1,7 @@
 -- The three demands of the buyer, over the definitions that the code's contracts cite. Their proofs: proofs/Proved.antt.
-use Rattle.page.specs.Words.{megabytes}
-use Rattle.page.specs.Ground.{ℕ, _≡_, false, List}
-use Rattle.memory.specs.Memory.{Lent}
-use Rattle.records.specs.declared.Meaning.{Meaning}
-use Rattle.records.specs.Mappings.{mappings}
-use Rattle.records.specs.Meanings.{meaning, meaningNumber, meaningValues}
-use Rattle.builder.specs.declared.Built.{Built}
-use Rattle.builder.specs.Image.{image}
-use Rattle.builder.specs.Build.{answerOf}
-use Rattle.registers.specs.declared.Fault.{Fault}
-use Rattle.registers.specs.Answers.{isRefusal}
+pub mod Names
+use Names.*
 use Rattle.registers.specs.Answers as N
-use Rattle.decision.specs.Types.{Access, VirtualAddress, Bill, Prices, Answer}
-use Rattle.unit.specs.Machine.{Call, answered, step}
-use Rattle.conduct.specs.Refused.{ExactlyWhen, AcceptedWhen, NothingChanges, BenchStays, GoodKept, RangeKept}
-use Rattle.conduct.specs.Filled.{LockedKept, OneSlotFilled, NoPageNoFill, FaultNotCached}
-use Rattle.conduct.specs.Flushed.{FlushExact}
-use Rattle.conduct.specs.Metered.{Metered, Billed, PostedMeters}
-use Rattle.conduct.specs.Answered.{OneAcknowledgement, OffIsVirtual, AnswersOn, PrefetchAnswered, ShiftAnswered, NothingSaid}
-use Rattle.conduct.specs.Held.{FaultHeld, FaultDropped}
-use Rattle.conduct.specs.Kept.{Frames}
-use Rattle.conduct.specs.Written.{ReadBack, ReadShown, ResetFresh, LoadCopied, LoadThenCopy}
-use Rattle.coherence.specs.Sessions.{BilledCall, after, Admitted, asked, asks}
-use Rattle.coherence.specs.Started.{TurnsOn, start}
-use Rattle.translates.specs.Statements.{Bytes, Standing}
 use Rattle.demands.specs.Building.{BuildRefuses, BuildLeaves}
 
 -- 1. It takes anything; each refusal comes when the paper says and at no other time, and then nothing is changed: device, bill and
@@ -47,7 +25,7 @@ pub record Demand2 : Type 0 where
   pub not-cached : FaultNotCached
   pub flushed : FlushExact
   pub metered : Metered
-  pub billed : Billed
+  pub billed : WordsBilled
   pub posted : PostedMeters
   pub held : FaultHeld
   pub dropped : FaultDropped
@@ -66,16 +44,16 @@ pub record Demand2 : Type 0 where
   pub built : BuildLeaves
 
 -- what a list alone answers
-abbrev pub said : Meaning → Answer
-said (Meaning.Byte p) = Answer.Address p
-said Meaning.Permission = Answer.Fault Fault.Permission
-said Meaning.Translation = Answer.Fault Fault.Translation
+abbrev pub meantAs : Meaning → Answer
+meantAs (Meaning.Byte p) = Answer.Address p
+meantAs Meaning.Permission = Answer.Fault Fault.Permission
+meantAs Meaning.Translation = Answer.Fault Fault.Translation
 
 -- an answer is the list's: its case, and in the paper's number and values
 pub record AsList (r : Answer) (x : Meaning) : Type 0 where
-  pub answer : r ≡ said x
-  pub number : N.number r ≡ meaningNumber x
-  pub values : N.values r ≡ meaningValues x
+  pub answer : r ≡ meantAs x
+  pub number : N.answerNumber r ≡ meaningNumber x
+  pub values : N.answerValues r ≡ meaningValues x
 
 -- 3. For a list that the builder accepts, its image standing at its base in one of the two memories, among any other bytes:
 -- after any calls but writes to control or base, with any prices and bills, each request or retry that is not refused answers

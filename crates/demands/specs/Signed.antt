@@ -1,5 +1,5 @@
 -- All that the buyer signs: the three demands, and what keeps the third from being hollow.
-use Rattle.coherence.specs.Started.{StartedInAnyOrder}
+use Rattle.demands.specs.Demands.Names.{StartedInAnyOrder}
 use Rattle.demands.specs.Demands.{Demand1, Demand2, Demand3}
 use Rattle.demands.specs.Answering.{RequestsAnswered, RetriesAnswered}
 use Rattle.demands.specs.Buyer.{BuiltThenCalled, BuiltSession, Exhibited}

@@ -1,16 +1,10 @@
 -- A global flush keeps V exactly where P is set, an entry flush clears V of exactly the matches; nothing else changes.
 -- Assumes nothing.
-use mathlib.Core.Path.{_≡_, refl, sym, ap, _∙_}
-use mathlib.Core.Bool.{true, false}
-use mathlib.Core.List.{List, [], _∷_, map}
-use Prim.Native.Nat.{ℕ, zero, suc}
-use lib.ListN.{getD}
-use Rattle.page.specs.Pick.{pick, _and_}
-use Rattle.page.specs.Words.{wordValid, wordPreserved, wordMatches, wordDropped, wordFlushed, wordFlushedAt}
-use Rattle.page.specs.declared.VirtualAddress.{VirtualAddress}
-use Rattle.page.proofs.Picks.{pick-yes, pick-no}
+use Rattle.lanes.specs.Names.{_≡_, true, List, map, ℕ, zero, suc, getD, pick, _and_}
+use Rattle.lanes.proofs.Names.{refl, sym, ap, _∙_, false, [], _∷_, wordMatches, wordDropped, wordFlushed, wordFlushedAt, VirtualAddress}
+use Rattle.lanes.proofs.Names.{pick-yes, pick-no, flushedAll, flushedEntry}
+use Rattle.page.specs.Words.{wordValid, wordPreserved}
 use Rattle.page.proofs.Slot.{dropped-off, flushed-valid}
-use Rattle.lanes.specs.Lanes.{flushedAll, flushedEntry}
 
 -- a slot past the end is empty, and a change that keeps the empty word changes each slot by itself
 pub getD-map : (f : ℕ → ℕ) → f 0 ≡ 0 → (l : List ℕ) (j : ℕ) → getD (map f l) j 0 ≡ f (getD l j 0)

@@ -1,3 +1,4 @@
+pub mod Names
 pub mod Loops
 pub mod Searches
 pub mod Ranges

@@ -1,12 +1,10 @@
 -- Two kinds of loop over the slots: one that rewrites each element, and one that reads them by index.
 -- Assumes nothing.
-use mathlib.Core.Path.{_≡_, refl, sym, ap, _∙_}
-use mathlib.Core.List.{List, [], _∷_, map}
-use Prim.Native.Nat.{ℕ, zero, suc, _+_, _<_, _≤_, _-_}
+use Rattle.lanes.specs.Names.{_≡_, List, map, ℕ, zero, suc, _+_, getD}
+use Rattle.lanes.proofs.Names.{refl, sym, ap, _∙_, [], _∷_, _<_, _≤_, _-_, arith, set}
 use native.Mathlib.Nat.{le-of-suc-le-suc, not-suc-le-zero}
 use native.Mathlib.Numerals.{add-one}
-use native.Mathlib.Omega.{arith}
-use lib.ListN.{length, getD, set}
+use lib.ListN.{length}
 
 module _ {A : Type 0} (f : A → A) where
   -- f of the first i elements, and the others as they were

@@ -1,20 +1,16 @@
 -- Words in range, and what keeps them there. Assumes nothing.
-use mathlib.Core.Path.{_≡_, refl, _∙_}
-use mathlib.Core.Bool.{Bool, true, false, _&&_}
-use mathlib.Core.List.{List, [], _∷_, map}
-use Prim.Native.Nat.{ℕ, zero, suc, _+_, _*_, _/_, _%_, _^_, _<_, _≤_, _-_}
-use native.Mathlib.Omega.{arith}
-use lib.ListN.{getD, set}
-use borrow.Author.Tests.{lt-ltb, ltb-true, eq-eqb}
-use Rattle.page.specs.Pick.{_and_}
+use Rattle.lanes.specs.Names.{_≡_, Bool, true, List, map, ℕ, zero, suc, _+_, _%_, _^_, getD, _and_}
+use Rattle.lanes.proofs.Names.{refl, _∙_, false, _&&_, [], _∷_, _<_, _≤_, _-_, arith, set, lt-ltb, wordDropped, wordFlushed, wordFlushedAt}
+use Rattle.lanes.proofs.Names.{VirtualAddress, pick-by, and-yes, slots, camOk, ramOk}
+use Prim.Native.Nat.{_*_, _/_}
+use borrow.Author.Tests.{ltb-true, eq-eqb}
 use Rattle.page.specs.Low.{upper}
-use Rattle.page.specs.Words.{lowBits, typeOf, wordDropped, wordFlushed, wordFlushedAt, madeCam, madeRam}
+use Rattle.page.specs.Words.{lowBits, typeOf, madeCam, madeRam}
 use Rattle.page.specs.declared.Kind.{Kind}
-use Rattle.page.specs.declared.VirtualAddress.{VirtualAddress}
-use Rattle.page.proofs.Picks.{pick-by, and-yes, and-left, and-right}
+use Rattle.page.proofs.Picks.{and-left, and-right}
 use Rattle.page.proofs.Lower.{upper-le}
 use Rattle.page.proofs.Slot.{start-1024, typeOf-lt}
-use Rattle.lanes.specs.Lanes.{slots, camLimit, allFrom, camOk, ramOk}
+use Rattle.lanes.specs.Lanes.{camLimit, allFrom}
 use Rattle.lanes.proofs.Searches.{from-next}
 
 -- what a check of every word answers, with ok so far and n words from i still to come

@@ -1,17 +1,10 @@
 -- What a search of the slots finds: the lowest that matches, and nothing only where none does. Assumes nothing.
-use mathlib.Core.Path.{_≡_, refl, sym, _∙_, ap, subst}
-use mathlib.Core.Bool.{Bool, true, false}
-use mathlib.Core.List.{List}
-use Prim.Native.Nat.{ℕ, zero, suc, _+_, _<_, _≤_}
-use native.Mathlib.Omega.{arith}
-use lib.Dec.{eqb}
-use lib.ListN.{getD}
+use Rattle.lanes.specs.Names.{_≡_, Bool, true, List, ℕ, zero, suc, _+_, eqb, getD}
+use Rattle.lanes.proofs.Names.{refl, sym, _∙_, ap, false, _<_, _≤_, arith, wordMatches, VirtualAddress, pick-yes, pick-no, pick-by, slots}
+use mathlib.Core.Path.{subst}
 use borrow.Author.Tests.{eqb-true, eqb-false}
-use Rattle.page.specs.Words.{wordMatches}
-use Rattle.page.specs.declared.VirtualAddress.{VirtualAddress}
-use Rattle.page.proofs.Picks.{pick-yes, pick-no, pick-by}
 use Rattle.lanes.specs.declared.Matched.{Matched}
-use Rattle.lanes.specs.Lanes.{slots, lookedFrom, lookedUp}
+use Rattle.lanes.specs.Lanes.{lookedFrom, lookedUp}
 
 -- a property of every slot from i, seen at slot i and at those after it
 pub from-next : (P : ℕ → Type 0) (n i j : ℕ) → P i → (i + 1 ≤ j → j < i + 1 + n → P j) → i ≤ j → j < i + suc n → P j

@@ -1,6 +1,5 @@
 -- One lane of the slots' words: the search, what is in range, the flushes (01, "The unit", "Registers").
-use Rattle.page.specs.Ground.{ℕ, zero, suc, _+_, _%_, _^_, Bool, true, List, map, eqb, ltb, getD}
-use Rattle.page.specs.Pick.{pick, _and_}
+use Rattle.lanes.specs.Names.{ℕ, zero, suc, _+_, _%_, _^_, Bool, true, List, map, eqb, ltb, getD, pick, _and_}
 use Rattle.page.specs.Words.{wordMatches, wordFlushed, wordFlushedAt}
 use Rattle.page.specs.declared.VirtualAddress.{VirtualAddress}
 use Rattle.lanes.specs.declared.Matched.{Matched}

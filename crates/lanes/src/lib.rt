@@ -1,6 +1,6 @@
 // One lane of the slots' words: the flushes, and what is in range.
 use page::VirtualAddress;
-ghost use mathlib.Core.Path.{_≡_};
+ghost use Rattle.lanes.specs.Names.{_≡_};
 ghost use Rattle.lanes.specs.Lanes.{ramOk, camsOk, ramsOk, flushedAll, flushedEntry};
 
 // How many slots there are.

@@ -1,27 +1,11 @@
 -- A text that is accepted is never refused 10. Assumes nothing.
-use mathlib.Core.Path.{_≡_, refl, sym, ap, _∙_, subst}
-use mathlib.Core.Bool.{Bool, true, false, not}
-use mathlib.Core.List.{List, [], _∷_, _++_, append-assoc}
-use Prim.Native.Nat.{ℕ, zero, suc, _+_, _*_, _≤_, _<_}
-use native.Mathlib.Omega.{arith}
-use native.Mathlib.Decide.{decLe}
-use borrow.Author.Tests.{lt-leb, leb-false, ltb-false}
-use lib.Dec.{leb, ltb}
-use lib.ListN.{length, take, drop, set, length-append, length-drop, take-append-drop}
-use lib.Seq.{length-take-le, take-append-le, drop-append-le, take-at, drop-at}
-use Rattle.page.specs.Pick.{pick, _or_}
-use Rattle.page.specs.Words.{megabytes}
-use Rattle.page.proofs.Picks.{pick-no, pick-by, or-no}
-use Rattle.records.specs.declared.Mapping.{Mapping}
-use Rattle.records.specs.Mappings.{recordAt}
-use Rattle.records.specs.Checks.{wellFormed}
-use Rattle.records.specs.declared.Checked.{Checked}
-use Rattle.records.specs.Refusals.{bad, overlapping, checkedFrom, begun, checked}
-use Rattle.listing.specs.declared.Wrong.{Wrong}
-use Rattle.listing.specs.declared.Said.{Said}
-use Rattle.listing.specs.declared.Listed.{Listed}
-use Rattle.listing.specs.Lines.{said}
-use Rattle.listing.specs.Texts.{linesOf, recordOf, pasted, Reading, reading, bySaid, readLines, readText}
+use Rattle.listing.specs.Names.{_≡_, Bool, true, false, not, List, [], _∷_, _++_, ℕ, zero, suc, _+_, _*_, _≤_, _<_, leb, ltb, length, take}
+use Rattle.listing.specs.Names.{drop, set, pick, _or_, megabytes, Mapping, recordAt, wellFormed, Checked, checked, Wrong, Said, Listed}
+use Rattle.listing.proofs.Names.{refl, sym, ap, _∙_, subst, append-assoc, arith, decLe, lt-leb, leb-false, ltb-false, length-append}
+use Rattle.listing.proofs.Names.{length-drop, take-append-drop, length-take-le, take-at, drop-at, pick-no, pick-by, or-no, parsed, linesOf}
+use Rattle.listing.proofs.Names.{recordOf, pasted, Reading, reading, bySaid, readLines, readText}
+use lib.Seq.{take-append-le, drop-append-le}
+use Rattle.records.specs.Refusals.{bad, overlapping, checkedFrom, begun}
 use Rattle.listing.specs.Theorems.{NeverBad}
 use Rattle.listing.proofs.Pastes.{pasted-length}
 use Rattle.listing.proofs.Sound.{SoundSaid, sound-said, Sound, record-formed}
@@ -69,7 +53,8 @@ good-more l n m g h s = record {
   few = omega arith;
   room = subst (λ (k : ℕ). 3072 ≤ k) (sym (pasted-length l (12 * n) (recordOf m) (omega (arith, g .room)))) (g .room);
   each = λ j k. elim (decLe n j) [
-    | yes q ↦ subst (λ (i : ℕ). wellFormed megabytes (recordAt (pasted l (12 * n) (recordOf m)) i) ≡ true) (let z : n ≡ j = omega arith in z) (ap (wellFormed megabytes) (put-there l (recordOf m) n refl (omega (arith, g .room))) ∙ record-formed m s)
+    | yes q ↦ subst (λ (i : ℕ). wellFormed megabytes (recordAt (pasted l (12 * n) (recordOf m)) i) ≡ true) (let z : n ≡ j = omega arith in z)
+        (ap (wellFormed megabytes) (put-there l (recordOf m) n refl (omega (arith, g .room))) ∙ record-formed m s)
     | no q ↦ ap (wellFormed megabytes) (put-before l (recordOf m) n refl (omega (arith, g .room)) j (omega arith)) ∙ g .each j (omega arith)
   ];
 }
@@ -85,7 +70,7 @@ accept-lines : (t : List (List ℕ)) (i n : ℕ) (rs ls : List ℕ) → Good rs 
 unfolding readLines
 accept-lines [] i n rs ls g = λ q e. let z : n ≡ q = cc in subst (Good rs) z g
 accept-lines (l ∷ t) i n rs ls g =
-    go (said l) (sound-said l) (accept-lines t (suc i) n rs ls g) (λ m h s. accept-lines t (suc i) (suc n) (pasted rs (12 * n) (recordOf m)) (set ls n i) (good-more rs n m g h s))
+    go (parsed l) (sound-said l) (accept-lines t (suc i) n rs ls g) (λ m h s. accept-lines t (suc i) (suc n) (pasted rs (12 * n) (recordOf m)) (set ls n i) (good-more rs n m g h s))
   where
     go : (s : Said) → SoundSaid s → Accepts (readLines (suc i) n t rs ls)
         → ((m : Mapping) → n < 256 → Sound m → Accepts (readLines (suc i) (suc n) t (pasted rs (12 * n) (recordOf m)) (set ls n i)))

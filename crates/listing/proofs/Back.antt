@@ -1,32 +1,17 @@
 -- Well-formed records, printed and read back, are the same records. Assumes nothing.
-use mathlib.Core.Path.{_≡_, refl, sym, ap, ap₂, _∙_, subst}
-use mathlib.Core.Bool.{Bool, true, false}
-use mathlib.Core.List.{List, [], _∷_, _++_, append-assoc}
-use Prim.Native.Nat.{ℕ, zero, suc, _+_, _*_, _/_, _%_, _≤_, _<_, _-_}
-use native.Mathlib.Omega.{arith}
-use native.Mathlib.Nat.{mod-eq-of-lt}
-use native.Mathlib.Decide.{decLe}
-use borrow.Author.Tests.{le-leb, lt-leb, lt-ltb, le-ltb, ltb-true, leb-true, eqb-true}
-use lib.Dec.{eqb, leb, lit<, lit≤}
-use lib.ListN.{length, getD, take, drop, set, length-append, length-drop, length-take, List·getD-eq-default, length-set}
-use lib.Seq.{length-take-le, take-at, drop-append-add, drop-drop, take-add, take-all, getD-take, getD-drop, ext-getD, getD-set-other, getD-set-same}
-use Rattle.page.specs.Pick.{pick, _and_, _or_}
-use Rattle.page.specs.Words.{megabytes, typeOf, kindOf}
-use Rattle.page.proofs.Picks.{pick-yes, pick-no, pick-by, and-left, and-right, or-no}
-use Rattle.wire.specs.Words.{littleEndian, wordOf}
-use Rattle.records.specs.declared.Mapping.{Mapping}
-use Rattle.records.specs.Mappings.{recordAt, mappingOf, mappingsFrom, mappings}
-use Rattle.records.specs.Checks.{multiple, proper, wellFormed}
-use Rattle.listing.specs.declared.Class.{Class}
-use Rattle.listing.specs.declared.Wrong.{Wrong}
-use Rattle.listing.specs.declared.Said.{Said}
-use Rattle.listing.specs.declared.Listed.{Listed}
-use Rattle.listing.specs.Numbers.{end}
-use Rattle.listing.specs.Words.{run, belongs, accessNamed, same, blank}
-use Rattle.listing.specs.Lines.{mapping, said, bodyLength, fromKind}
-use Rattle.listing.specs.Texts.{longestText, linesOf, recordOf, pasted, Reading, reading, bySaid, readLines, readText}
-use Rattle.listing.specs.Prints.{accessText, lineText, printed, formedFrom, formed}
-use Rattle.listing.specs.Theorems.{ReadBack}
+use Rattle.listing.specs.Names.{_≡_, Bool, true, false, List, [], _∷_, _++_, ℕ, zero, suc, _+_, _*_, _/_, _%_, _≤_, _<_, _-_, eqb, leb, length}
+use Rattle.listing.specs.Names.{getD, take, drop, set, pick, _and_, _or_, megabytes, typeOf, Mapping, recordAt, mappings, multiple, wellFormed}
+use Rattle.listing.specs.Names.{Class, Wrong, Said, Listed}
+use Rattle.listing.proofs.Names.{refl, sym, ap, ap₂, _∙_, subst, append-assoc, arith, mod-eq-of-lt, decLe, le-leb, lt-leb, lt-ltb, le-ltb}
+use Rattle.listing.proofs.Names.{ltb-true, leb-true, eqb-true, lit≤, length-append, length-drop, length-take, List·getD-eq-default, length-set}
+use Rattle.listing.proofs.Names.{length-take-le, take-at, drop-append-add, drop-drop, kindOf, pick-yes, pick-no, pick-by, and-left, and-right}
+use Rattle.listing.proofs.Names.{or-no, wordOf, mappingOf, mappingsFrom, proper, end, runLength, belongs, accessNamed, sameBytes, blank, mapping, parsed}
+use Rattle.listing.proofs.Names.{bodyLength, fromKind, longestText, linesOf, recordOf, pasted, Reading, reading, bySaid, readLines, readText}
+use Rattle.listing.proofs.Names.{accessText, lineText, printed, formedFrom, formed}
+use lib.Dec.{lit<}
+use lib.Seq.{take-add, take-all, getD-take, getD-drop, ext-getD, getD-set-other, getD-set-same}
+use Rattle.wire.specs.Words.{littleEndian}
+use Rattle.listing.specs.Theorems.{ReadAgain}
 use Rattle.listing.proofs.Turns.{behind, lines-first}
 use Rattle.listing.proofs.Pastes.{pasted-none, pasted-then, pasted-length}
 use Rattle.listing.proofs.Columns.{mappings-count, printed-length}
@@ -36,14 +21,15 @@ use Rattle.listing.proofs.Sound.{Sound}
 
 -- a line and its end in front of a text
 cut : (w l : List ℕ) → In Class.Inline w → linesOf (w ++ (10 ∷ l)) ≡ w ∷ linesOf l
-unfolding behind run belongs pick
+unfolding behind runLength belongs pick
 cut w l h =
     let t : List ℕ = w ++ (10 ∷ l) in
-    let r : run Class.Inline t ≡ length w = run-append Class.Inline w (10 ∷ l) h ∙ (let z : length w + 0 ≡ length w = omega arith in z) in
+    let r : runLength Class.Inline t ≡ length w = run-append Class.Inline w (10 ∷ l) h ∙ (let z : length w + 0 ≡ length w = omega arith in z) in
     lines-first t
     ∙ ap (λ (n : ℕ). take n t ∷ behind n t) r
     ∙ ap₂ (λ (a : List ℕ) (b : List (List ℕ)). a ∷ b) (take-at w (10 ∷ l) (length w) refl)
-    (pick-yes _ _ _ (lt-ltb (length w) (length t) (omega (arith, length-append w (10 ∷ l)))) ∙ ap linesOf (ap (λ (n : ℕ). drop n t) (let z : suc (length w) ≡ length w + 1 = omega arith in z) ∙ drop-append-add w (10 ∷ l) 1))
+    (pick-yes _ _ _ (lt-ltb (length w) (length t) (omega (arith, length-append w (10 ∷ l))))
+    ∙ ap linesOf (ap (λ (n : ℕ). drop n t) (let z : suc (length w) ≡ length w + 1 = omega arith in z) ∙ drop-append-add w (10 ∷ l) 1))
 
 -- a mapping as its record's bytes say it
 record Told (m : Mapping) : Type 0 where
@@ -56,21 +42,22 @@ either : {P : Type 0} (b : Bool) → (b ≡ true → P) → (b ≡ false → P) 
 either true f g = f refl
 either false f g = g refl
 
-two-said : (m : Mapping) → Told m → m .access ≡ 2 → said (bare (m .kind) (m .at .0) (m .to .0) (accessText (m .access))) ≡ Said.Mapped m
-unfolding accessText pick accessNamed same _and_ run belongs blank _or_
+two-said : (m : Mapping) → Told m → m .access ≡ 2 → parsed (bare (m .kind) (m .at .0) (m .to .0) (accessText (m .access))) ≡ Said.Mapped m
+unfolding accessText pick accessNamed sameBytes _and_ runLength belongs blank _or_
 two-said m t e =
-    ap (λ (a : ℕ). said (bare (m .kind) (m .at .0) (m .to .0) (accessText a))) e
+    ap (λ (a : ℕ). parsed (bare (m .kind) (m .at .0) (m .to .0) (accessText a))) e
     ∙ said-bare (m .kind) (m .at .0) (m .to .0) 2 (t .sound .virtual) (t .sound .physical) (t .virtual) (t .physical) [] 114 (lit≤ tt, tt) (omega arith) (λ x. omega arith) refl refl (λ x. omega arith)
     ∙ ap (λ (a : ℕ). Said.Mapped (mapping (m .kind) (m .at .0) (m .to .0) a)) (sym e)
 
-three-said : (m : Mapping) → Told m → m .access ≡ 3 → said (bare (m .kind) (m .at .0) (m .to .0) (accessText (m .access))) ≡ Said.Mapped m
-unfolding accessText pick accessNamed same _and_ run belongs blank _or_
+three-said : (m : Mapping) → Told m → m .access ≡ 3 → parsed (bare (m .kind) (m .at .0) (m .to .0) (accessText (m .access))) ≡ Said.Mapped m
+unfolding accessText pick accessNamed sameBytes _and_ runLength belongs blank _or_
 three-said m t e =
-    ap (λ (a : ℕ). said (bare (m .kind) (m .at .0) (m .to .0) (accessText a))) e
-    ∙ said-bare (m .kind) (m .at .0) (m .to .0) 3 (t .sound .virtual) (t .sound .physical) (t .virtual) (t .physical) (114 ∷ []) 119 (lit≤ tt, (lit≤ tt, tt)) (omega arith) (λ x. omega arith) refl refl (λ x. omega arith)
+    ap (λ (a : ℕ). parsed (bare (m .kind) (m .at .0) (m .to .0) (accessText a))) e
+    ∙ said-bare (m .kind) (m .at .0) (m .to .0) 3 (t .sound .virtual) (t .sound .physical) (t .virtual) (t .physical) (114 ∷ []) 119 (lit≤ tt, (lit≤ tt, tt)) (omega arith)
+    (λ x. omega arith) refl refl (λ x. omega arith)
     ∙ ap (λ (a : ℕ). Said.Mapped (mapping (m .kind) (m .at .0) (m .to .0) a)) (sym e)
 
-told-said : (m : Mapping) → Told m → said (bare (m .kind) (m .at .0) (m .to .0) (accessText (m .access))) ≡ Said.Mapped m
+told-said : (m : Mapping) → Told m → parsed (bare (m .kind) (m .at .0) (m .to .0) (accessText (m .access))) ≡ Said.Mapped m
 told-said m t =
     either (eqb (m .access) 2)
     (λ e. two-said m t (eqb-true (m .access) 2 e))
@@ -89,7 +76,7 @@ lines-back : (m : Mapping) (l : List ℕ) → linesOf (lineText m ++ l) ≡ bare
 lines-back m l = ap linesOf (line-is m l) ∙ cut _ l (in-bare Class.Inline tt (m .kind) (m .at .0) (m .to .0) (accessText (m .access)) (access-high (m .access)))
 
 -- a line that says a mapping, read
-mapped-next : (i n : ℕ) (w : List ℕ) (t : List (List ℕ)) (rs ls : List ℕ) (m : Mapping) → n < 256 → said w ≡ Said.Mapped m
+mapped-next : (i n : ℕ) (w : List ℕ) (t : List (List ℕ)) (rs ls : List ℕ) (m : Mapping) → n < 256 → parsed w ≡ Said.Mapped m
     → readLines i n (w ∷ t) rs ls ≡ readLines (suc i) (suc n) t (pasted rs (12 * n) (recordOf m)) (set ls n i)
 unfolding readLines
 mapped-next i n w t rs ls m h e =
@@ -100,7 +87,7 @@ mapped-next i n w t rs ls m h e =
 
 -- the empty line behind the last
 nothing-last : (i n : ℕ) (rs ls : List ℕ) → readLines i n (linesOf []) rs ls ≡ reading (Listed.Mappings n) rs ls
-unfolding readLines linesOf said bodyLength fromKind run pick
+unfolding readLines linesOf parsed bodyLength fromKind runLength pick
 nothing-last i n rs ls = refl
 
 record-length : (m : Mapping) → length (recordOf m) ≡ 12
@@ -132,7 +119,8 @@ back-from rs f (suc k) c i room ls h g r =
       ih .1
           ∙ ap (λ (n : ℕ). pasted next n (take (12 * k) (drop (12 * suc c) rs))) (let z : 12 * suc c ≡ 12 * c + length (recordOf m) = omega arith in z)
           ∙ pasted-then room (12 * c) (recordOf m) fits (take (12 * k) (drop (12 * suc c) rs))
-          ∙ ap (pasted room (12 * c)) (ap₂ (λ (a b : List ℕ). a ++ b) (t .1) (ap (take (12 * k)) (ap (λ (n : ℕ). drop n rs) (let z : 12 * suc c ≡ 12 * c + 12 = omega arith in z) ∙ sym (drop-drop 12 (12 * c) rs)))
+          ∙ ap (pasted room (12 * c)) (ap₂ (λ (a b : List ℕ). a ++ b) (t .1)
+          (ap (take (12 * k)) (ap (λ (n : ℕ). drop n rs) (let z : 12 * suc c ≡ 12 * c + 12 = omega arith in z) ∙ sym (drop-drop 12 (12 * c) rs)))
           ∙ sym (take-add 12 (12 * k) (drop (12 * c) rs))
           ∙ ap (λ (n : ℕ). take n (drop (12 * c) rs)) (let z : 12 + 12 * k ≡ 12 * suc k = omega arith in z)),
     )
@@ -151,7 +139,8 @@ numbered-from rs f (suc k) c i room ls h g r =
     let ih = numbered-from rs f k (suc c) (suc i) (pasted room (12 * c) (recordOf m)) (set ls c i) (omega arith) (omega arith) (subst (λ (n : ℕ). 256 ≤ n) (sym (length-set ls c i)) r) in
     subst (λ (x : Reading). Numbered x ls c (suc k) i)
     (sym (ap (λ (x : List (List ℕ)). readLines i c x room ls) (lines-back m (printed (mappingsFrom rs (suc c) k)))
-    ∙ mapped-next i c (bare (m .kind) (m .at .0) (m .to .0) (accessText (m .access))) (linesOf (printed (mappingsFrom rs (suc c) k))) room ls m (omega arith) (told-said m (f c (omega arith) (omega arith))))) (
+    ∙ mapped-next i c (bare (m .kind) (m .at .0) (m .to .0) (accessText (m .access))) (linesOf (printed (mappingsFrom rs (suc c) k))) room ls m (omega arith)
+    (told-said m (f c (omega arith) (omega arith))))) (
       λ j a. ih .0 j (omega arith) ∙ getD-set-other ls c j i 0 (λ e. omega arith),
       λ j a b. elim (decLe j c) [
         | yes q ↦ ih .0 j (omega arith) ∙ ap (λ (n : ℕ). getD (set ls c i) n 0) (let z : j ≡ c = omega arith in z) ∙ getD-set-same ls c i 0 (omega arith) ∙ (let z : i ≡ i + (j - c) = omega arith in z)
@@ -277,7 +266,7 @@ byte-at rs j i b l = elim (decLe 12 i) [
   | no q ↦ subst (λ (x : ℕ). x < 256) (sym (getD-take 12 (drop (12 * j) rs) i 0 (omega arith) ∙ getD-drop (12 * j) rs i 0)) (b (12 * j + i))
 ]
 
-pub read-back : ReadBack
+pub read-back : ReadAgain
 unfolding readText formed mappings
 read-back rs room ls f b h g =
     let n : ℕ = length rs / 12 in
@@ -286,9 +275,19 @@ read-back rs room ls f b h g =
     let each = and-right _ _ (and-right _ _ f) in
     let size : (j : ℕ) → 12 * j + 12 ≤ length rs → length (recordAt rs j) ≡ 12 = λ j k. length-take-le 12 (drop (12 * j) rs) (omega (arith, length-drop (12 * j) rs)) in
     let short : length (printed (mappings rs)) ≤ longestText = omega (arith, printed-length (mappings rs), mappings-count rs) in
-    let told : (j : ℕ) → 12 * j + 12 ≤ length rs → j < n → Told (mappingOf (recordAt rs j)) = λ j k l. record-told (recordAt rs j) (size j k) (λ i. byte-at rs j i b (size j k)) (formed-at rs n 0 j each (omega arith) (omega arith)) in
-    let r = back-from rs (λ j k l. (told j k l, record-back (recordAt rs j) (size j k) (λ i. byte-at rs j i b (size j k)) (formed-at rs n 0 j each (omega arith) (omega arith)))) n 0 1 room ls (omega arith) (omega arith) h in
+    let told : (j : ℕ) → 12 * j + 12 ≤ length rs → j < n → Told (mappingOf (recordAt rs j)) =
+    λ j k l. record-told (recordAt rs j) (size j k) (λ i. byte-at rs j i b (size j k)) (formed-at rs n 0 j each (omega arith) (omega arith)) in
+    let r =
+    back-from rs (λ j k l. (
+      told j k l,
+      record-back (recordAt rs j) (size j k) (λ i. byte-at rs j i b (size j k))
+          (formed-at rs n 0 j each (omega arith) (omega arith)),
+    )) n 0 1 room ls (omega arith) (omega arith) h in
     let q = numbered-from rs told n 0 1 room ls (omega arith) (omega arith) g in
     subst (λ (x : Reading). (x .answer ≡ Listed.Mappings n) × (x .records ≡ pasted room 0 rs) × ((j : ℕ) → j < n → getD (x .lines) j 0 ≡ 1 + j))
-    (sym (pick-no _ _ _ (or-no _ _ (le-ltb (length room) 3072 h) ∙ le-ltb (length ls) 256 g) ∙ pick-no _ _ _ (le-ltb longestText (length (printed (mappings rs))) short)))
-    (r .0 ∙ ap Listed.Mappings (let z : 0 + n ≡ n = omega arith in z), r .1 ∙ ap (pasted room 0) (take-all (12 * n) rs (omega arith)), λ j k. q .1 j (omega arith) (omega arith) ∙ (let z : 1 + (j - 0) ≡ 1 + j = omega arith in z))
+    (sym (pick-no _ _ _ (or-no _ _ (le-ltb (length room) 3072 h) ∙ le-ltb (length ls) 256 g) ∙ pick-no _ _ _ (le-ltb longestText (length (printed (mappings rs))) short))) (
+      r .0 ∙ ap Listed.Mappings (let z : 0 + n ≡ n = omega arith in z),
+      r .1 ∙ ap (pasted room 0) (take-all (12 * n) rs (omega arith)),
+      λ j k. q .1 j (omega arith) (omega arith)
+          ∙ (let z : 1 + (j - 0) ≡ 1 + j = omega arith in z),
+    )

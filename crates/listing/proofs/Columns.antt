@@ -1,24 +1,12 @@
 -- A mapping's line, column by column; the lines of a list; and its records looked at one after the other. Assumes nothing.
-use mathlib.Core.Path.{_≡_, refl, sym, ap, ap₂, _∙_}
-use mathlib.Core.Bool.{true, false}
-use mathlib.Core.List.{List, [], _∷_, _++_, append-assoc}
-use Prim.Native.Nat.{ℕ, zero, suc, _+_, _*_, _-_, _/_, _≤_, _<_}
-use native.Mathlib.Omega.{arith}
-use native.Mathlib.Numerals.{add-one}
-use native.Mathlib.Nat.{add-zero}
-use borrow.Author.Tests.{le-ltb, ltb-false}
-use lib.ListN.{length, getD, take, drop, length-append, drop-of-length-le}
-use lib.Seq.{drop-cons}
-use Rattle.page.specs.Pick.{_and_}
-use Rattle.page.specs.Words.{megabytes}
-use Rattle.page.specs.declared.Kind.{Kind}
-use Rattle.page.proofs.Picks.{pick-yes, pick-no, pick-by, and-yes, and-no}
-use Rattle.records.specs.declared.Mapping.{Mapping}
-use Rattle.records.specs.Mappings.{recordAt, mappingsFrom, mappings, noMapping}
-use Rattle.records.specs.Checks.{wellFormed}
-use Rattle.listing.specs.declared.Printed.{Printed}
-use Rattle.listing.specs.Texts.{pasted}
-use Rattle.listing.specs.Prints.{hexText, kindColumn, hexColumn, accessText, accessColumn, lineText, printed, formedFrom, formed, Shown, shown, shownAt, Printing, printing, printText}
+use Rattle.listing.specs.Names.{_≡_, true, false, List, [], _∷_, _++_, ℕ, zero, suc, _+_, _*_, _-_, _/_, _≤_, _<_, length, getD, take, drop}
+use Rattle.listing.specs.Names.{_and_, megabytes, Kind, Mapping, recordAt, mappings, wellFormed, Printed}
+use Rattle.listing.proofs.Names.{refl, sym, ap, ap₂, _∙_, append-assoc, arith, add-one, add-zero, le-ltb, ltb-false, length-append}
+use Rattle.listing.proofs.Names.{drop-of-length-le, drop-cons, pick-yes, pick-no, pick-by, and-yes, and-no, mappingsFrom, pasted, hexText}
+use Rattle.listing.proofs.Names.{kindColumn, hexColumn, accessText, lineText, printed, formedFrom, formed, shown, shownAt, printText}
+use Rattle.records.specs.Mappings.{noMapping}
+use Rattle.listing.specs.Prints.{accessColumn, Printing, printing}
+use Rattle.wire.specs.Words.{Shown}
 use Rattle.listing.specs.Theorems.{PrintedWithin}
 use Rattle.listing.proofs.Pastes.{pasted-none, followed}
 
@@ -50,8 +38,17 @@ unfolding lineText
 line-length m =
     let p : List ℕ = hexColumn 8 (m .to .0) ++ accessColumn (m .access) in
     let v : List ℕ = hexColumn 6 (m .at .0) ++ p in
-    omega
-    (arith, length-append (kindColumn (m .kind)) v, length-append (hexColumn 6 (m .at .0)) p, length-append (hexColumn 8 (m .to .0)) (accessColumn (m .access)), kind-length (m .kind), six-length (m .at .0), eight-length (m .to .0), access-length (m .access))
+    omega (
+      arith,
+      length-append (kindColumn (m .kind)) v,
+      length-append (hexColumn 6 (m .at .0)) p,
+      length-append (hexColumn 8 (m .to .0)) (accessColumn (m .access)),
+      kind-length
+          (m .kind),
+      six-length (m .at .0),
+      eight-length (m .to .0),
+      access-length (m .access),
+    )
 
 -- the index behind bytes and the memory with them
 pub shown-count : (r n : ℕ) (o l : List ℕ) → shown r o ≡ shown n l → r ≡ n
@@ -82,7 +79,8 @@ line-made o o1 o2 o3 o4 v p at r m h a ve b pe d f =
     let g = eight-length (m .to .0) in
     let kv = length-append K W in
     let kvp = length-append (K ++ W) P in
-    let two : o2 ≡ pasted o at (K ++ W) = followed o o1 o2 at (at + 8) K W (omega arith) (omega arith) a (b ∙ ap (pasted o1 (at + 8)) (ap (λ (x : List ℕ). take 7 (drop 2 x)) ve ∙ six-of-eight (m .at .0))) in
+    let two : o2 ≡ pasted o at (K ++ W) =
+    followed o o1 o2 at (at + 8) K W (omega arith) (omega arith) a (b ∙ ap (pasted o1 (at + 8)) (ap (λ (x : List ℕ). take 7 (drop 2 x)) ve ∙ six-of-eight (m .at .0))) in
     let three : o3 ≡ pasted o at ((K ++ W) ++ P) = followed o o2 o3 at (at + 15) (K ++ W) P (omega arith) (omega arith) two (d ∙ ap (pasted o2 (at + 15)) pe) in
     shown-then o o3 o4 at (at + 24) r ((K ++ W) ++ P) A (omega arith) (omega arith) three f
     ∙ ap (shownAt o at) (append-assoc (K ++ W) P A ∙ append-assoc K W (P ++ A))
@@ -157,7 +155,8 @@ formed-last rs n i h v = sym (v ∙ ap (formedFrom rs i) (let z : n - i ≡ 0 = 
 pub print-on : (rs o o′ : List ℕ) (r : ℕ) → formed rs ≡ true → 27 * (length rs / 12) ≤ length o → shown r o′ ≡ shownAt o 0 (printed (mappings rs)) → printing (Printed.Length r) o′ ≡ printText rs o
 unfolding printText
 print-on rs o o′ r f h e =
-    ap₂ (λ (n : ℕ) (l : List ℕ). printing (Printed.Length n) l) (shown-count _ _ _ _ e ∙ (let z : 0 + length (printed (mappings rs)) ≡ length (printed (mappings rs)) = omega arith in z)) (shown-memory _ _ _ _ e)
+    ap₂ (λ (n : ℕ) (l : List ℕ). printing (Printed.Length n) l)
+    (shown-count _ _ _ _ e ∙ (let z : 0 + length (printed (mappings rs)) ≡ length (printed (mappings rs)) = omega arith in z)) (shown-memory _ _ _ _ e)
     ∙ sym (pick-yes _ _ _ f ∙ pick-no _ _ _ (le-ltb (length o) (27 * (length rs / 12)) h))
 
 from-length : (rs : List ℕ) (n i : ℕ) → length (mappingsFrom rs i n) ≡ n

@@ -1,23 +1,9 @@
 -- Where a line starts, and the words of its comment. Assumes nothing.
-use borrow.Rule.Slice.PartAt.{part-to-end}
-use mathlib.Core.Path.{_≡_, sym, ap, ap₂, _∙_, subst}
-use mathlib.Core.Bool.{true, false}
-use mathlib.Core.List.{List}
-use Prim.Native.Nat.{ℕ, zero, suc, _+_, _-_, _≤_, _<_}
-use native.Mathlib.Omega.{arith}
-use native.Mathlib.Decide.{decLe}
-use borrow.Author.Tests.{lt-ltb, le-ltb, ltb-false, ne-eqb}
-use lib.Dec.{ltb}
-use lib.ListN.{length, getD, take, drop, length-drop, length-take}
-use lib.Seq.{drop-drop}
-use Rattle.page.specs.Pick.{pick}
-use Rattle.page.proofs.Picks.{pick-yes, pick-no, pick-by, or-no}
-use Rattle.listing.specs.declared.Class.{Class}
-use Rattle.listing.specs.declared.Span.{Span}
-use Rattle.listing.specs.Words.{blank, run}
-use Rattle.listing.specs.Lines.{bodyLength, body}
-use Rattle.listing.specs.Purposes.{span, startOf, lineAt, solidTo, wordsFrom, commentOf, shifted, purposeOf}
-use Rattle.listing.specs.Texts.{longestText}
+use Rattle.listing.specs.Names.{_≡_, true, false, List, ℕ, zero, suc, _+_, _-_, _≤_, _<_, ltb, length, getD, take, drop, pick, Class, Span}
+use Rattle.listing.proofs.Names.{part-to-end, sym, ap, ap₂, _∙_, subst, arith, decLe, lt-ltb, le-ltb, ltb-false, ne-eqb, length-drop}
+use Rattle.listing.proofs.Names.{length-take, drop-drop, pick-yes, pick-no, pick-by, or-no, blank, runLength, bodyLength, body, startOf, solidTo}
+use Rattle.listing.proofs.Names.{commentOf, purposeOf, longestText}
+use Rattle.listing.specs.Purposes.{span, lineAt, wordsFrom, shifted}
 use Rattle.listing.specs.Theorems.{PurposeWithin}
 use Rattle.listing.proofs.Runs.{run-fits}
 
@@ -28,9 +14,9 @@ Started t k at i = startOf k t ≡ at + startOf (k - i) (drop at t)
 pub started-first : (t : List ℕ) (k : ℕ) → Started t k 0 0
 started-first t k = let z : startOf k t ≡ 0 + startOf k t = omega arith in z ∙ ap (λ (n : ℕ). 0 + startOf n t) (let y : k ≡ k - 0 = omega arith in y)
 
-module _ (t : List ℕ) (k at i r : ℕ) (h : i < k) (f : at ≤ length t) (e : r ≡ run Class.Inline (take (length t - at) (drop at t))) (v : Started t k at i) where
-  r-is : run Class.Inline (drop at t) ≡ r
-  r-is = sym (e ∙ ap (run Class.Inline) (part-to-end t at))
+module _ (t : List ℕ) (k at i r : ℕ) (h : i < k) (f : at ≤ length t) (e : r ≡ runLength Class.Inline (take (length t - at) (drop at t))) (v : Started t k at i) where
+  r-is : runLength Class.Inline (drop at t) ≡ r
+  r-is = sym (e ∙ ap (runLength Class.Inline) (part-to-end t at))
 
   here : startOf k t ≡ at + pick (ltb r (length (drop at t))) (suc r + startOf (k - (i + 1)) (drop (suc r) (drop at t))) (suc (length (drop at t)))
   unfolding startOf
@@ -84,11 +70,12 @@ solid-fits l zero = omega arith
 solid-fits l (suc n) = pick-by (λ (k : ℕ). k ≤ suc n) _ _ _ (λ _. let r = solid-fits l n in omega arith) (λ _. omega arith)
 
 -- a comment's words, by where the '#' stands
-module _ (l : List ℕ) (c r s : ℕ) (e : c ≡ run Class.Plain l) (d : c ≡ length l → ⊥) (f : r ≡ run Class.Blank (take (length l - (c + 1)) (drop (c + 1) l))) (g : s ≡ solidTo l (length l)) where
-  from-is : c + 1 + r ≡ wordsFrom l (run Class.Plain l)
+module _ (l : List ℕ) (c r s : ℕ) (e : c ≡ runLength Class.Plain l) (d : c ≡ length l → ⊥) (f : r ≡ runLength Class.Blank (take (length l - (c + 1)) (drop (c + 1) l)))
+    (g : s ≡ solidTo l (length l)) where
+  from-is : c + 1 + r ≡ wordsFrom l (runLength Class.Plain l)
   from-is =
-      ap (λ (n : ℕ). c + 1 + n) (f ∙ ap (run Class.Blank) (part-to-end l (c + 1)))
-      ∙ ap (λ (n : ℕ). n + run Class.Blank (drop n l)) (let z : c + 1 ≡ suc c = omega arith in z ∙ ap suc e)
+      ap (λ (n : ℕ). c + 1 + n) (f ∙ ap (runLength Class.Blank) (part-to-end l (c + 1)))
+      ∙ ap (λ (n : ℕ). n + runLength Class.Blank (drop n l)) (let z : c + 1 ≡ suc c = omega arith in z ∙ ap suc e)
 
   pub comment-none : s < c + 1 + r → span 0 0 ≡ commentOf l
   unfolding commentOf
@@ -106,23 +93,24 @@ unfolding commentOf
 comment-fits l =
     pick-by (λ (p : Span). (p .from ≤ p .to) × (p .to ≤ length l)) _ _ _ (λ _. (omega arith, omega arith))
     (λ _. pick-by (λ (p : Span). (p .from ≤ p .to) × (p .to ≤ length l)) _ _ _ (λ _. (omega arith, omega arith))
-    (λ b. (ltb-false (solidTo l (length l)) (wordsFrom l (run Class.Plain l)) b, solid-fits l (length l))))
+    (λ b. (ltb-false (solidTo l (length l)) (wordsFrom l (runLength Class.Plain l)) b, solid-fits l (length l))))
 
 -- a '#' that is found lies in the line
-pub hash-in : (l : List ℕ) (c : ℕ) → c ≡ run Class.Plain l → (c ≡ length l → ⊥) → c + 1 ≤ length l
+pub hash-in : (l : List ℕ) (c : ℕ) → c ≡ runLength Class.Plain l → (c ≡ length l → ⊥) → c + 1 ≤ length l
 hash-in l c e d = elim (decLe (c + 1) (length l)) [
   | yes h ↦ h
   | no h ↦ absurd (d (let z : c ≡ length l = omega (arith, e, run-fits Class.Plain l) in z))
 ]
 
 -- a line's comment as a part of the text
-module _ (t : List ℕ) (k s r : ℕ) (e : s ≡ startOf (k - 1) t) (h : s ≤ length t) (f : r ≡ run Class.Inline (take (length t - s) (drop s t))) (p : Span) (g : p ≡ commentOf (body (take (s + r - s) (drop s t)))) where
+module _ (t : List ℕ) (k s r : ℕ) (e : s ≡ startOf (k - 1) t) (h : s ≤ length t) (f : r ≡ runLength Class.Inline (take (length t - s) (drop s t))) (p : Span)
+    (g : p ≡ commentOf (body (take (s + r - s) (drop s t)))) where
   part : List ℕ
   part = take (s + r - s) (drop s t)
 
   part-is : part ≡ lineAt t s
   unfolding part
-  part-is = ap (λ (n : ℕ). take n (drop s t)) (let z : s + r - s ≡ r = omega arith in z ∙ f ∙ ap (run Class.Inline) (part-to-end t s))
+  part-is = ap (λ (n : ℕ). take n (drop s t)) (let z : s + r - s ≡ r = omega arith in z ∙ f ∙ ap (runLength Class.Inline) (part-to-end t s))
 
   inside : (n : ℕ) → n ≤ length (body (take (s + r - s) (drop s t))) → n ≤ length t
   inside n q = omega (arith, length-take (bodyLength (take (s + r - s) (drop s t))) (take (s + r - s) (drop s t)), length-take (s + r - s) (drop s t), length-drop s t)
@@ -154,6 +142,6 @@ purpose-within t k = pick-by Lies _ _ _ (λ _. (omega arith, omega arith)) (λ _
         let l : List ℕ = lineAt t s in
         let c = comment-fits (body l) in
         let a = length-take (bodyLength l) l in
-        let b = length-take (run Class.Inline (drop s t)) (drop s t) in
+        let b = length-take (runLength Class.Inline (drop s t)) (drop s t) in
         let d = length-drop s t in
         (omega (arith, c .0), omega (arith, c .1))

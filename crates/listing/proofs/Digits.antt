@@ -1,17 +1,7 @@
 -- Digits read one after the other. Assumes nothing.
-use mathlib.Core.Path.{_≡_, refl, sym, ap, _∙_, subst}
-use mathlib.Core.List.{List, [], _∷_}
-use Prim.Native.Nat.{ℕ, _+_, _*_, _≤_, _<_}
-use native.Mathlib.Omega.{arith}
-use native.Mathlib.Numerals.{add-one}
-use borrow.Author.Tests.{lt-ltb, le-ltb, ltb-true, ltb-false}
-use lib.Dec.{ltb}
-use lib.ListN.{length, getD, drop, drop-of-length-le}
-use lib.Seq.{drop-cons}
-use Rattle.page.specs.Pick.{pick}
-use Rattle.page.proofs.Picks.{pick-yes, pick-no, pick-by}
-use Rattle.listing.specs.declared.Number.{Number}
-use Rattle.listing.specs.Numbers.{end, digit, readOn}
+use Rattle.listing.specs.Names.{_≡_, List, [], _∷_, ℕ, _+_, _*_, _≤_, _<_, ltb, length, getD, drop, pick, Number}
+use Rattle.listing.proofs.Names.{refl, sym, ap, _∙_, subst, arith, add-one, lt-ltb, le-ltb, ltb-true, ltb-false, drop-of-length-le, drop-cons}
+use Rattle.listing.proofs.Names.{pick-yes, pick-no, pick-by, end, digit, readOn}
 
 -- past the end all values read alike
 pub past-alike : (w : List ℕ) (u v : ℕ) → end ≤ u → end ≤ v → readOn u w ≡ readOn v w
@@ -39,7 +29,8 @@ module _ (w : List ℕ) (v i : ℕ) (h : i < length w) (o : On w v i) where
       on-at
       ∙ pick-yes _ _ _ (ap (λ (x : ℕ). ltb x 16) (sym e) ∙ lt-ltb d 16 g)
       ∙ ap (λ (x : ℕ). readOn (16 * v + x) (drop (i + 1) w)) (sym e)
-      ∙ sym (ap (λ (x : ℕ). readOn x (drop (i + 1) w)) q ∙ pick-by (λ (x : ℕ). readOn x (drop (i + 1) w) ≡ readOn (16 * v + d) (drop (i + 1) w)) _ _ _ (λ _. refl) (λ b. past-alike (drop (i + 1) w) v (16 * v + d) (let z = ltb-false v end b in z) (let z = ltb-false v end b in omega arith)))
+      ∙ sym (ap (λ (x : ℕ). readOn x (drop (i + 1) w)) q ∙ pick-by (λ (x : ℕ). readOn x (drop (i + 1) w) ≡ readOn (16 * v + d) (drop (i + 1) w)) _ _ _ (λ _. refl)
+      (λ b. past-alike (drop (i + 1) w) v (16 * v + d) (let z = ltb-false v end b in z) (let z = ltb-false v end b in omega arith)))
 
 pub on-end : (w : List ℕ) (v i : ℕ) → length w ≤ i → On w v i → readOn 0 w ≡ pick (ltb v end) (Number.Value v) Number.TooLarge
 unfolding readOn

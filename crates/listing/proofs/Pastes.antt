@@ -1,12 +1,7 @@
 -- Bytes in a memory. Assumes nothing.
-use mathlib.Core.Path.{_≡_, sym, ap, ap₂, _∙_}
-use mathlib.Core.List.{List, [], _++_, append-assoc, append-nil}
-use Prim.Native.Nat.{ℕ, _+_, _≤_}
-use native.Mathlib.Omega.{arith}
-use native.Mathlib.Nat.{add-zero}
-use lib.ListN.{length, take, drop, length-append, length-drop, take-append-drop}
-use lib.Seq.{paste, take-length, length-take-le, take-at, drop-append-add, drop-drop}
-use Rattle.listing.specs.Texts.{pasted}
+use Rattle.listing.specs.Names.{_≡_, List, [], _++_, ℕ, _+_, _≤_, length, take, drop}
+use Rattle.listing.proofs.Names.{sym, ap, ap₂, _∙_, append-assoc, append-nil, arith, add-zero, length-append, length-drop, take-append-drop}
+use Rattle.listing.proofs.Names.{paste, take-length, length-take-le, take-at, drop-append-add, drop-drop, pasted}
 
 -- a copy of all of a text
 pub copied : (l o s : List ℕ) (at i : ℕ) → i ≡ length s → o ≡ paste l at s i → o ≡ pasted l at s

@@ -1,23 +1,9 @@
 -- A printed line read back says its mapping. Assumes nothing.
-use mathlib.Core.Path.{_≡_, refl, sym, ap, ap₂, _∙_, subst}
-use mathlib.Core.Bool.{true}
-use mathlib.Core.List.{List, [], _∷_, _++_, append-assoc, append-nil}
-use Prim.Native.Nat.{ℕ, suc, _^_, _≤_, _<_}
-use native.Mathlib.Omega.{arith}
-use borrow.Author.Tests.{ne-eqb}
-use lib.Dec.{lit≤}
-use lib.ListN.{length, length-append}
-use Rattle.page.specs.Pick.{pick, _and_, _or_}
-use Rattle.page.specs.declared.Kind.{Kind}
-use Rattle.page.proofs.Picks.{pick-yes, pick-no}
-use Rattle.records.specs.Checks.{multiple}
-use Rattle.listing.specs.declared.Class.{Class}
-use Rattle.listing.specs.declared.Named.{Named}
-use Rattle.listing.specs.declared.Said.{Said}
-use Rattle.listing.specs.Numbers.{end}
-use Rattle.listing.specs.Words.{blank, belongs, run, same, kindText, kindNamed, accessNamed}
-use Rattle.listing.specs.Lines.{mapping, fromVirtual, fromKind, afterKind, said}
-use Rattle.listing.specs.Prints.{hexText, kindColumn, hexColumn}
+use Rattle.listing.specs.Names.{_≡_, true, List, [], _∷_, _++_, ℕ, suc, _^_, _≤_, _<_, length, pick, _and_, _or_, Kind, multiple, Class, Named, Said}
+use Rattle.listing.proofs.Names.{refl, sym, ap, ap₂, _∙_, subst, append-assoc, append-nil, arith, ne-eqb, lit≤, length-append, pick-yes}
+use Rattle.listing.proofs.Names.{pick-no, end, blank, belongs, runLength, sameBytes, kindNamed, accessNamed, mapping, fromVirtual, fromKind, afterKind}
+use Rattle.listing.proofs.Names.{parsed, hexText, kindColumn, hexColumn}
+use Rattle.listing.specs.Words.{kindText}
 use Rattle.listing.proofs.Columns.{kind-length, six-length, eight-length}
 use Rattle.listing.proofs.Spelling.{Ink, In, in-append, in-one, in-hex, word-here, rest-here, virtual-back, ink-high, solid-none, said-whole}
 
@@ -35,7 +21,7 @@ column-is Kind.Small = refl
 column-is Kind.Tiny = refl
 
 pub blanks-are : (k : Kind) → In Class.Blank (32 ∷ kindBlanks k)
-unfolding run belongs blank pick _or_
+unfolding runLength belongs blank pick _or_
 blanks-are Kind.Section = refl
 blanks-are Kind.Large = refl
 blanks-are Kind.Small = refl
@@ -47,7 +33,7 @@ High [] = Unit
 High (x ∷ w) = (48 ≤ x) × High w
 
 in-high : (c : Class) → Ink c → (w : List ℕ) → High w → In c w
-unfolding run
+unfolding runLength
 in-high c i [] h = refl
 in-high c i (x ∷ w) h = pick-yes _ _ _ (ink-high c i x (h .0)) ∙ ap suc (in-high c i w (h .1))
 
@@ -58,14 +44,14 @@ kind-high Kind.Small = (lit≤ tt, (lit≤ tt, (lit≤ tt, (lit≤ tt, (lit≤ t
 kind-high Kind.Tiny = (lit≤ tt, (lit≤ tt, (lit≤ tt, (lit≤ tt, tt))))
 
 kind-named : (k : Kind) → kindNamed (kindText k) ≡ Named.Known k
-unfolding kindNamed same pick _and_
+unfolding kindNamed sameBytes pick _and_
 kind-named Kind.Section = refl
 kind-named Kind.Large = refl
 kind-named Kind.Small = refl
 kind-named Kind.Tiny = refl
 
-kind-first : (k : Kind) (l : List ℕ) → run Class.Blank (kindText k ++ l) ≡ 0
-unfolding run belongs blank pick _or_
+kind-first : (k : Kind) (l : List ℕ) → runLength Class.Blank (kindText k ++ l) ≡ 0
+unfolding runLength belongs blank pick _or_
 kind-first Kind.Section l = refl
 kind-first Kind.Large l = refl
 kind-first Kind.Small l = refl
@@ -102,11 +88,11 @@ bare-blank Class.Blank b = absurd b
 bare-blank Class.Solid b = absurd b
 
 three : (c : Class) → belongs c 32 ≡ true → In c (32 ∷ 32 ∷ 32 ∷ [])
-unfolding run
+unfolding runLength
 three c e = pick-yes _ _ _ e ∙ ap suc (pick-yes _ _ _ e ∙ ap suc (pick-yes _ _ _ e))
 
 in-blanks : (c : Class) → Bare c → (k : Kind) → In c (32 ∷ kindBlanks k)
-unfolding run
+unfolding runLength
 in-blanks c b Kind.Section = in-one c 32 (bare-blank c b)
 in-blanks c b Kind.Large = three c (bare-blank c b)
 in-blanks c b Kind.Small = three c (bare-blank c b)
@@ -129,10 +115,10 @@ spelled k v p w =
     ∙ ap (λ (m : List ℕ). kindText k ++ ((32 ∷ kindBlanks k) ++ m)) (append-assoc (hexText 6 v) (32 ∷ []) (hexColumn 8 p ++ (w ++ [])))
     ∙ ap (λ (m : List ℕ). kindText k ++ ((32 ∷ kindBlanks k) ++ (hexText 6 v ++ ((32 ∷ []) ++ m)))) (append-assoc (hexText 8 p) (32 ∷ []) (w ++ []))
 
-kind-back : (k : Kind) (l : List ℕ) → run Class.Solid l ≡ 0 → fromKind ([] ++ (kindText k ++ l)) ≡ fromVirtual k l
-unfolding fromKind run
+kind-back : (k : Kind) (l : List ℕ) → runLength Class.Solid l ≡ 0 → fromKind ([] ++ (kindText k ++ l)) ≡ fromVirtual k l
+unfolding fromKind runLength
 kind-back k l s =
-    pick-no _ _ _ (ne-eqb (run Class.Blank (kindText k ++ l)) (length (kindText k ++ l)) (λ e. kind-some k l (sym e ∙ kind-first k l)))
+    pick-no _ _ _ (ne-eqb (runLength Class.Blank (kindText k ++ l)) (length (kindText k ++ l)) (λ e. kind-some k l (sym e ∙ kind-first k l)))
     ∙ ap₂ (λ (x y : List ℕ). afterKind (kindNamed x) y)
     (word-here [] (kindText k) l refl (kind-first k l) (in-high Class.Solid tt (kindText k) (kind-high k)) s)
     (rest-here [] (kindText k) l refl (kind-first k l) (in-high Class.Solid tt (kindText k) (kind-high k)) s)
@@ -140,21 +126,30 @@ kind-back k l s =
 
 -- a printed line says its mapping
 module _ (k : Kind) (v p a : ℕ) (vl : v < 2 ^ 24) (pl : p < end) (vm : multiple k v ≡ true) (pm : multiple k p ≡ true) where
-  pub said-bare : (q : List ℕ) (y : ℕ) → High (q ++ (y ∷ [])) → length q ≤ 1 → (y ≡ 13 → ⊥) → run Class.Blank (q ++ (y ∷ [])) ≡ 0 → accessNamed (q ++ (y ∷ [])) ≡ a → (a ≡ 0 → ⊥)
-      → said (bare k v p (q ++ (y ∷ []))) ≡ Said.Mapped (mapping k v p a)
+  pub said-bare : (q : List ℕ) (y : ℕ) → High (q ++ (y ∷ [])) → length q ≤ 1 → (y ≡ 13 → ⊥) → runLength Class.Blank (q ++ (y ∷ [])) ≡ 0 → accessNamed (q ++ (y ∷ [])) ≡ a → (a ≡ 0 → ⊥)
+      → parsed (bare k v p (q ++ (y ∷ []))) ≡ Said.Mapped (mapping k v p a)
   said-bare q y h n r b e z =
       let w : List ℕ = q ++ (y ∷ []) in
       let wl = length-append q (y ∷ []) in
       let Q : List ℕ = kindColumn k ++ (hexColumn 6 v ++ (hexColumn 8 p ++ q)) in
-      let same : bare k v p w ≡ Q ++ (y ∷ []) =
+      let sameBytes : bare k v p w ≡ Q ++ (y ∷ []) =
       ap (λ (m : List ℕ). kindColumn k ++ (hexColumn 6 v ++ m)) (sym (append-assoc (hexColumn 8 p) q (y ∷ [])))
       ∙ ap (λ (m : List ℕ). kindColumn k ++ m) (sym (append-assoc (hexColumn 6 v) (hexColumn 8 p ++ q) (y ∷ [])))
       ∙ sym (append-assoc (kindColumn k) (hexColumn 6 v ++ (hexColumn 8 p ++ q)) (y ∷ [])) in
       let short : length (Q ++ (y ∷ [])) ≤ 200 =
-      omega
-      (arith, length-append Q (y ∷ []), length-append (kindColumn k) (hexColumn 6 v ++ (hexColumn 8 p ++ q)), length-append (hexColumn 6 v) (hexColumn 8 p ++ q), length-append (hexColumn 8 p) q, kind-length k, six-length v, eight-length p) in
-      ap said same
-      ∙ said-whole Q y r short (subst (In Class.Plain) same (in-bare Class.Plain tt k v p w h))
-      ∙ ap fromKind (sym same ∙ spelled k v p w)
+      omega (
+        arith,
+        length-append Q (y ∷ []),
+        length-append (kindColumn k) (hexColumn 6 v ++ (hexColumn 8 p ++ q)),
+        length-append (hexColumn 6 v) (hexColumn 8 p ++ q),
+        length-append
+            (hexColumn 8 p) q,
+        kind-length k,
+        six-length v,
+        eight-length p,
+      ) in
+      ap parsed sameBytes
+      ∙ said-whole Q y r short (subst (In Class.Plain) sameBytes (in-bare Class.Plain tt k v p w h))
+      ∙ ap fromKind (sym sameBytes ∙ spelled k v p w)
       ∙ kind-back k ((32 ∷ kindBlanks k) ++ (hexText 6 v ++ ((32 ∷ []) ++ (hexText 8 p ++ ((32 ∷ []) ++ (w ++ [])))))) (solid-none _)
       ∙ virtual-back k v p a vl pl vm pm w (in-high Class.Solid tt w h) b (omega arith) e z (32 ∷ kindBlanks k) (blanks-are k)

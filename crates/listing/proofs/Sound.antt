@@ -1,28 +1,11 @@
 -- A mapping that a line says is proper, and its record is well-formed. Assumes nothing.
-use mathlib.Core.Path.{_≡_, refl, sym, ap, _∙_}
-use mathlib.Core.Bool.{Bool, true, false}
-use mathlib.Core.List.{List}
-use Prim.Native.Nat.{ℕ, _+_, _*_, _/_, _%_, _<_}
-use native.Mathlib.Omega.{arith}
-use native.Mathlib.Nat.{mod-eq-of-lt}
-use borrow.Author.Tests.{lt-ltb, leb-false, eqb-true, eqb-false}
-use lib.Dec.{eqb, ltb}
-use Rattle.page.specs.Pick.{pick, _and_, _or_}
-use Rattle.page.specs.Words.{megabytes, limit, typeOf, kindOf}
-use Rattle.page.specs.declared.Kind.{Kind}
-use Rattle.page.proofs.Picks.{pick-by, and-yes, and-right, or-no}
-use Rattle.wire.specs.Words.{wordOf}
-use Rattle.records.specs.declared.Mapping.{Mapping}
-use Rattle.records.specs.Mappings.{mappingOf}
-use Rattle.records.specs.Checks.{multiple, proper, wellFormed}
-use Rattle.listing.specs.declared.Number.{Number}
-use Rattle.listing.specs.declared.Named.{Named}
-use Rattle.listing.specs.declared.Address.{Address}
-use Rattle.listing.specs.declared.Said.{Said}
-use Rattle.listing.specs.Numbers.{end, number}
-use Rattle.listing.specs.Words.{word, rest, kindNamed, accessNamed}
-use Rattle.listing.specs.Lines.{addressBy, addressOf, mapping, ended, fromAccess, afterPhysical, fromPhysical, afterVirtual, fromVirtual, afterKind, fromKind, plain, body, said}
-use Rattle.listing.specs.Texts.{recordOf}
+use Rattle.listing.specs.Names.{_≡_, Bool, true, false, List, ℕ, _+_, _*_, _/_, _%_, _<_, eqb, ltb, pick, _and_, _or_, megabytes, limit, typeOf}
+use Rattle.listing.specs.Names.{Kind, Mapping, multiple, wellFormed, Number, Named, Address, Said}
+use Rattle.listing.proofs.Names.{refl, sym, ap, _∙_, arith, mod-eq-of-lt, lt-ltb, leb-false, eqb-true, kindOf, pick-by, and-yes, and-right}
+use Rattle.listing.proofs.Names.{or-no, wordOf, mappingOf, proper, end, hexNumber, word, rest, kindNamed, accessNamed, addressBy, addressIn}
+use Rattle.listing.proofs.Names.{mapping, lineEnded, fromAccess, afterPhysical, fromPhysical, afterVirtual, fromVirtual, afterKind, fromKind}
+use Rattle.listing.proofs.Names.{uncommented, body, parsed, recordOf}
+use borrow.Author.Tests.{eqb-false}
 
 -- an address that is read lies below its end and is a multiple of the page's size
 abbrev Stands : ℕ → Kind → Address → Type 0
@@ -37,9 +20,9 @@ by-stands top k (Number.Value x) = pick-by (Stands top k) _ _ _ (λ _. tt) (λ b
 by-stands top k Number.TooLarge = tt
 by-stands top k Number.NotHex = tt
 
-stands : (top : ℕ) (k : Kind) (w : List ℕ) → Stands top k (addressOf top k w)
-unfolding addressOf
-stands top k w = pick-by (Stands top k) _ _ _ (λ _. tt) (λ _. by-stands top k (number w))
+stands : (top : ℕ) (k : Kind) (w : List ℕ) → Stands top k (addressIn top k w)
+unfolding addressIn
+stands top k w = pick-by (Stands top k) _ _ _ (λ _. tt) (λ _. by-stands top k (hexNumber w))
 
 -- an access that is named is 2 or 3
 access-named : (w : List ℕ) → (accessNamed w ≡ 0 → ⊥) → (eqb (accessNamed w) 2 or eqb (accessNamed w) 3) ≡ true
@@ -65,8 +48,8 @@ module _ (k : Kind) (v p : ℕ) (vs : (v < limit) × (multiple k v ≡ true)) (p
   made a h = record
       { formed = and-yes _ _ (lt-ltb v limit (vs .0)) ∙ and-yes _ _ (vs .1) ∙ and-yes _ _ (ps .1) ∙ h; virtual = vs .0; physical = ps .0 }
 
-  sound-ended : (a : ℕ) (l : List ℕ) → (eqb a 2 or eqb a 3) ≡ true → SoundSaid (ended (mapping k v p a) l)
-  unfolding ended
+  sound-ended : (a : ℕ) (l : List ℕ) → (eqb a 2 or eqb a 3) ≡ true → SoundSaid (lineEnded (mapping k v p a) l)
+  unfolding lineEnded
   sound-ended a l h = pick-by SoundSaid _ _ _ (λ _. made a h) (λ _. tt)
 
   sound-access : (l : List ℕ) → SoundSaid (fromAccess k v p l)
@@ -75,7 +58,7 @@ module _ (k : Kind) (v p : ℕ) (vs : (v < limit) × (multiple k v ≡ true)) (p
 
 sound-physical : (k : Kind) (v : ℕ) → (v < limit) × (multiple k v ≡ true) → (l : List ℕ) → SoundSaid (fromPhysical k v l)
 unfolding fromPhysical
-sound-physical k v vs l = go (addressOf end k (word l)) (stands end k (word l))
+sound-physical k v vs l = go (addressIn end k (word l)) (stands end k (word l))
   where
     go : (a : Address) → Stands end k a → SoundSaid (afterPhysical k v a (rest l))
     go (Address.At p) s = sound-access k v p vs s (rest l)
@@ -86,7 +69,7 @@ sound-physical k v vs l = go (addressOf end k (word l)) (stands end k (word l))
 
 sound-virtual : (k : Kind) (l : List ℕ) → SoundSaid (fromVirtual k l)
 unfolding fromVirtual
-sound-virtual k l = go (addressOf limit k (word l)) (stands limit k (word l))
+sound-virtual k l = go (addressIn limit k (word l)) (stands limit k (word l))
   where
     go : (a : Address) → Stands limit k a → SoundSaid (afterVirtual k a (rest l))
     go (Address.At v) s = sound-physical k v s (rest l)
@@ -103,9 +86,9 @@ sound-line : (l : List ℕ) → SoundSaid (fromKind l)
 unfolding fromKind
 sound-line l = pick-by SoundSaid _ _ _ (λ _. tt) (λ _. sound-kind (kindNamed (word l)) (rest l))
 
-pub sound-said : (l : List ℕ) → SoundSaid (said l)
-unfolding said
-sound-said l = pick-by SoundSaid _ _ _ (λ _. tt) (λ _. sound-line (plain (body l)))
+pub sound-said : (l : List ℕ) → SoundSaid (parsed l)
+unfolding parsed
+sound-said l = pick-by SoundSaid _ _ _ (λ _. tt) (λ _. sound-line (uncommented (body l)))
 
 -- a sound mapping's record says it
 word-of-bytes : (x : ℕ) → x < end → x % 256 + 256 * (x / 256 % 256) + 65536 * (x / 65536 % 256) + 16777216 * (x / 16777216 % 256) ≡ x

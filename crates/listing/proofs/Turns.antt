@@ -1,26 +1,10 @@
 -- A text read line by line. Assumes nothing.
-use borrow.Rule.Slice.PartAt.{part-to-end}
-use mathlib.Core.Path.{_≡_, refl, sym, ap, ap₂, _∙_}
-use mathlib.Core.Bool.{Bool, true, false, not}
-use mathlib.Core.List.{List, [], _∷_}
-use Prim.Native.Nat.{ℕ, suc, _+_, _*_, _-_, _≤_, _<_}
-use native.Mathlib.Omega.{arith}
-use native.Mathlib.Numerals.{add-one}
-use native.Mathlib.Decide.{decLe}
-use borrow.Author.Tests.{lt-ltb, le-ltb, le-leb, lt-leb, leb-true, leb-false}
-use lib.Dec.{eqb, ltb, leb}
-use lib.ListN.{length, take, drop, set, length-drop, length-set}
-use lib.Seq.{drop-drop}
-use Rattle.page.specs.Pick.{pick}
-use Rattle.page.proofs.Picks.{pick-yes, pick-no}
-use Rattle.records.specs.declared.Mapping.{Mapping}
-use Rattle.listing.specs.declared.Class.{Class}
-use Rattle.listing.specs.declared.Wrong.{Wrong}
-use Rattle.listing.specs.declared.Said.{Said}
-use Rattle.listing.specs.declared.Listed.{Listed}
-use Rattle.listing.specs.Words.{belongs, run}
-use Rattle.listing.specs.Lines.{said}
-use Rattle.listing.specs.Texts.{onto, linesOf, recordOf, pasted, reading, bySaid, readLines}
+use Rattle.listing.specs.Names.{_≡_, Bool, true, false, not, List, [], _∷_, ℕ, suc, _+_, _*_, _-_, _≤_, _<_, eqb, ltb, leb, length, take, drop}
+use Rattle.listing.specs.Names.{set, pick, Mapping, Class, Wrong, Said, Listed}
+use Rattle.listing.proofs.Names.{part-to-end, refl, sym, ap, ap₂, _∙_, arith, add-one, decLe, lt-ltb, le-ltb, le-leb, lt-leb, leb-true}
+use Rattle.listing.proofs.Names.{leb-false, length-drop, length-set, drop-drop, pick-yes, pick-no, belongs, runLength, parsed, linesOf, recordOf}
+use Rattle.listing.proofs.Names.{pasted, reading, bySaid, readLines}
+use Rattle.listing.specs.Texts.{onto}
 use Rattle.listing.proofs.Runs.{run-fits}
 
 -- the lines that follow n bytes of a text and a line feed, none where the text ends before it
@@ -34,12 +18,13 @@ ltb-suc a b = elim (decLe b a) [
 ]
 
 -- the first line of a text, and the others
-pub lines-first : (l : List ℕ) → linesOf l ≡ take (run Class.Inline l) l ∷ behind (run Class.Inline l) l
-unfolding linesOf run behind belongs
+pub lines-first : (l : List ℕ) → linesOf l ≡ take (runLength Class.Inline l) l ∷ behind (runLength Class.Inline l) l
+unfolding linesOf runLength behind belongs
 lines-first [] = ap (λ (t : List (List ℕ)). [] ∷ t) (sym (pick-no _ _ _ (le-ltb 0 0 (omega arith))))
 lines-first (x ∷ l) = split (lines-first l) (eqb x 10) refl
   where
-    split : linesOf l ≡ take (run Class.Inline l) l ∷ behind (run Class.Inline l) l → (b : Bool) → eqb x 10 ≡ b → linesOf (x ∷ l) ≡ take (run Class.Inline (x ∷ l)) (x ∷ l) ∷ behind (run Class.Inline (x ∷ l)) (x ∷ l)
+    split : linesOf l ≡ take (runLength Class.Inline l) l ∷ behind (runLength Class.Inline l) l → (b : Bool) → eqb x 10 ≡ b
+        → linesOf (x ∷ l) ≡ take (runLength Class.Inline (x ∷ l)) (x ∷ l) ∷ behind (runLength Class.Inline (x ∷ l)) (x ∷ l)
     split r true e =
         pick-yes _ _ _ e
         ∙ ap (λ (t : List (List ℕ)). [] ∷ t) (sym (pick-yes _ _ _ (lt-ltb 0 (suc (length l)) (omega arith))))
@@ -47,16 +32,16 @@ lines-first (x ∷ l) = split (lines-first l) (eqb x 10) refl
     split r false e =
         pick-no _ _ _ e
         ∙ ap (onto x) r
-        ∙ ap (λ (b : Bool). (x ∷ take (run Class.Inline l) l) ∷ pick b (linesOf (drop (suc (run Class.Inline l)) l)) []) (sym (ltb-suc (run Class.Inline l) (length l)))
+        ∙ ap (λ (b : Bool). (x ∷ take (runLength Class.Inline l) l) ∷ pick b (linesOf (drop (suc (runLength Class.Inline l)) l)) []) (sym (ltb-suc (runLength Class.Inline l) (length l)))
         ∙ ap (λ (n : ℕ). take n (x ∷ l) ∷ pick (ltb n (suc (length l))) (linesOf (drop (suc n) (x ∷ l))) []) (sym (pick-yes _ _ _ (ap not e)))
 
 -- the lines from byte at on, none past the text's end
 unfoldable pub linesFrom : List ℕ → ℕ → List (List ℕ)
 linesFrom t at = pick (leb at (length t)) (linesOf (drop at t)) []
 
-module _ (t : List ℕ) (at r : ℕ) (h : at ≤ length t) (e : r ≡ run Class.Inline (take (length t - at) (drop at t))) where
-  r-is : r ≡ run Class.Inline (drop at t)
-  r-is = e ∙ ap (run Class.Inline) (part-to-end t at)
+module _ (t : List ℕ) (at r : ℕ) (h : at ≤ length t) (e : r ≡ runLength Class.Inline (take (length t - at) (drop at t))) where
+  r-is : r ≡ runLength Class.Inline (drop at t)
+  r-is = e ∙ ap (runLength Class.Inline) (part-to-end t at)
 
   pub line-fits : at + r ≤ length t
   line-fits = omega (arith, r-is, run-fits Class.Inline (drop at t), length-drop at t)
@@ -103,7 +88,7 @@ unfolding linesFrom readLines
 turn-last t rs₀ ls₀ rs ls at i n v h = sym (v .left ∙ ap (λ (m : List (List ℕ)). readLines i n m rs ls) (pick-no _ _ _ (lt-leb at (length t) h)))
 
 module _ (t rs₀ ls₀ rs ls : List ℕ) (at i n : ℕ) (v : Turn t rs₀ ls₀ rs ls at i n) (h : at ≤ length t)
-    (r : ℕ) (e : r ≡ run Class.Inline (take (length t - at) (drop at t))) (s : Said) (f : s ≡ said (take (at + r - at) (drop at t))) where
+    (r : ℕ) (e : r ≡ runLength Class.Inline (take (length t - at) (drop at t))) (s : Said) (f : s ≡ parsed (take (at + r - at) (drop at t))) where
   here : (w : Said) → s ≡ w → readLines 1 0 (linesOf t) rs₀ ls₀ ≡ bySaid w
       (readLines (i + 1) n (linesFrom t (at + r + 1)) rs ls)
       (λ m. pick (leb 256 n) (reading (Listed.Bad i Wrong.TooManyMappings) rs ls) (readLines (i + 1) (n + 1) (linesFrom t (at + r + 1)) (pasted rs (12 * n) (recordOf m)) (set ls n i)))

@@ -1,14 +1,9 @@
 -- A text with all that a line may have, and what it is read to: comments, a tab, blanks, 0x, a CRLF end, a last line without an end.
-use Rattle.page.specs.Ground.{ℕ, _*_, _≤_, _≡_, List, [], _∷_, _++_, length, set}
-use Rattle.page.specs.declared.Kind.{Kind}
-use Rattle.records.specs.declared.Mapping.{Mapping}
-use Rattle.records.specs.Mappings.{recordSize}
-use Rattle.records.specs.Refusals.{most}
-use Rattle.listing.specs.declared.Wrong.{Wrong}
-use Rattle.listing.specs.declared.Listed.{Listed}
+use Rattle.listing.specs.Names.{ℕ, _*_, _≤_, _≡_, List, [], _∷_, _++_, length, set, Kind, Mapping, recordSize, most, Wrong, Listed}
 use Rattle.listing.specs.Lines.{mapping}
 use Rattle.listing.specs.Purposes.{span, purposeOf}
-use Rattle.listing.specs.Texts.{recordOf, pasted, reading, readText}
+use Rattle.listing.specs.Texts.{recordOf, reading, readText}
+use Rattle.wire.specs.Words.{pasted}
 
 -- "# list A", a line feed
 abbrev pub heading : List ℕ

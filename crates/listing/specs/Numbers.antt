@@ -1,7 +1,5 @@
 -- A word as a number in hex: upper or lower case, with or without 0x.
-use Rattle.page.specs.Ground.{ℕ, _+_, _-_, _*_, _^_, Bool, List, [], _∷_, eqb, ltb, leb, length, getD, drop}
-use Rattle.page.specs.Pick.{pick, _and_, _or_}
-use Rattle.listing.specs.declared.Number.{Number}
+use Rattle.listing.specs.Names.{ℕ, _+_, _-_, _*_, _^_, Bool, List, [], _∷_, eqb, ltb, leb, length, getD, drop, pick, _and_, _or_, Number}
 
 -- a byte between two others
 unfoldable pub within : ℕ → ℕ → ℕ → Bool
@@ -24,13 +22,13 @@ readOn v [] = pick (ltb v end) (Number.Value v) Number.TooLarge
 readOn v (x ∷ w) = pick (ltb (digit x) 16) (readOn (16 * v + digit x) w) Number.NotHex
 
 -- one digit at least
-unfoldable pub written : List ℕ → Number
-written w = pick (eqb (length w) 0) Number.NotHex (readOn 0 w)
+unfoldable pub hexDigits : List ℕ → Number
+hexDigits w = pick (eqb (length w) 0) Number.NotHex (readOn 0 w)
 
 -- a word that begins with 0x or 0X
 unfoldable pub prefixed : List ℕ → Bool
 prefixed w = leb 2 (length w) and eqb (getD w 0 0) 48 and (eqb (getD w 1 0) 120 or eqb (getD w 1 0) 88)
 
 -- the number that a word writes
-unfoldable pub number : List ℕ → Number
-number w = pick (prefixed w) (written (drop 2 w)) (written w)
+unfoldable pub hexNumber : List ℕ → Number
+hexNumber w = pick (prefixed w) (hexDigits (drop 2 w)) (hexDigits w)

@@ -1,15 +1,8 @@
 -- A list of records as text: a line for each, as reading takes it.
-use Rattle.page.specs.Ground.{ℕ, zero, suc, _+_, _*_, _/_, _%_, Bool, true, List, [], _∷_, _++_, eqb, ltb, leb, length}
-use Rattle.page.specs.Pick.{pick, _and_}
-use Rattle.page.specs.Words.{megabytes}
-use Rattle.page.specs.declared.Kind.{Kind}
-use Rattle.records.specs.declared.Mapping.{Mapping}
-use Rattle.records.specs.Mappings.{recordSize, recordAt, mappings}
-use Rattle.records.specs.Checks.{wellFormed}
-use Rattle.records.specs.Refusals.{most}
-use Rattle.listing.specs.declared.Printed.{Printed}
-use Rattle.listing.specs.Words.{kindText, readText, bothText}
-use Rattle.listing.specs.Texts.{pasted}
+use Rattle.listing.specs.Names.{ℕ, zero, suc, _+_, _*_, _/_, _%_, Bool, true, List, [], _∷_, _++_, eqb, ltb, leb, length, pick, _and_}
+use Rattle.listing.specs.Names.{megabytes, Kind, Mapping, recordSize, recordAt, mappings, wellFormed, most, Printed}
+use Rattle.listing.specs.Words.{kindText, readOnlyText, bothText}
+use Rattle.wire.specs.Words.{pasted, shown, Shown}
 
 -- a hex digit's byte, in upper case
 unfoldable pub glyph : ℕ → ℕ
@@ -33,7 +26,7 @@ hexColumn k x = hexText k x ++ (32 ∷ [])
 
 -- the word of an access
 unfoldable pub accessText : ℕ → List ℕ
-accessText a = pick (eqb a 3) bothText readText
+accessText a = pick (eqb a 3) bothText readOnlyText
 
 -- an access's word and the line's end
 abbrev pub accessColumn : ℕ → List ℕ
@@ -60,14 +53,6 @@ formedFrom rs i (suc k) = wellFormed megabytes (recordAt rs i) and formedFrom rs
 -- a list of well-formed records: all are whole, and there are at most as many as the builder takes
 unfoldable pub formed : List ℕ → Bool
 formed rs = eqb (length rs % recordSize) 0 and leb (length rs / recordSize) most and formedFrom rs 0 (length rs / recordSize)
-
--- how many bytes at the front of a memory are the text, and the memory
-pub record Shown : Type 0 where
-  pub count : ℕ
-  pub memory : List ℕ
-
-abbrev pub shown : ℕ → List ℕ → Shown
-shown n l = record { count = n; memory = l }
 
 -- bytes in a memory from an index on, and the index behind them
 abbrev pub shownAt : List ℕ → ℕ → List ℕ → Shown

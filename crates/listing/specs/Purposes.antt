@@ -1,9 +1,6 @@
 -- What a line's mapping is for: the words of its comment, as a part of the text.
-use Rattle.page.specs.Ground.{ℕ, zero, suc, _+_, _-_, List, eqb, ltb, length, getD, take, drop}
-use Rattle.page.specs.Pick.{pick, _or_}
-use Rattle.listing.specs.declared.Class.{Class}
-use Rattle.listing.specs.declared.Span.{Span}
-use Rattle.listing.specs.Words.{blank, run}
+use Rattle.listing.specs.Names.{ℕ, zero, suc, _+_, _-_, List, eqb, ltb, length, getD, take, drop, pick, _or_, Class, Span}
+use Rattle.listing.specs.Words.{blank, runLength}
 use Rattle.listing.specs.Lines.{body}
 use Rattle.listing.specs.Texts.{longestText}
 
@@ -14,13 +11,13 @@ span from to = record { from = from; to = to }
 unfoldable pub startOf : ℕ → List ℕ → ℕ
 startOf zero t = 0
 startOf (suc k) t =
-    pick (ltb (run Class.Inline t) (length t))
-    (suc (run Class.Inline t) + startOf k (drop (suc (run Class.Inline t)) t))
+    pick (ltb (runLength Class.Inline t) (length t))
+    (suc (runLength Class.Inline t) + startOf k (drop (suc (runLength Class.Inline t)) t))
     (suc (length t))
 
 -- the line that starts there, without its end
 abbrev pub lineAt : List ℕ → ℕ → List ℕ
-lineAt t s = take (run Class.Inline (drop s t)) (drop s t)
+lineAt t s = take (runLength Class.Inline (drop s t)) (drop s t)
 
 -- where the last of n bytes that is no blank ends
 unfoldable pub solidTo : List ℕ → ℕ → ℕ
@@ -29,13 +26,13 @@ solidTo l (suc n) = pick (blank (getD l n 0)) (solidTo l n) (suc n)
 
 -- from a '#' at c on: the words behind it, without blanks on either side
 abbrev pub wordsFrom : List ℕ → ℕ → ℕ
-wordsFrom l c = suc c + run Class.Blank (drop (suc c) l)
+wordsFrom l c = suc c + runLength Class.Blank (drop (suc c) l)
 
 unfoldable pub commentOf : List ℕ → Span
 commentOf l =
-    pick (eqb (run Class.Plain l) (length l)) (span 0 0)
-    (pick (ltb (solidTo l (length l)) (wordsFrom l (run Class.Plain l))) (span 0 0)
-    (span (wordsFrom l (run Class.Plain l)) (solidTo l (length l))))
+    pick (eqb (runLength Class.Plain l) (length l)) (span 0 0)
+    (pick (ltb (solidTo l (length l)) (wordsFrom l (runLength Class.Plain l))) (span 0 0)
+    (span (wordsFrom l (runLength Class.Plain l)) (solidTo l (length l))))
 
 -- a part of a line as a part of the text
 abbrev pub shifted : ℕ → Span → Span

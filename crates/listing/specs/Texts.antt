@@ -1,14 +1,8 @@
 -- A text as lines, and its mappings as the builder's records (01, "The builder"), up to the first bad line.
-use Rattle.page.specs.Ground.{ℕ, suc, _+_, _*_, _/_, _%_, _≤_, List, [], _∷_, _++_, eqb, ltb, leb, length, take, drop, set}
-use Rattle.page.specs.Pick.{pick, _or_}
-use Rattle.page.specs.Words.{typeOf}
-use Rattle.records.specs.declared.Mapping.{Mapping}
-use Rattle.records.specs.Mappings.{recordSize}
-use Rattle.records.specs.Refusals.{most}
-use Rattle.listing.specs.declared.Wrong.{Wrong}
-use Rattle.listing.specs.declared.Said.{Said}
-use Rattle.listing.specs.declared.Listed.{Listed}
-use Rattle.listing.specs.Lines.{said}
+use Rattle.listing.specs.Names.{ℕ, suc, _*_, _%_, _≤_, List, [], _∷_, _++_, eqb, ltb, leb, length, set, pick, _or_, typeOf, Mapping, recordSize}
+use Rattle.listing.specs.Names.{most, Wrong, Said, Listed}
+use Rattle.listing.specs.Lines.{parsed}
+use Rattle.wire.specs.Words.{wordBytes, pasted}
 
 -- the most bytes of a text
 abbrev pub longestText : ℕ
@@ -24,17 +18,9 @@ unfoldable pub linesOf : List ℕ → List (List ℕ)
 linesOf [] = [] ∷ []
 linesOf (x ∷ t) = pick (eqb x 10) ([] ∷ linesOf t) (onto x (linesOf t))
 
--- a word's four bytes, little-endian
-abbrev pub wordBytes : ℕ → List ℕ
-wordBytes w = w % 256 ∷ w / 256 % 256 ∷ w / 65536 % 256 ∷ w / 16777216 % 256 ∷ []
-
 -- a mapping's record: virtual, physical, type, access, two zero bytes
 unfoldable pub recordOf : Mapping → List ℕ
 recordOf m = wordBytes (m .at .0) ++ (wordBytes (m .to .0) ++ (typeOf (m .kind) ∷ m .access % 256 ∷ 0 ∷ 0 ∷ []))
-
--- bytes in a memory, from an index on
-unfoldable pub pasted : List ℕ → ℕ → List ℕ → List ℕ
-pasted l at s = (take at l ++ s) ++ drop (at + length s) l
 
 -- what reading leaves: the answer, the memory of the records, and that of the line numbers
 pub record Reading : Type 0 where
@@ -61,7 +47,7 @@ bySaid (Said.Bad w) a f g = g w
 unfoldable pub readLines : ℕ → ℕ → List (List ℕ) → List ℕ → List ℕ → Reading
 readLines i n [] rs ls = reading (Listed.Mappings n) rs ls
 readLines i n (l ∷ t) rs ls =
-    bySaid (said l)
+    bySaid (parsed l)
     (readLines (suc i) n t rs ls)
     (λ m.
     pick (leb most n) (reading (Listed.Bad i Wrong.TooManyMappings) rs ls)

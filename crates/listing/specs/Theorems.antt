@@ -1,12 +1,8 @@
 -- What reading and printing promise together, and what reading promises the builder.
-use Rattle.page.specs.Ground.{ℕ, _+_, _*_, _/_, _<_, _≤_, _≡_, true, List, length, getD, take}
-use Rattle.page.specs.Words.{megabytes}
-use Rattle.records.specs.Mappings.{recordSize, mappings}
-use Rattle.records.specs.declared.Checked.{Checked}
-use Rattle.records.specs.Refusals.{most, checked}
-use Rattle.listing.specs.declared.Listed.{Listed}
-use Rattle.listing.specs.declared.Printed.{Printed}
-use Rattle.listing.specs.Texts.{pasted, readText}
+use Rattle.listing.specs.Names.{ℕ, _+_, _*_, _/_, _<_, _≤_, _≡_, true, List, length, getD, take, megabytes, recordSize, mappings, Checked, most}
+use Rattle.listing.specs.Names.{checked, Listed, Printed}
+use Rattle.listing.specs.Texts.{readText}
+use Rattle.wire.specs.Words.{pasted}
 use Rattle.listing.specs.Prints.{printed, formed, printText}
 use Rattle.listing.specs.Purposes.{purposeOf}
 
@@ -17,8 +13,8 @@ NeverBad =
     → (n ≤ most) × (checked megabytes (take (recordSize * n) (readText t rs ls .records)) ≡ Checked.BadRecord i → ⊥)
 
 -- well-formed records, printed and read back, are the same records, record j from line j + 1
-abbrev pub ReadBack : Type 0
-ReadBack =
+abbrev pub ReadAgain : Type 0
+ReadAgain =
     (rs room ls : List ℕ) → formed rs ≡ true → ((i : ℕ) → getD rs i 0 < 256) → recordSize * most ≤ length room → most ≤ length ls
     → (readText (printed (mappings rs)) room ls .answer ≡ Listed.Mappings (length rs / recordSize))
     × (readText (printed (mappings rs)) room ls .records ≡ pasted room 0 rs)

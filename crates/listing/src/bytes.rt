@@ -1,11 +1,9 @@
 // Bytes put into a memory, and a mapping as a record's bytes.
 use page::Kind;
 use records::Mapping;
-ghost use mathlib.Core.Path.{_≡_};
-ghost use Prim.Native.Nat.{_+_, _≤_};
-ghost use lib.ListN.{length};
-ghost use Rattle.page.specs.Words.{typeOf};
-ghost use Rattle.listing.specs.Texts.{pasted, recordOf};
+ghost use Rattle.listing.specs.Names.{_≡_, _+_, _≤_, length, typeOf};
+ghost use Rattle.listing.specs.Texts.{recordOf};
+ghost use Rattle.wire.specs.Words.{pasted};
 
 // Bytes, into a memory from an index on.
 pub(crate) fn put(out: &mut [u8], at: usize, s: &[u8])

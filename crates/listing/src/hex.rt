@@ -1,10 +1,7 @@
 // Numbers in hex: a digit, a word of digits.
 use crate::Number;
-ghost use mathlib.Core.Path.{_≡_};
-ghost use Prim.Native.Nat.{_+_, _*_, _<_};
-ghost use lib.Dec.{ltb};
-ghost use Rattle.page.specs.Pick.{pick};
-ghost use Rattle.listing.specs.Numbers.{end, within, digit, readOn, written, prefixed, number};
+ghost use Rattle.listing.specs.Names.{_≡_, _+_, _*_, _<_, ltb, pick};
+ghost use Rattle.listing.specs.Numbers.{end, within, digit, readOn, hexDigits, prefixed, hexNumber};
 
 // The first number past those of 32 bits.
 const END: u64 = 4294967296;
@@ -68,7 +65,7 @@ fn digits(w: &[u8]) -> Number
 
 // The number that digits write, if there is one at least.
 fn written(w: &[u8]) -> Number
-    ensures { λ r. ⌜ r ≡ written (now (w .entry)) ⌝ }
+    ensures { λ r. ⌜ r ≡ hexDigits (now (w .entry)) ⌝ }
 {
     if w.len() == 0 {
         return Number::NotHex;
@@ -94,7 +91,7 @@ fn prefixed(w: &[u8]) -> bool
 
 // The number that a word writes.
 pub(crate) fn number(w: &[u8]) -> Number
-    ensures { λ r. ⌜ r ≡ number (now (w .entry)) ⌝ }
+    ensures { λ r. ⌜ r ≡ hexNumber (now (w .entry)) ⌝ }
 {
     if prefixed(w) {
         return written(&w[2..]);

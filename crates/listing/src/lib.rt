@@ -1,7 +1,7 @@
 // A list of mappings as text: a line for each mapping, read into the builder's records and printed from them.
 use page::Kind;
 use records::Mapping;
-ghost use mathlib.Core.Path.{_≡_};
+ghost use Rattle.listing.specs.Names.{_≡_};
 ghost use Rattle.listing.specs.Prints.{printing, printText};
 ghost use Rattle.listing.specs.Purposes.{purposeOf};
 ghost use Rattle.listing.specs.Texts.{reading, readText};

@@ -11,9 +11,8 @@ use page::Kind;
 use page::PhysicalAddress;
 use page::VirtualAddress;
 use records::Mapping;
-ghost use mathlib.Core.Path.{_≡_};
-ghost use Rattle.records.specs.Checks.{multiple};
-ghost use Rattle.listing.specs.Lines.{addressOf, ended, fromAccess, fromPhysical, fromVirtual, fromKind, bodyLength, said};
+ghost use Rattle.listing.specs.Names.{_≡_, multiple};
+ghost use Rattle.listing.specs.Lines.{addressIn, lineEnded, fromAccess, fromPhysical, fromVirtual, fromKind, bodyLength, parsed};
 
 // The most bytes of a line without its end.
 const LONGEST: usize = 200;
@@ -40,7 +39,7 @@ fn multiple(k: Kind, x: u32) -> bool
 
 // What a word says where an address of a kind of page is to stand, below an end.
 fn address(w: &[u8], end: u64, k: Kind) -> Address
-    ensures { λ r. ⌜ r ≡ addressOf end k (now (w .entry)) ⌝ }
+    ensures { λ r. ⌜ r ≡ addressIn end k (now (w .entry)) ⌝ }
 {
     if w.len() == 0 {
         return Address::Missing;
@@ -63,7 +62,7 @@ fn address(w: &[u8], end: u64, k: Kind) -> Address
 
 // A line behind its access: nothing more is to stand there.
 fn ended(line: &[u8], m: Mapping) -> Said
-    ensures { λ r. ⌜ r ≡ ended m (now (line .entry)) ⌝ }
+    ensures { λ r. ⌜ r ≡ lineEnded m (now (line .entry)) ⌝ }
 {
     if tokens::run(line, Class::Blank) == line.len() {
         return Said::Mapped(m);
@@ -161,7 +160,7 @@ pub(crate) fn body_length(line: &[u8]) -> usize
 
 // What a line says.
 pub(crate) fn said(line: &[u8]) -> Said
-    ensures { λ r. ⌜ r ≡ said (now (line .entry)) ⌝ }
+    ensures { λ r. ⌜ r ≡ parsed (now (line .entry)) ⌝ }
 {
     let n = body_length(line);
     if n > LONGEST {

@@ -2,12 +2,9 @@
 use crate::bytes;
 use page::Kind;
 use records::Mapping;
-ghost use mathlib.Core.Path.{_≡_};
-ghost use Prim.Native.Nat.{_+_, _*_, _<_, _≤_};
-ghost use lib.ListN.{length};
-ghost use Rattle.records.specs.Mappings.{recordSize, mappings};
-ghost use Rattle.listing.specs.Texts.{pasted};
-ghost use Rattle.listing.specs.Prints.{glyph, kindColumn, hexColumn, accessColumn, lineText, widest, printed, formed, formedFrom, shown, shownAt};
+ghost use Rattle.listing.specs.Names.{_≡_, _+_, _*_, _<_, _≤_, length, recordSize, mappings};
+ghost use Rattle.wire.specs.Words.{pasted, shown};
+ghost use Rattle.listing.specs.Prints.{glyph, kindColumn, hexColumn, accessColumn, lineText, widest, printed, formed, formedFrom, shownAt};
 
 // A hex digit's byte.
 fn glyph(d: u32) -> u8

@@ -6,7 +6,7 @@ use crate::Wrong;
 use crate::bytes;
 use crate::line;
 use crate::tokens;
-ghost use mathlib.Core.Path.{_≡_};
+ghost use Rattle.listing.specs.Names.{_≡_};
 ghost use Rattle.listing.specs.Texts.{Rooms, reading, linesOf, readLines};
 
 // Reads lines into memories that have room for the most mappings.

@@ -3,8 +3,8 @@ use crate::Class;
 use crate::Named;
 use crate::Span;
 use page::Kind;
-ghost use mathlib.Core.Path.{_≡_};
-ghost use Rattle.listing.specs.Words.{blank, belongs, run, wordSpan, same, kindNamed, accessNamed};
+ghost use Rattle.listing.specs.Names.{_≡_};
+ghost use Rattle.listing.specs.Words.{blank, belongs, runLength, wordSpan, sameBytes, kindNamed, accessNamed};
 
 // Whether a byte is a blank or a tab.
 pub(crate) fn blank(x: u8) -> bool
@@ -30,7 +30,7 @@ fn belongs(c: Class, x: u8) -> bool
 
 // How many bytes at the front are of a class.
 pub(crate) fn run(s: &[u8], c: Class) -> usize
-    ensures { λ r. ⌜ r ≡ run c (now (s .entry)) ⌝ }
+    ensures { λ r. ⌜ r ≡ runLength c (now (s .entry)) ⌝ }
 {
     let mut i = 0;
     while i < s.len() {
@@ -56,7 +56,7 @@ pub(crate) fn word(s: &[u8]) -> Span
 
 // Whether two words are the same.
 fn same(a: &[u8], b: &[u8]) -> bool
-    ensures { λ r. ⌜ r ≡ same (now (a .entry)) (now (b .entry)) ⌝ }
+    ensures { λ r. ⌜ r ≡ sameBytes (now (a .entry)) (now (b .entry)) ⌝ }
 {
     if a.len() != b.len() {
         return false;

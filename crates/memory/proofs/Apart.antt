@@ -1,13 +1,10 @@
 -- What good memories, memories apart and held bytes are, and the code's tests for them. Assumes nothing.
-use mathlib.Core.Path.{_≡_, refl, sym, _∙_}
-use mathlib.Core.Bool.{Bool, true, false, _&&_, false≢true}
-use Prim.Native.Nat.{ℕ, _+_, _-_, _^_, _≤_}
-use native.Mathlib.Omega.{arith}
-use lib.Dec.{leb}
-use borrow.Author.Tests.{leb-true, leb-false, le-leb, lt-leb, ne-eqb}
-use Rattle.page.specs.Pick.{_and_}
-use Rattle.page.proofs.Picks.{and-yes, and-no, and-left, and-right, or-no}
-use Rattle.memory.specs.Spans.{longest, memoryOk, apart, holds}
+use Rattle.memory.specs.Names.{_≡_, Bool, ℕ, _+_, _-_, _^_, _≤_, leb, _and_}
+use Rattle.memory.proofs.Names.{refl, sym, _∙_, true, false, arith, le-leb, lt-leb, and-yes, and-no, and-left, and-right, longest, memoryOk}
+use Rattle.memory.proofs.Names.{apart, liesIn}
+use mathlib.Core.Bool.{_&&_, false≢true}
+use borrow.Author.Tests.{leb-true, leb-false, ne-eqb}
+use Rattle.page.proofs.Picks.{or-no}
 
 -- a good memory is no longer than the greatest, and ends below 2^32
 pub ok-short : (b n : ℕ) → memoryOk b n ≡ true → n ≤ longest
@@ -19,20 +16,20 @@ unfolding memoryOk
 ok-ends b n h = leb-true _ _ (and-right _ _ (and-right _ _ (and-right _ _ h)))
 
 -- four bytes that are held start and end in the memory
-pub held-from : (b n a : ℕ) → holds b n a ≡ true → b ≤ a
-unfolding holds
+pub held-from : (b n a : ℕ) → liesIn b n a ≡ true → b ≤ a
+unfolding liesIn
 held-from b n a h = leb-true _ _ (and-left _ _ h)
 
-pub held-to : (b n a : ℕ) → holds b n a ≡ true → a + 4 ≤ b + n
-unfolding holds
+pub held-to : (b n a : ℕ) → liesIn b n a ≡ true → a + 4 ≤ b + n
+unfolding liesIn
 held-to b n a h = leb-true _ _ (and-right _ _ h)
 
 -- bytes that lie apart never both hold an address
-pub apart-held-once : (b n c m a : ℕ) → apart b n c m ≡ true → holds b n a ≡ true → holds c m a ≡ false
+pub apart-held-once : (b n c m a : ℕ) → apart b n c m ≡ true → liesIn b n a ≡ true → liesIn c m a ≡ false
 unfolding apart
-apart-held-once b n c m a h k = by-second (holds c m a) refl
+apart-held-once b n c m a h k = by-second (liesIn c m a) refl
   where
-    by-second : (t : Bool) → holds c m a ≡ t → t ≡ false
+    by-second : (t : Bool) → liesIn c m a ≡ t → t ≡ false
     by-second false e = refl
     by-second true e =
         let b₀ = held-from b n a k in

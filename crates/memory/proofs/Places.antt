@@ -1,16 +1,13 @@
 -- Refusal 4 and the places of four bytes. Assumes nothing.
-use mathlib.Core.Path.{_≡_, refl, sym, ap, subst}
-use mathlib.Core.Bool.{true, false}
-use Prim.Native.Nat.{ℕ, _+_, _-_, _≤_}
-use native.Mathlib.Omega.{arith}
-use lib.ListN.{length, take, drop, length-drop}
+use Rattle.memory.specs.Names.{_≡_, ℕ, _+_, _-_, _≤_, length, take, drop, List, Place}
+use Rattle.memory.proofs.Names.{refl, sym, ap, subst, true, false, arith, pick-yes, pick-no, and-left, and-right, memoryOk, memoriesOk, liesIn}
+use Rattle.memory.proofs.Names.{placeWithin, partAt, Inside}
+use lib.ListN.{length-drop}
 use lib.Seq.{length-take-le}
-use mathlib.Core.List.{List}
-use Rattle.page.proofs.Picks.{pick-yes, pick-no, pick-by, and-left, and-right}
+use Rattle.page.proofs.Picks.{pick-by}
 pub use Rattle.memory.proofs.Apart.{ok-short, ok-ends}
 use Rattle.memory.proofs.Apart.{held-from, held-to, apart-held-once}
-use Rattle.memory.specs.Memory.{Lent, memoryOk, memoriesOk, lentOk, holds, placeWithin, placeIn, partAt, partLength, Inside}
-use Rattle.memory.specs.declared.Place.{Place}
+use Rattle.memory.specs.Memory.{Lent, lentOk, placeIn, partLength}
 
 -- memories that are not refused are both good
 pub on-ok : (m : Lent) → lentOk m ≡ true → memoryOk (m .onbase) (length (m .on)) ≡ true
@@ -22,7 +19,7 @@ unfolding memoriesOk
 ext-ok m h = and-left _ _ (and-right _ _ h)
 
 -- of two good memories one at most holds an address
-pub held-once : (m : Lent) (a : ℕ) → lentOk m ≡ true → holds (m .onbase) (length (m .on)) a ≡ true → holds (m .extbase) (length (m .ext)) a ≡ false
+pub held-once : (m : Lent) (a : ℕ) → lentOk m ≡ true → liesIn (m .onbase) (length (m .on)) a ≡ true → liesIn (m .extbase) (length (m .ext)) a ≡ false
 unfolding memoriesOk
 held-once m a h =
     apart-held-once (m .onbase) (length (m .on)) (m .extbase) (length (m .ext)) a (and-right _ _ (and-right _ _ h))
@@ -44,7 +41,7 @@ module _ (m : Lent) (a : ℕ) where
       pick-by (Inside m a) _ _ _ (held-inside (m .onbase) (length (m .on)))
       (λ _. pick-by (Inside m a) _ _ _ (held-inside (m .extbase) (length (m .ext))) (λ _. tt))
     where
-      held-inside : (b n : ℕ) → holds b n a ≡ true → (a - b + 4 ≤ n) × (b + (a - b) ≡ a)
+      held-inside : (b n : ℕ) → liesIn b n a ≡ true → (a - b + 4 ≤ n) × (b + (a - b) ≡ a)
       held-inside b n h = (omega (arith, held-from b n a h, held-to b n a h), omega (arith, held-from b n a h))
 
   pub inside : Inside m a (placeIn m a)

@@ -1,11 +1,8 @@
 -- The two lent memories (01, "The unit", third paragraph; "When the unit says no", 4): which are refused,
 -- where a descriptor's four bytes lie, and the part that they are.
-use Rattle.page.specs.Ground.{ℕ, _+_, _-_, _≤_, _≡_, Bool, List, [], length, take, drop}
-use Rattle.page.specs.Pick.{pick}
-use denote.Ref.{RefT}
+use Rattle.memory.specs.Names.{ℕ, _+_, _-_, _≤_, _≡_, Bool, List, [], length, take, drop, pick, RefT, Place}
 pub use Rattle.memory.specs.Spans.{longest}
-unfoldable pub use Rattle.memory.specs.Spans.{memoryOk, apart, memoriesOk, holds}
-use Rattle.memory.specs.declared.Place.{Place}
+unfoldable pub use Rattle.memory.specs.Spans.{memoryOk, apart, memoriesOk, liesIn}
 
 -- the bytes of the on-chip and of the external memory, and the physical address of the first byte of each
 pub record Lent : Type 0 where
@@ -24,7 +21,7 @@ lentOk m = memoriesOk (m .onbase) (length (m .on)) (m .extbase) (length (m .ext)
 
 -- where the four bytes at a lie: in the n bytes at b on chip, in the m external ones at c, or in neither
 abbrev pub placeOf : ℕ → ℕ → ℕ → ℕ → ℕ → Place
-placeOf b n c m a = pick (holds b n a) (Place.OnChip (a - b)) (pick (holds c m a) (Place.External (a - c)) Place.Nowhere)
+placeOf b n c m a = pick (liesIn b n a) (Place.OnChip (a - b)) (pick (liesIn c m a) (Place.External (a - c)) Place.Nowhere)
 
 -- where the four bytes at an address lie, with no look at refusal 4
 unfoldable pub placeWithin : Lent → ℕ → Place

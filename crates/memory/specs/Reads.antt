@@ -1,7 +1,5 @@
 -- The words that a walk read, in order (01, "The walk", "Meters and the walk bill").
-use Rattle.page.specs.Ground.{ℕ, List, [], _∷_, length}
-use Rattle.memory.specs.declared.Source.{Source}
-use Rattle.memory.specs.declared.Reads.{Reads}
+use Rattle.memory.specs.Names.{ℕ, List, [], _∷_, length, Source, Reads}
 
 abbrev pub sources : Reads → List Source
 sources Reads.Nothing = []

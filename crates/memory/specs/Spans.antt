@@ -1,7 +1,6 @@
 -- Spans of addresses (01, "The unit", third paragraph; "When the unit says no", 4): which memories are refused,
 -- and which bytes a memory holds.
-use Rattle.page.specs.Ground.{ℕ, _+_, _%_, _^_, Bool, eqb, leb}
-use Rattle.page.specs.Pick.{_and_, _or_}
+use Rattle.memory.specs.Names.{ℕ, _+_, _%_, _^_, Bool, eqb, leb, _and_, _or_}
 
 -- the greatest length of a memory
 abbrev pub longest : ℕ
@@ -20,5 +19,5 @@ unfoldable pub memoriesOk : ℕ → ℕ → ℕ → ℕ → Bool
 memoriesOk b n c m = memoryOk b n and memoryOk c m and apart b n c m
 
 -- the four bytes at a lie in the n bytes at b
-unfoldable pub holds : ℕ → ℕ → ℕ → Bool
-holds b n a = leb b a and leb (a + 4) (b + n)
+unfoldable pub liesIn : ℕ → ℕ → ℕ → Bool
+liesIn b n a = leb b a and leb (a + 4) (b + n)

@@ -2,12 +2,9 @@
 mod spans;
 
 use page::PhysicalAddress;
-pub use spans::memory_ok;
-ghost use mathlib.Core.Path.{_≡_};
-ghost use Prim.Native.Nat.{_+_, _≤_};
-ghost use lib.ListN.{length, take, drop};
+ghost use Rattle.memory.specs.Names.{_≡_, _+_, _≤_, length, take, drop};
 ghost use Rattle.memory.specs.Reads.{wordCount};
-ghost use Rattle.memory.specs.Memory.{lent, lentOk, placeOf, placeWithin, placeIn, fetchedWithin, fetchedIn, sourceOf};
+ghost use Rattle.memory.specs.Memory.{memoryOk, lent, lentOk, placeOf, placeWithin, placeIn, fetchedWithin, fetchedIn, sourceOf};
 
 // Where four bytes lie: at an offset of the on-chip memory, of the external one, or in neither.
 pub enum Place {
@@ -43,11 +40,18 @@ pub fn count(reads: Reads) -> u32
     }
 }
 
-// Whether the two may be lent together: false where refusal 4 holds.
-pub fn memories_ok(on: &[u8], onbase: u32, ext: &[u8], extbase: u32) -> bool
-    ensures { λ r. ⌜ r ≡ lentOk (lent (now (on .entry)) onbase (now (ext .entry)) extbase) ⌝ }
+// Whether one memory may be lent.
+pub fn memory_ok(base: PhysicalAddress, len: usize) -> bool
+    ensures { λ r. ⌜ r ≡ memoryOk (base .0) len ⌝ }
 {
-    spans::both_ok(onbase, on.len(), extbase, ext.len())
+    spans::one_ok(base.0, len)
+}
+
+// Whether the two may be lent together: false where refusal 4 holds.
+pub fn memories_ok(on: &[u8], onbase: PhysicalAddress, ext: &[u8], extbase: PhysicalAddress) -> bool
+    ensures { λ r. ⌜ r ≡ lentOk (lent (now (on .entry)) (onbase .0) (now (ext .entry)) (extbase .0)) ⌝ }
+{
+    spans::both_ok(onbase.0, on.len(), extbase.0, ext.len())
 }
 
 // Where the four bytes at a lie, of the n bytes at b on chip and the m external ones at c.
@@ -64,15 +68,27 @@ fn place_of(b: u32, n: usize, c: u32, m: usize, a: u32) -> Place
 }
 
 // Where the four bytes at an address lie, for a caller that has tried the memories.
-pub fn locate_within(on: &[u8], onbase: u32, ext: &[u8], extbase: u32, at: PhysicalAddress) -> Place
-    ensures { λ r. ⌜ r ≡ placeWithin (lent (now (on .entry)) onbase (now (ext .entry)) extbase) (at .0) ⌝ }
+pub fn locate_within(
+    on: &[u8],
+    onbase: PhysicalAddress,
+    ext: &[u8],
+    extbase: PhysicalAddress,
+    at: PhysicalAddress,
+) -> Place
+    ensures { λ r. ⌜ r ≡ placeWithin (lent (now (on .entry)) (onbase .0) (now (ext .entry)) (extbase .0)) (at .0) ⌝ }
 {
-    place_of(onbase, on.len(), extbase, ext.len(), at.0)
+    place_of(onbase.0, on.len(), extbase.0, ext.len(), at.0)
 }
 
 // Where the four bytes at an address lie; nowhere under refusal 4.
-pub fn locate(on: &[u8], onbase: u32, ext: &[u8], extbase: u32, at: PhysicalAddress) -> Place
-    ensures { λ r. ⌜ r ≡ placeIn (lent (now (on .entry)) onbase (now (ext .entry)) extbase) (at .0) ⌝ }
+pub fn locate(
+    on: &[u8],
+    onbase: PhysicalAddress,
+    ext: &[u8],
+    extbase: PhysicalAddress,
+    at: PhysicalAddress,
+) -> Place
+    ensures { λ r. ⌜ r ≡ placeIn (lent (now (on .entry)) (onbase .0) (now (ext .entry)) (extbase .0)) (at .0) ⌝ }
 {
     if !memories_ok(on, onbase, ext, extbase) {
         return Place::Nowhere;
@@ -92,13 +108,13 @@ fn four<'a>(memory: &'a [u8], k: usize) -> &'a [u8]
 // The four bytes at an address as a part of whichever memory holds them, for a caller that has tried the memories.
 pub fn fetch_within<'a>(
     on: &'a [u8],
-    onbase: u32,
+    onbase: PhysicalAddress,
     ext: &'a [u8],
-    extbase: u32,
+    extbase: PhysicalAddress,
     at: PhysicalAddress,
 ) -> &'a [u8]
-    ensures bytes { λ r. ⌜ now r ≡ fetchedWithin (lent (now (on .entry)) onbase (now (ext .entry)) extbase) (at .0) ⌝ }
-    ensures source { λ r. ⌜ r .ptr ≡ sourceOf (on .entry) (ext .entry) (placeWithin (lent (now (on .entry)) onbase (now (ext .entry)) extbase) (at .0)) ⌝ }
+    ensures bytes { λ r. ⌜ now r ≡ fetchedWithin (lent (now (on .entry)) (onbase .0) (now (ext .entry)) (extbase .0)) (at .0) ⌝ }
+    ensures source { λ r. ⌜ r .ptr ≡ sourceOf (on .entry) (ext .entry) (placeWithin (lent (now (on .entry)) (onbase .0) (now (ext .entry)) (extbase .0)) (at .0)) ⌝ }
 {
     let p = locate_within(on, onbase, ext, extbase, at);
     match p {
@@ -111,13 +127,13 @@ pub fn fetch_within<'a>(
 // The four bytes at an address as a part of whichever memory holds them; under refusal 4 an empty part of the on-chip one.
 pub fn fetch<'a>(
     on: &'a [u8],
-    onbase: u32,
+    onbase: PhysicalAddress,
     ext: &'a [u8],
-    extbase: u32,
+    extbase: PhysicalAddress,
     at: PhysicalAddress,
 ) -> &'a [u8]
-    ensures bytes { λ r. ⌜ now r ≡ fetchedIn (lent (now (on .entry)) onbase (now (ext .entry)) extbase) (at .0) ⌝ }
-    ensures source { λ r. ⌜ r .ptr ≡ sourceOf (on .entry) (ext .entry) (placeIn (lent (now (on .entry)) onbase (now (ext .entry)) extbase) (at .0)) ⌝ }
+    ensures bytes { λ r. ⌜ now r ≡ fetchedIn (lent (now (on .entry)) (onbase .0) (now (ext .entry)) (extbase .0)) (at .0) ⌝ }
+    ensures source { λ r. ⌜ r .ptr ≡ sourceOf (on .entry) (ext .entry) (placeIn (lent (now (on .entry)) (onbase .0) (now (ext .entry)) (extbase .0)) (at .0)) ⌝ }
 {
     if !memories_ok(on, onbase, ext, extbase) {
         return &on[0..0];

@@ -1,11 +1,10 @@
 // Spans of addresses: which memories may be lent, and whether one holds four bytes.
 use crate::LONGEST;
-ghost use mathlib.Core.Path.{_≡_};
-ghost use Prim.Native.Nat.{_≤_};
-ghost use Rattle.memory.specs.Spans.{longest, memoryOk, apart, memoriesOk, holds};
+ghost use Rattle.memory.specs.Names.{_≡_, _≤_};
+ghost use Rattle.memory.specs.Spans.{longest, memoryOk, apart, memoriesOk, liesIn};
 
 // Whether one memory may be lent.
-pub fn memory_ok(base: u32, len: usize) -> bool
+pub(crate) fn one_ok(base: u32, len: usize) -> bool
     ensures { λ r. ⌜ r ≡ memoryOk base len ⌝ }
 {
     (base % 4 == 0) & (len % 4 == 0) & (len <= LONGEST) & (len <= 4294967296 - base as usize)
@@ -23,7 +22,7 @@ fn are_apart(b: u32, n: usize, c: u32, m: usize) -> bool
 pub(crate) fn both_ok(b: u32, n: usize, c: u32, m: usize) -> bool
     ensures { λ r. ⌜ r ≡ memoriesOk b n c m ⌝ }
 {
-    if memory_ok(b, n) & memory_ok(c, m) {
+    if one_ok(b, n) & one_ok(c, m) {
         return are_apart(b, n, c, m);
     }
     false
@@ -31,7 +30,7 @@ pub(crate) fn both_ok(b: u32, n: usize, c: u32, m: usize) -> bool
 
 // Whether the four bytes at an address lie in the n bytes at b.
 pub(crate) fn held(b: u32, n: usize, a: u32) -> bool
-    ensures { λ r. ⌜ r ≡ holds b n a ⌝ }
+    ensures { λ r. ⌜ r ≡ liesIn b n a ⌝ }
 {
     if a < b {
         return false;

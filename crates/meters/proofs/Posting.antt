@@ -1,10 +1,8 @@
 -- What a posting does to the meters. Assumes nothing.
-use mathlib.Core.Path.{_≡_}
-use Prim.Native.Nat.{ℕ, _+_, _≤_}
+use Rattle.meters.specs.Names.{_≡_, ℕ, _+_, _≤_}
+use Rattle.meters.proofs.Names.{Meters, Tally, posted}
 use native.Mathlib.Omega.{arith}
-use Rattle.meters.specs.declared.Meters.{Meters}
-use Rattle.meters.specs.declared.Tally.{Tally}
-use Rattle.meters.specs.Posted.{stop, stopped, noMeters, noTally, posted, Within}
+use Rattle.meters.specs.Posted.{stop, stopped, noMeters, noTally, BelowStop}
 
 -- one count: nothing added leaves it, it never falls and never passes its stop, and below the stop it is the sum
 stopped-zero : (a : ℕ) → a ≤ stop → stopped a 0 ≡ a
@@ -20,10 +18,10 @@ stopped-sum : (a b : ℕ) → a + b ≤ stop → stopped a b ≡ a + b
 stopped-sum a b h = omega arith
 
 -- meters that counted nothing are within their stops, and a posting keeps them there
-pub none-within : Within noMeters
+pub none-within : BelowStop noMeters
 none-within = record { fresh-le = omega arith; retries-le = omega arith; words-le = omega arith }
 
-pub posted-within : (m : Meters) (t : Tally) → Within (posted m t)
+pub posted-within : (m : Meters) (t : Tally) → BelowStop (posted m t)
 unfolding posted
 posted-within m t = record {
   fresh-le = stopped-le (m .fresh) (t .fresh);
@@ -32,12 +30,12 @@ posted-within m t = record {
 }
 
 -- a zero tally changes nothing
-pub posted-zero : (m : Meters) → Within m → posted m noTally ≡ m
+pub posted-zero : (m : Meters) → BelowStop m → posted m noTally ≡ m
 unfolding posted
 posted-zero m w = rw (stopped-zero (m .fresh) (w .fresh-le), stopped-zero (m .retries) (w .retries-le), stopped-zero (m .words) (w .words-le))
 
 -- no meter falls
-pub posted-ge : (m : Meters) (t : Tally) → Within m → (m .fresh ≤ posted m t .fresh) × ((m .retries ≤ posted m t .retries) × (m .words ≤ posted m t .words))
+pub posted-ge : (m : Meters) (t : Tally) → BelowStop m → (m .fresh ≤ posted m t .fresh) × ((m .retries ≤ posted m t .retries) × (m .words ≤ posted m t .words))
 unfolding posted
 posted-ge m t w = (stopped-ge (m .fresh) (t .fresh) (w .fresh-le), (stopped-ge (m .retries) (t .retries) (w .retries-le), stopped-ge (m .words) (t .words) (w .words-le)))
 

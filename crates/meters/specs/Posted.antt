@@ -1,5 +1,5 @@
 -- What the meters hold after a posting (01, "Meters and the walk bill").
-use Rattle.page.specs.Ground.{ℕ, _+_, _≤_, min}
+use Rattle.meters.specs.Names.{ℕ, _+_, _≤_, min}
 use Rattle.meters.specs.declared.Meters.{Meters}
 use Rattle.meters.specs.declared.Tally.{Tally}
 
@@ -28,7 +28,7 @@ posted m t = record {
 }
 
 -- no meter is past its stop
-pub record Within (m : Meters) : Type 0 where
+pub record BelowStop (m : Meters) : Type 0 where
   pub fresh-le : m .fresh ≤ stop
   pub retries-le : m .retries ≤ stop
   pub words-le : m .words ≤ stop

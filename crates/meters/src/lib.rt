@@ -1,5 +1,5 @@
 // The meters: three counts, each of which stops at 4,294,967,295, and one posting to them.
-ghost use mathlib.Core.Path.{_≡_};
+ghost use Rattle.meters.specs.Names.{_≡_};
 ghost use Rattle.meters.specs.Posted.{stopped, noMeters, noTally, posted};
 
 // Where a meter stops.

@@ -1,27 +1,28 @@
 -- Texts at the front of a memory. Assumes nothing.
+use Rattle.mkimage.specs.Names.{_≡_, List, [], _∷_, _++_, ℕ, zero, suc, _+_, _/_, _%_, _≤_, length, take, drop}
+use Rattle.mkimage.proofs.Names.{refl, sym, ap, _∙_, _-_, arith, paste, Built, outcome, decimal, shown}
 use Rattle.page.specs.Words.{megabytes}
-use mathlib.Core.Path.{_≡_, refl, sym, ap, ap₂, _∙_, subst}
-use mathlib.Core.List.{List, [], _∷_, _++_}
-use Prim.Native.Nat.{ℕ, zero, suc, _+_, _*_, _-_, _/_, _%_, _^_, _≤_, _<_}
-use native.Mathlib.Omega.{arith}
+use mathlib.Core.Path.{ap₂, subst}
+use Prim.Native.Nat.{_*_, _^_, _<_}
 use native.Mathlib.Nat.{mod-eq-of-lt, le-refl, pow-suc, pow-le-pow-right}
 use native.Mathlib.Decide.{decLe}
 use borrow.Author.Tests.{lt-ltb, le-ltb}
 use lib.Dec.{lit<}
-use lib.ListN.{length, take, drop, length-append}
-use lib.Seq.{paste, take-at, take-length, drop-append-add, drop-drop}
+use lib.ListN.{length-append}
+use lib.Seq.{take-at, take-length, drop-append-add, drop-drop}
 use Rattle.io.specs.Digits.{glyph, digits, Fewest}
 use Rattle.page.proofs.Picks.{pick-yes, pick-no, pick-by}
 use Rattle.records.specs.Mappings.{mappings}
-use Rattle.builder.specs.declared.Built.{Built}
 use Rattle.builder.specs.Image.{image}
-use Rattle.builder.specs.Build.{answerOf, leaves, outcome, buildOf}
+use Rattle.builder.specs.Build.{answerOf, leaves, buildOf}
 use Rattle.builder.proofs.Whole.{image-length-is}
 use Rattle.builder.proofs.Answers.{accepted, build-answer}
-use Rattle.mkimage.specs.Output.{base, decimalBy, decimal, refusedText, atText, lineEnd, message, written, pasted, Shown, shown, shownIn, outputOf}
+use Rattle.mkimage.specs.Output.{base, decimalBy, refusedText, atText, lineEnd, message, outputBytes, shownIn, outputOf}
+use Rattle.wire.specs.Words.{pasted, Shown}
 
 -- a text behind another
 pub front-more : (l o q p s : List ℕ) (at r : ℕ) → shown at o ≡ shownIn p l → shown r q ≡ shown (at + length s) (pasted o at s) → shown r q ≡ shownIn (p ++ s) l
+unfolding pasted
 front-more l o q p s at r e h =
     let a : at ≡ length p = ap (λ (x : Shown). x .count) e in
     let f : o ≡ p ++ drop (length p) l = ap (λ (x : Shown). x .memory) e in
@@ -89,6 +90,7 @@ pasted-taken l at t s r o e h = h ∙ ap (λ (x : List ℕ). shown (at + length 
 
 -- a copy of all of a text
 pub copied : (l o s : List ℕ) (at i : ℕ) → i ≡ length s → o ≡ paste l at s i → o ≡ pasted l at s
+unfolding pasted
 copied l o s at i e h =
     h
     ∙ ap (λ (k : ℕ). paste l at s k) e
@@ -96,9 +98,9 @@ copied l o s at i e h =
 
 -- the answer of a build and what it left, as what is shown
 module _ (rs l : List ℕ) (room : 64 ≤ length l) where
-  shown-by : (b : Built) → b ≡ answerOf rs base (length l) → shownIn (written b (image megabytes (mappings rs) base)) l ≡ outputOf rs l
+  shown-by : (b : Built) → b ≡ answerOf rs base (length l) → shownIn (outputBytes b (image megabytes (mappings rs) base)) l ≡ outputOf rs l
   unfolding outputOf
-  shown-by b e = ap (λ (x : Built). shownIn (written x (image megabytes (mappings rs) base)) l) e ∙ sym (pick-no _ _ _ (le-ltb (length l) 64 room))
+  shown-by b e = ap (λ (x : Built). shownIn (outputBytes x (image megabytes (mappings rs) base)) l) e ∙ sym (pick-no _ _ _ (le-ltb (length l) 64 room))
 
   pub shown-image : (n : ℕ) (o : List ℕ) → outcome (Built.Length n) o ≡ buildOf rs base l → shown n o ≡ outputOf rs l
   shown-image n o e =
@@ -108,10 +110,10 @@ module _ (rs l : List ℕ) (room : 64 ≤ length l) where
       ap (shown n) (b .1) ∙ ap (λ (k : ℕ). shown k (image megabytes (mappings rs) base ++ drop k l)) len ∙ shown-by (Built.Length n) (b .0)
 
   pub shown-refusal : (b : Built) (o : List ℕ) (s : Shown) → outcome b o ≡ buildOf rs base l → leaves b (image megabytes (mappings rs) base) l ≡ l
-      → s ≡ shownIn (written b (image megabytes (mappings rs) base)) o → s ≡ outputOf rs l
+      → s ≡ shownIn (outputBytes b (image megabytes (mappings rs) base)) o → s ≡ outputOf rs l
   shown-refusal b o s e same h =
       let a = build-answer rs base l o b e in
-      h ∙ ap (shownIn (written b (image megabytes (mappings rs) base))) (a .1 ∙ same) ∙ shown-by b (a .0)
+      h ∙ ap (shownIn (outputBytes b (image megabytes (mappings rs) base))) (a .1 ∙ same) ∙ shown-by b (a .0)
 
 pub shown-nothing : (rs l : List ℕ) → length l < 64 → shown 0 l ≡ outputOf rs l
 unfolding outputOf
@@ -120,7 +122,9 @@ shown-nothing rs l h = sym (pick-yes _ _ _ (lt-ltb (length l) 64 h))
 -- what is shown lies in the memory
 pub shown-fits : (rs l o : List ℕ) (r : ℕ) → shown r o ≡ outputOf rs l → r ≤ length o
 unfolding outputOf
-shown-fits rs l o r e = subst (λ (x : Shown). x .count ≤ length (x .memory)) (sym e) (pick-by (λ (x : Shown). x .count ≤ length (x .memory)) _ _ _ (λ _. fits []) (λ _. fits (written (answerOf rs base (length l)) (image megabytes (mappings rs) base))))
+shown-fits rs l o r e =
+    subst (λ (x : Shown). x .count ≤ length (x .memory)) (sym e)
+    (pick-by (λ (x : Shown). x .count ≤ length (x .memory)) _ _ _ (λ _. fits []) (λ _. fits (outputBytes (answerOf rs base (length l)) (image megabytes (mappings rs) base))))
   where
     fits : (w : List ℕ) → length w ≤ length (w ++ drop (length w) l)
     fits w = omega (arith, length-append w (drop (length w) l))

@@ -1,11 +1,11 @@
 -- What mkimage writes (01, "The builder", the program).
+use Rattle.mkimage.specs.Names.{ℕ, zero, suc, _+_, _/_, _%_, List, [], _∷_, _++_, ltb, length, drop, pick}
 use Rattle.page.specs.Words.{megabytes}
-use Rattle.page.specs.Ground.{ℕ, zero, suc, _+_, _/_, _%_, List, [], _∷_, _++_, ltb, length, take, drop}
-use Rattle.page.specs.Pick.{pick}
 use Rattle.records.specs.Mappings.{mappings}
 use Rattle.builder.specs.declared.Built.{Built}
 use Rattle.builder.specs.Image.{image}
 use Rattle.builder.specs.Build.{answerOf, builtNumber, builtValue}
+use Rattle.wire.specs.Words.{Shown, shown}
 
 -- the address at which the image is to stand
 abbrev pub base : ℕ
@@ -35,24 +35,12 @@ unfoldable pub message : ℕ → ℕ → List ℕ
 message k i = (((refusedText ++ decimal k) ++ atText) ++ decimal i) ++ lineEnd
 
 -- the image, or the message of a refusal
-abbrev pub written : Built → List ℕ → List ℕ
-written (Built.Length n) img = img
-written Built.BadMemory img = message (builtNumber Built.BadMemory) (builtValue Built.BadMemory)
-written (Built.BadRecord i) img = message (builtNumber (Built.BadRecord i)) (builtValue (Built.BadRecord i))
-written (Built.Overlap i) img = message (builtNumber (Built.Overlap i)) (builtValue (Built.Overlap i))
-written (Built.TooLong c) img = message (builtNumber (Built.TooLong c)) (builtValue (Built.TooLong c))
-
--- bytes in a memory, from an index on
-abbrev pub pasted : List ℕ → ℕ → List ℕ → List ℕ
-pasted l at s = (take at l ++ s) ++ drop (at + length s) l
-
--- how many bytes at the front of a memory are to be written, and the memory
-pub record Shown : Type 0 where
-  pub count : ℕ
-  pub memory : List ℕ
-
-abbrev pub shown : ℕ → List ℕ → Shown
-shown n l = record { count = n; memory = l }
+abbrev pub outputBytes : Built → List ℕ → List ℕ
+outputBytes (Built.Length n) img = img
+outputBytes Built.BadMemory img = message (builtNumber Built.BadMemory) (builtValue Built.BadMemory)
+outputBytes (Built.BadRecord i) img = message (builtNumber (Built.BadRecord i)) (builtValue (Built.BadRecord i))
+outputBytes (Built.Overlap i) img = message (builtNumber (Built.Overlap i)) (builtValue (Built.Overlap i))
+outputBytes (Built.TooLong c) img = message (builtNumber (Built.TooLong c)) (builtValue (Built.TooLong c))
 
 -- bytes at the front of a memory
 abbrev pub shownIn : List ℕ → List ℕ → Shown
@@ -62,4 +50,4 @@ shownIn w l = shown (length w) (w ++ drop (length w) l)
 unfoldable pub outputOf : List ℕ → List ℕ → Shown
 outputOf rs l =
     pick (ltb (length l) 64) (shownIn [] l)
-    (shownIn (written (answerOf rs base (length l)) (image megabytes (mappings rs) base)) l)
+    (shownIn (outputBytes (answerOf rs base (length l)) (image megabytes (mappings rs) base)) l)

@@ -1,9 +1,9 @@
 // What mkimage writes for a list of records: its image, or a refusal's message.
 use builder::Built;
-ghost use mathlib.Core.Path.{_≡_};
-ghost use Prim.Native.Nat.{_+_, _≤_};
-ghost use lib.ListN.{length};
-ghost use Rattle.mkimage.specs.Output.{decimal, message, pasted, shown, shownIn, outputOf};
+use page::PhysicalAddress;
+ghost use Rattle.mkimage.specs.Names.{_≡_, _+_, _≤_, length};
+ghost use Rattle.mkimage.specs.Output.{decimal, message, shownIn, outputOf};
+ghost use Rattle.wire.specs.Words.{pasted, shown};
 
 // The address at which the image is to stand.
 const BASE: u32 = 536870912;
@@ -51,7 +51,7 @@ pub(crate) fn output(records: &[u8], memory: &mut [u8]) -> usize
     if memory.len() < 64 {
         return 0;
     }
-    let built = builder::build(records, BASE, memory);
+    let built = builder::build(records, PhysicalAddress(BASE), memory);
     match built {
         Built::Length(n) => n,
         Built::BadMemory => put_message(memory, 4, 0),

@@ -7,6 +7,7 @@ use builder::Built;
 use listing::Listed;
 use listing::Wrong;
 use page::Kind;
+use page::PhysicalAddress;
 use records::Mapping;
 ghost use Prim.Native.Nat.{_<_, _≤_};
 
@@ -123,7 +124,7 @@ fn overlapped(list: &[u8], i: usize) -> usize {
 
 // The tables of a list in a memory at a base: their length, or 0 and the error said.
 pub fn judged(path: &[u8], list: &[u8], lines: &[u32], base: u32, memory: &mut [u8]) -> usize {
-    let built = builder::build(list, base, memory);
+    let built = builder::build(list, PhysicalAddress(base), memory);
     match built {
         Built::Length(n) => return n,
         Built::BadMemory => {

@@ -65,10 +65,31 @@ fn label_width(s: &[u8]) -> u64
 
 // The styles: a class for each kind, a gap, the hatching, an address, a label inside a box, a line.
 fn styles() -> bool {
-    text::put(
+    let a = text::put(
         text::OUT,
-        b"<style>rect,path{stroke-width:.75}.k0{fill:#bfdbfe;stroke:#2563eb}.k1{fill:#bbf7d0;stroke:#16a34a}.k2{fill:#fed7aa;stroke:#ea580c}.k3{fill:#f5d0fe;stroke:#c026d3}          .g{fill:#f3f4f6;stroke:#d1d5db}.h{fill:url(#r)}.a{font-family:monospace;fill:#4b5563}.i{paint-order:stroke;stroke:#fff;stroke-width:3}.l{stroke:#9ca3af;fill:none}</style>\n          <pattern id=\"r\" width=\"6\" height=\"6\" patternUnits=\"userSpaceOnUse\" patternTransform=\"rotate(45)\"><path d=\"M0 0V6\" stroke=\"#6b7280\" style=\"stroke-width:1.6\"/></pattern>\n",
-    )
+        b"<style>rect,path{stroke-width:.75}.k0{fill:#bfdbfe;stroke:#2563eb}.k1{fill:#bbf7d0;stroke:#16a34a}",
+    );
+    let b = text::put(
+        text::OUT,
+        b".k2{fill:#fed7aa;stroke:#ea580c}.k3{fill:#f5d0fe;stroke:#c026d3}          ",
+    );
+    let c = text::put(
+        text::OUT,
+        b".g{fill:#f3f4f6;stroke:#d1d5db}.h{fill:url(#r)}.a{font-family:monospace;fill:#4b5563}",
+    );
+    let d = text::put(
+        text::OUT,
+        b".i{paint-order:stroke;stroke:#fff;stroke-width:3}.l{stroke:#9ca3af;fill:none}</style>\n",
+    );
+    let e = text::put(
+        text::OUT,
+        b"          <pattern id=\"r\" width=\"6\" height=\"6\" patternUnits=\"userSpaceOnUse\"",
+    );
+    let f = text::put(
+        text::OUT,
+        b" patternTransform=\"rotate(45)\"><path d=\"M0 0V6\" stroke=\"#6b7280\" style=\"stroke-width:1.6\"/></pattern>\n",
+    );
+    a & b & c & d & e & f
 }
 
 // The head: size, styles and title.

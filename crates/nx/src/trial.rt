@@ -12,6 +12,7 @@ use calls::Call;
 use decision::Said;
 use meters::Meters;
 use page::Access;
+use page::PhysicalAddress;
 use page::VirtualAddress;
 use prices::Price;
 use prices::Prices;
@@ -288,7 +289,14 @@ fn call_of(s: Step) -> Call {
 // The bench after a call, and what the call said.
 fn stepped(b: Bench, ext: &[u8], call: Call, prices: Prices) -> Stepped {
     let on = [0u8; 16];
-    b.step(call, &on, 0, ext, BASE, prices)
+    b.step(
+        call,
+        &on,
+        PhysicalAddress(0),
+        ext,
+        PhysicalAddress(BASE),
+        prices,
+    )
 }
 
 // A line's remark behind blanks, and a line end.

@@ -10,7 +10,8 @@ use Rattle.page.specs.declared.Kind.{Kind}
 use Rattle.page.specs.declared.VirtualAddress.{VirtualAddress}
 use Rattle.page.specs.Pick.{_and_}
 use Rattle.page.specs.Low.{upper, agree, joined}
-use Rattle.page.specs.Words.{lowBits, typeOf, kindOf, physical, wordValid, wordPreserved, wordTag, wordAccess, wordMatches, wordAddress, wordDropped, wordFlushed, madeCam, madeRam}
+use Rattle.page.specs.Words.{lowBits, typeOf, kindOf, physical, wordValid, wordPreserved, wordTag, wordAccess, wordMatches, wordAddress}
+use Rattle.page.specs.Words.{wordDropped, wordFlushed, madeCam, madeRam}
 use Rattle.page.proofs.Picks.{pick-yes, pick-no, and-yes, and-no, and-is}
 use Rattle.page.proofs.Lower.{upper-high, joined-agree, apart-agree, pages-agree}
 

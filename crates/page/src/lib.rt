@@ -2,7 +2,8 @@
 ghost use mathlib.Core.Path.{_≡_};
 ghost use Prim.Native.Nat.{_-_, _^_};
 ghost use Rattle.page.specs.Low.{upper, joined};
-ghost use Rattle.page.specs.Words.{lowBits, typeOf, kindOf, permits, wordValid, wordAccess, wordMatches, wordAddress, wordDropped, wordFlushed, wordFlushedAt, madeWords};
+ghost use Rattle.page.specs.Words.{physical, lowBits, typeOf, kindOf, permits, wordValid, wordAccess, wordMatches, wordAddress, wordDropped};
+ghost use Rattle.page.specs.Words.{wordFlushed, wordFlushedAt, madeWords};
 
 // The megabytes of virtual addresses, a first-level word for each.
 pub const MEGABYTES: u32 = 16;
@@ -81,11 +82,12 @@ pub fn page_start(k: Kind, x: u32) -> u32
     x >> n << n
 }
 
-// The upper bits of one address and the lower ones of another, cut at the page size.
-pub fn join(k: Kind, a: u32, b: u32) -> u32
-    ensures { λ r. ⌜ r ≡ joined (lowBits k) a b ⌝ }
+// The upper bits of a physical address and the lower ones of a virtual one, cut at the page size.
+pub fn join(k: Kind, frame: PhysicalAddress, va: VirtualAddress) -> PhysicalAddress
+    ensures { λ r. ⌜ r ≡ physical (joined (lowBits k) (frame .0) (va .0)) ⌝ }
 {
-    page_start(k, a) + (b - page_start(k, b))
+    let x = page_start(k, frame.0) + (va.0 - page_start(k, va.0));
+    PhysicalAddress(x)
 }
 
 // Whether access bits permit an access.
@@ -136,7 +138,7 @@ pub fn matches(cam: u32, va: VirtualAddress) -> bool
 pub fn translated(cam: u32, ram: u32, va: VirtualAddress) -> PhysicalAddress
     ensures { λ r. ⌜ r ≡ wordAddress cam ram va ⌝ }
 {
-    PhysicalAddress(join(kind_of(cam), ram, va.0))
+    join(kind_of(cam), PhysicalAddress(ram), va)
 }
 
 // A CAM word with V clear.

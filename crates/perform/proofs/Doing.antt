@@ -1,28 +1,10 @@
 -- Each plan, done, leaves what it should. Assumes nothing.
-use mathlib.Core.Path.{_≡_, sym, _∙_, ap, subst}
-use mathlib.Core.List.{List}
-use Prim.Native.Nat.{ℕ, _<_}
-use Rattle.page.specs.declared.Access.{Access}
-use Rattle.page.specs.declared.VirtualAddress.{VirtualAddress}
-use Rattle.memory.specs.Memory.{Lent}
-use Rattle.prices.specs.declared.Prices.{Prices}
-use Rattle.bill.specs.declared.Bill.{Bill}
-use Rattle.bank.specs.declared.Bank.{Bank}
-use Rattle.bank.specs.Slots.{freshBank}
-use Rattle.bank.specs.Changes.{entryFilled}
-use Rattle.walk.specs.Walk.{walkWithin}
-use Rattle.registers.specs.Fields.{freshRegisters}
-use Rattle.registers.specs.declared.Answer.{Answer}
-use Rattle.registers.specs.declared.Pending.{Pending}
-use Rattle.registers.specs.declared.Registers.{Registers}
-use Rattle.decision.specs.declared.Said.{Said}
-use Rattle.plan.specs.declared.Plan.{Plan}
-use Rattle.plan.specs.declared.Reason.{Reason}
-use Rattle.bank.specs.InPlace.{bankOf, Spanned, Stands}
-use Rattle.perform.specs.declared.Performed.{Performed}
-use Rattle.perform.specs.declared.After.{After}
-use Rattle.perform.specs.Attempts.{Sought, afterOf}
-use Rattle.perform.specs.Performed.{quietly, quietPerformed, doneOf, registersFor, decidedFor, performed, Fits, Fit, Performs}
+use Rattle.perform.specs.Names.{_≡_, List, ℕ, _<_, Access, VirtualAddress, Lent, Prices, Bill, Bank, freshBank, entryFilled, walkWithin}
+use Rattle.perform.specs.Names.{freshRegisters, Answer, Pending, Registers, Said, Plan, Reason, bankOf, Spanned, Performed, After}
+use Rattle.perform.proofs.Names.{sym, _∙_, ap, subst, afterOf, quietly, quietPerformed, doneOf, registersFor, decidedFor, Fit}
+use Rattle.bank.specs.InPlace.{Stands}
+use Rattle.perform.specs.Attempts.{Searchable}
+use Rattle.perform.specs.Performed.{performed, Fits, Performs}
 
 module _ (m : Lent) (p : Prices) (b : Bill) (r : Registers) (cam ram lows highs : List ℕ) (lock victim : ℕ) (q : Pending) (plan : Plan) where
   abbrev bank : Bank
@@ -38,19 +20,36 @@ module _ (m : Lent) (p : Prices) (b : Bill) (r : Registers) (cam ram lows highs 
 
   -- an attempt: what it leaves, then the slot that it fills
   pub attempt-performs : (a : Access) (e : Reason) (va : VirtualAddress) → plan ≡ Plan.Attempt a e va → Spanned cam lows highs → Fit (r .control) cam lock victim plan
-      → (x : After) → (Sought cam lows highs (r .control) e va → x ≡ afterOf p b e q va a (decidedFor e (walkWithin m (r .base .0) (va .0)) (r .control) cam ram va a))
+      → (x : After) → (Searchable cam lows highs (r .control) e va → x ≡ afterOf p b e q va a (decidedFor e (walkWithin m (r .base .0) (va .0)) (r .control) cam ram va a))
       → (next : ℕ) (cm rm ls hs : List ℕ) → (Spanned cam lows highs → lock < 32 → victim < 32 → Stands (entryFilled bank (x .fill)) (bankOf cm rm lock next) ls hs)
       → (s : Registers) → s ≡ registersFor e r va (x .answer)
-      → Performs (performed m p b r bank q plan) (record { registers = s; lock = lock; victim = next; pending = x .pending; bill = x .bill; tally = x .tally; said = Said.Answered (x .answer) }) cm rm ls hs
+      → Performs (performed m p b r bank q plan) (record {
+        registers = s;
+        lock = lock;
+        victim = next;
+        pending = x .pending;
+        bill = x .bill;
+        tally = x .tally;
+        said = Said.Answered
+            (x .answer);
+      }) cm rm ls hs
   attempt-performs a e va pe sp fit x xe next cm rm ls hs taken s se =
       let f : Fits (r .control) cam lock victim e va = subst (Fit (r .control) cam lock victim) pe fit in
       let t = taken sp (f .lock-lt) (f .victim-lt) in
-      let o : Sought cam lows highs (r .control) e va = record { ready = f .ready; cams = f .cams; spanned = sp; virtual = f .virtual } in
+      let o : Searchable cam lows highs (r .control) e va = record { ready = f .ready; cams = f .cams; spanned = sp; virtual = f .virtual } in
       record {
         is =
             ap (λ (z : Registers). record { registers = z; bank = bankOf cm rm lock next; pending = x .pending; bill = x .bill; tally = x .tally; said = Said.Answered (x .answer) }) se
             ∙ ap (λ (z : Bank). record { registers = registersFor e r va (x .answer); bank = z; pending = x .pending; bill = x .bill; tally = x .tally; said = Said.Answered (x .answer) }) (t .bank-is)
-            ∙ ap (λ (z : After). record { registers = registersFor e r va (z .answer); bank = entryFilled bank (z .fill); pending = z .pending; bill = z .bill; tally = z .tally; said = Said.Answered (z .answer) }) (xe o)
+            ∙ ap (λ (z : After). record {
+              registers = registersFor e r va (z .answer);
+              bank = entryFilled bank
+                  (z .fill);
+              pending = z .pending;
+              bill = z .bill;
+              tally = z .tally;
+              said = Said.Answered (z .answer);
+            }) (xe o)
             ∙ ap (performed m p b r bank q) (sym pe);
         spanned = t .spanned;
       }

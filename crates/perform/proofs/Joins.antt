@@ -1,34 +1,15 @@
 -- What an attempt leaves on each of its ways is what its decision leaves, whatever the reason; a prefetch is tried by a unit that is on and walks. Assumes nothing.
-use mathlib.Core.Path.{_≡_, refl, sym, _∙_, ap}
-use mathlib.Core.Bool.{true, false, true≢false}
-use mathlib.Core.List.{List}
-use Prim.Native.Nat.{ℕ}
-use lib.ListN.{getD}
-use Rattle.page.specs.Pick.{pick}
+use Rattle.perform.specs.Names.{_≡_, true, false, List, ℕ, pick, Access, VirtualAddress, wordCount, Prices, readsPosted, Bill, Seen, lookedUp}
+use Rattle.perform.specs.Names.{Matched, Found, Walked, isOn, isWalking, Answer, Fault, Pending, plainly, Decision, Reason}
+use Rattle.perform.proofs.Names.{refl, sym, _∙_, ap, getD, decidedFor, afterOf, wordlessOf, walkedOf}
+use mathlib.Core.Bool.{true≢false}
 use Rattle.page.specs.Words.{physical}
-use Rattle.page.specs.declared.Access.{Access}
-use Rattle.page.specs.declared.VirtualAddress.{VirtualAddress}
-use Rattle.memory.specs.Reads.{wordCount}
 use Rattle.memory.specs.declared.Reads.{Reads}
-use Rattle.prices.specs.declared.Prices.{Prices}
-use Rattle.bill.specs.Bill.{readsPosted}
-use Rattle.bill.specs.declared.Bill.{Bill}
-use Rattle.bill.specs.declared.Seen.{Seen}
-use Rattle.lanes.specs.Lanes.{lookedUp}
-use Rattle.lanes.specs.declared.Matched.{Matched}
-use Rattle.walk.specs.declared.Found.{Found}
-use Rattle.walk.specs.declared.Walked.{Walked}
-use Rattle.registers.specs.Fields.{isOn, isWalking}
-use Rattle.registers.specs.declared.Answer.{Answer}
-use Rattle.registers.specs.declared.Fault.{Fault}
-use Rattle.registers.specs.declared.Pending.{Pending}
-use Rattle.decision.specs.Decisions.{plainly, byFound}
+use Rattle.decision.specs.Decisions.{byFound}
 use Rattle.decision.specs.Prefetches.{prefetchFound}
-use Rattle.decision.specs.declared.Decision.{Decision}
 use Rattle.decision.proofs.Joins.{decided-off, decided-on, decided-miss, decided-walk, prefetch-on}
-use Rattle.plan.specs.declared.Reason.{Reason}
-use Rattle.perform.specs.Performed.{decidedFor, Ready}
-use Rattle.perform.specs.Attempts.{afterOf, wordlessOf, walkedOf, matchedFor}
+use Rattle.perform.specs.Performed.{TriedOn}
+use Rattle.perform.specs.Attempts.{matchedFor}
 
 -- what a walk comes to, by the reason
 abbrev foundFor : Reason → VirtualAddress → Access → Reads → Found → Decision
@@ -50,7 +31,7 @@ module _ (p : Prices) (b : Bill) (q : Pending) (va : VirtualAddress) (a : Access
   found-after Reason.Prefetch r (Found.Page x) = refl
 
   module _ (w : Walked) (c : ℕ) (cam ram : List ℕ) where
-    pub off-after : (e : Reason) → Ready e c → isOn c ≡ false
+    pub off-after : (e : Reason) → TriedOn e c → isOn c ≡ false
         → wordlessOf b e q va a (plainly (Answer.Address (physical (va .0))) Seen.Nothing) ≡ afterOf p b e q va a (decidedFor e w c cam ram va a)
     off-after Reason.Request t h = ap (afterOf p b Reason.Request q va a) (sym (decided-off w c cam ram va a h))
     off-after Reason.Retry t h = ap (afterOf p b Reason.Retry q va a) (sym (decided-off w c cam ram va a h))
@@ -63,7 +44,7 @@ module _ (p : Prices) (b : Bill) (q : Pending) (va : VirtualAddress) (a : Access
     match-after Reason.Retry i h m = ap (afterOf p b Reason.Retry q va a) (sym (decided-on w c cam ram va a (Matched.At i) h m))
     match-after Reason.Prefetch i h m = ap (afterOf p b Reason.Prefetch q va a) (sym (prefetch-on w cam va (Matched.At i) m))
 
-    pub miss-after : (e : Reason) → Ready e c → isOn c ≡ true → lookedUp cam va ≡ Matched.Nothing → isWalking c ≡ false
+    pub miss-after : (e : Reason) → TriedOn e c → isOn c ≡ true → lookedUp cam va ≡ Matched.Nothing → isWalking c ≡ false
         → wordlessOf b e q va a (plainly (Answer.Fault Fault.Miss) Seen.NoMatch) ≡ afterOf p b e q va a (decidedFor e w c cam ram va a)
     miss-after Reason.Request t h m k = ap (afterOf p b Reason.Request q va a) (sym (decided-miss w c cam ram va a h m k))
     miss-after Reason.Retry t h m k = ap (afterOf p b Reason.Retry q va a) (sym (decided-miss w c cam ram va a h m k))

@@ -1,30 +1,9 @@
 -- What an attempt leaves: by the slot that matches, or by what the walk finds.
-use Rattle.page.specs.Ground.{ℕ, _<_, _≡_, Bool, true, false, List}
-use Rattle.page.specs.Pick.{pick}
-use Rattle.page.specs.Words.{limit, madeWords}
-use Rattle.page.specs.declared.Access.{Access}
-use Rattle.page.specs.declared.PhysicalAddress.{PhysicalAddress}
-use Rattle.page.specs.declared.VirtualAddress.{VirtualAddress}
-use Rattle.memory.specs.Reads.{wordCount}
-use Rattle.meters.specs.Posted.{noTally}
-use Rattle.prices.specs.declared.Prices.{Prices}
-use Rattle.bill.specs.Bill.{attemptPosted, seenPosted}
-use Rattle.bill.specs.declared.Bill.{Bill}
-use Rattle.bill.specs.declared.Seen.{Seen}
-use Rattle.lanes.specs.Lanes.{camLimit, camsOk, lookedUp}
-use Rattle.lanes.specs.declared.Matched.{Matched}
-use Rattle.bank.specs.declared.Fill.{Fill}
-use Rattle.walk.specs.Descriptors.{physicalOf}
-use Rattle.walk.specs.declared.Found.{Found}
-use Rattle.registers.specs.declared.Answer.{Answer}
-use Rattle.registers.specs.declared.Fault.{Fault}
-use Rattle.registers.specs.declared.Pending.{Pending}
-use Rattle.decision.specs.Decisions.{plainly, byMatch, byAccess, settled, billed}
-use Rattle.decision.specs.declared.Decision.{Decision}
-use Rattle.plan.specs.declared.Reason.{Reason}
-use Rattle.bank.specs.InPlace.{Spanned}
-use Rattle.perform.specs.Performed.{tallyFor, Ready}
-use Rattle.perform.specs.declared.After.{After}
+use Rattle.perform.specs.Names.{ℕ, _<_, _≡_, Bool, true, false, List, pick, limit, madeWords, Access, PhysicalAddress, VirtualAddress}
+use Rattle.perform.specs.Names.{wordCount, noTally, Prices, attemptPosted, seenPosted, Bill, Seen, camLimit, camsOk, lookedUp, Matched, Fill}
+use Rattle.perform.specs.Names.{physicalOf, Found, Answer, Fault, Pending, plainly, byMatch, byAccess, settled, billed, Decision, Reason}
+use Rattle.perform.specs.Names.{Spanned, After}
+use Rattle.perform.specs.Performed.{tallyFor, TriedOn}
 
 abbrev pub fetchesAhead : Reason → Bool
 fetchesAhead Reason.Request = false
@@ -84,8 +63,8 @@ walkedOf before e q va a n b (Found.Page p) = record {
 }
 
 -- what an attempt asks of the slots, of the control register and of its address
-pub record Sought (cam lows highs : List ℕ) (control : ℕ) (e : Reason) (va : VirtualAddress) : Type 0 where
-  pub ready : Ready e control
+pub record Searchable (cam lows highs : List ℕ) (control : ℕ) (e : Reason) (va : VirtualAddress) : Type 0 where
+  pub ready : TriedOn e control
   pub cams : camsOk camLimit cam ≡ true
   pub spanned : Spanned cam lows highs
   pub virtual : va .0 < limit

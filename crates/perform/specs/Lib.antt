@@ -1,3 +1,4 @@
+pub mod Names
 pub mod Charged
 pub mod Performed
 pub mod Attempts

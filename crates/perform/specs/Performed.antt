@@ -1,35 +1,9 @@
 -- What a plan leaves of a device's parts, and says (01, "The unit", "The walk", "Registers").
-use Rattle.page.specs.Ground.{ℕ, _<_, _≡_, _/_, _%_, List, true, false}
-use Rattle.page.specs.Words.{limit}
-use Rattle.page.specs.declared.Access.{Access}
-use Rattle.page.specs.declared.VirtualAddress.{VirtualAddress}
-use Rattle.memory.specs.Memory.{Lent}
-use Rattle.memory.specs.Reads.{wordCount}
-use Rattle.meters.specs.Posted.{noTally}
-use Rattle.meters.specs.declared.Tally.{Tally}
-use Rattle.prices.specs.declared.Prices.{Prices}
-use Rattle.bill.specs.declared.Bill.{Bill}
-use Rattle.lanes.specs.Lanes.{camLimit, camsOk}
-use Rattle.bank.specs.Slots.{freshBank}
-use Rattle.bank.specs.Changes.{entryFilled, lockedAt, bankFlushed, bankFlushedAt, loaded, copied}
-use Rattle.bank.specs.declared.Bank.{Bank}
-use Rattle.walk.specs.Walk.{walkWithin}
-use Rattle.walk.specs.declared.Walked.{Walked}
-use Rattle.registers.specs.Fields.{isOn, isWalking, freshRegisters, setting, withPrefetch, withCopied, wordsOf, entryOf, camAddress}
-use Rattle.registers.specs.Table.{valueAt}
-use Rattle.registers.specs.declared.Answer.{Answer}
-use Rattle.registers.specs.declared.Pending.{Pending}
-use Rattle.registers.specs.declared.Registers.{Registers}
-use Rattle.decision.specs.Decisions.{decided, settled, tallyOf, billed}
-use Rattle.decision.specs.Prefetches.{prefetchDecided, prefetchKept, shiftBy}
-use Rattle.decision.specs.declared.Decision.{Decision}
-use Rattle.decision.specs.declared.Said.{Said}
-use Rattle.decision.specs.declared.Shift.{Shift}
-use Rattle.plan.specs.Plans.{settingAt}
-use Rattle.plan.specs.declared.Plan.{Plan}
-use Rattle.plan.specs.declared.Reason.{Reason}
-use Rattle.bank.specs.InPlace.{bankOf, Spanned}
-use Rattle.perform.specs.declared.Performed.{Performed}
+use Rattle.perform.specs.Names.{ℕ, _<_, _≡_, _/_, _%_, List, true, false, limit, Access, VirtualAddress, Lent, wordCount, noTally, Tally}
+use Rattle.perform.specs.Names.{Prices, Bill, camLimit, camsOk, freshBank, entryFilled, lockedAt, bankFlushed, bankFlushedAt, loaded, copied}
+use Rattle.perform.specs.Names.{Bank, walkWithin, Walked, isOn, isWalking, freshRegisters, setting, withPrefetch, withCopied, wordsOf, entryOf}
+use Rattle.perform.specs.Names.{camAddress, valueAt, Answer, Pending, Registers, decided, settled, tallyOf, billed, prefetchDecided}
+use Rattle.perform.specs.Names.{prefetchKept, shiftBy, Decision, Said, Shift, settingAt, Plan, Reason, bankOf, Spanned, Performed}
 
 -- what a call leaves of the parts, and says
 pub record Done : Type 0 where
@@ -74,8 +48,8 @@ endedFor p b e r k q va a x = record {
 }
 
 -- over memories that were tried
-abbrev pub attempted : Lent → Prices → Bill → Reason → Registers → Bank → Pending → VirtualAddress → Access → Done
-attempted m p b e r k q va a =
+abbrev pub attemptDone : Lent → Prices → Bill → Reason → Registers → Bank → Pending → VirtualAddress → Access → Done
+attemptDone m p b e r k q va a =
     endedFor p b e r k q va a (decidedFor e (walkWithin m (r .base .0) (va .0)) (r .control) (k .cam) (k .ram) va a)
 
 -- what is planned, done
@@ -91,7 +65,7 @@ performed m p b r k q Plan.Load = quietly r (loaded k (wordsOf (r .staged))) q b
 performed m p b r k q Plan.Copy = quietly (withCopied r (entryOf (copied k))) k q b (Said.Answered Answer.Done)
 performed m p b r k q Plan.Reset = quietly freshRegisters freshBank Pending.Nothing b (Said.Answered Answer.Done)
 performed m p b r k q Plan.Drop = quietly r k Pending.Nothing b (Said.Answered Answer.Done)
-performed m p b r k q (Plan.Attempt a e va) = attempted m p b e r k q va a
+performed m p b r k q (Plan.Attempt a e va) = attemptDone m p b e r k q va a
 performed m p b r k q (Plan.Shift va) = quietly r k q b (Said.Reported (shiftBy va (walkWithin m (r .base .0) (va .0) .found)))
 performed m p b r k q (Plan.Unreported n) = quietly r k q b (Said.Reported (Shift.Refused n))
 
@@ -111,14 +85,14 @@ doneOf x cam ram = record {
 }
 
 -- a prefetch is tried by a unit that is on and walks
-abbrev pub Ready : Reason → ℕ → Type 0
-Ready Reason.Request c = Unit {0}
-Ready Reason.Retry c = Unit {0}
-Ready Reason.Prefetch c = (isOn c ≡ true) × (isWalking c ≡ true)
+abbrev pub TriedOn : Reason → ℕ → Type 0
+TriedOn Reason.Request c = Unit {0}
+TriedOn Reason.Retry c = Unit {0}
+TriedOn Reason.Prefetch c = (isOn c ≡ true) × (isWalking c ≡ true)
 
 -- an attempt asks that lock base and victim are slots, that CAM words are in range and that its address is a virtual one
 pub record Fits (control : ℕ) (cam : List ℕ) (lock victim : ℕ) (e : Reason) (va : VirtualAddress) : Type 0 where
-  pub ready : Ready e control
+  pub ready : TriedOn e control
   pub cams : camsOk camLimit cam ≡ true
   pub lock-lt : lock < 32
   pub victim-lt : victim < 32

@@ -19,11 +19,9 @@ use registers::Fault;
 use registers::Pending;
 use registers::Registers;
 use walk::Found;
-ghost use mathlib.Core.Path.{_≡_};
-ghost use Rattle.memory.specs.Memory.{lent};
-ghost use Rattle.walk.specs.Walk.{walkWithin};
+ghost use Rattle.perform.specs.Names.{_≡_, lent, walkWithin};
 ghost use Rattle.perform.specs.Performed.{tallyFor, registersFor, decidedFor};
-ghost use Rattle.perform.specs.Attempts.{fetchesAhead, Sought, Sighted, afterOf, wordlessOf, walkedOf, matchedFor, missedFor, faultFor, answerFor};
+ghost use Rattle.perform.specs.Attempts.{fetchesAhead, Searchable, Sighted, afterOf, wordlessOf, walkedOf, matchedFor, missedFor, faultFor, answerFor};
 
 // Whether an attempt is a prefetch.
 fn fetches_ahead(reason: Reason) -> bool
@@ -204,9 +202,9 @@ pub(crate) fn attempt<'a>(
     control: u16,
     base: PhysicalAddress,
     on: &'a [u8],
-    onbase: u32,
+    onbase: PhysicalAddress,
     ext: &'a [u8],
-    extbase: u32,
+    extbase: PhysicalAddress,
     prices: Prices,
     bill: Bill,
     reason: Reason,
@@ -214,7 +212,10 @@ pub(crate) fn attempt<'a>(
     va: VirtualAddress,
     a: Access,
 ) -> After
-    ensures { λ r. ⌜ (Sought (now (cam .entry)) (now (lows .entry)) (now (highs .entry)) control reason va → r ≡ afterOf prices bill reason p va a (decidedFor reason (walkWithin (lent (now (on .entry)) onbase (now (ext .entry)) extbase) (base .0) (va .0)) control (now (cam .entry)) (now (ram .entry)) va a)) ⌝ }
+    ensures { λ r. ⌜ (Searchable (now (cam .entry)) (now (lows .entry)) (now (highs .entry)) control reason va
+        → r
+        ≡ afterOf prices bill reason p va a (decidedFor reason (walkWithin (lent (now (on .entry)) (onbase .0) (now (ext .entry)) (extbase .0)) (base .0) (va .0))
+        control (now (cam .entry)) (now (ram .entry)) va a)) ⌝ }
 {
     if !registers::is_on(control) {
         let off = decision::plain(Answer::Address(PhysicalAddress(va.0)), Seen::Nothing);

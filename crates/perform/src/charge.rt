@@ -9,19 +9,15 @@ use walk::First;
 use walk::Found;
 use walk::Read;
 use walk::Table;
-ghost use mathlib.Core.Path.{_≡_};
-ghost use Rattle.memory.specs.Memory.{lent};
-ghost use Rattle.bill.specs.Bill.{wordPosted};
-ghost use Rattle.walk.specs.Descriptors.{Room};
-ghost use Rattle.walk.specs.Walk.{readWithin, afterSecond, byFirst, walkWithin};
+ghost use Rattle.perform.specs.Names.{_≡_, lent, wordPosted, Room, readWithin, afterSecond, byFirst, walkWithin};
 ghost use Rattle.perform.specs.Charged.{chargedOf};
 
 // The end of a walk whose second word stands at an address: the bill before it, and with the first word on it.
 fn second<'a>(
     on: &'a [u8],
-    onbase: u32,
+    onbase: PhysicalAddress,
     ext: &'a [u8],
-    extbase: u32,
+    extbase: PhysicalAddress,
     prices: Prices,
     before: Bill,
     bill: Bill,
@@ -30,7 +26,7 @@ fn second<'a>(
     at: PhysicalAddress,
 ) -> Charged
     requires { ⌜ bill ≡ wordPosted prices before first ⌝ }
-    ensures { λ r. ⌜ r ≡ chargedOf prices before (afterSecond table first (at .0) (readWithin (lent (now (on .entry)) onbase (now (ext .entry)) extbase) (at .0))) ⌝ }
+    ensures { λ r. ⌜ r ≡ chargedOf prices before (afterSecond table first (at .0) (readWithin (lent (now (on .entry)) (onbase .0) (now (ext .entry)) (extbase .0)) (at .0))) ⌝ }
 {
     let read = walk::read_word(on, onbase, ext, extbase, at);
     match read {
@@ -58,9 +54,9 @@ fn second<'a>(
 // The rest of a walk by what its first word says.
 fn rest<'a>(
     on: &'a [u8],
-    onbase: u32,
+    onbase: PhysicalAddress,
     ext: &'a [u8],
-    extbase: u32,
+    extbase: PhysicalAddress,
     prices: Prices,
     before: Bill,
     bill: Bill,
@@ -69,7 +65,7 @@ fn rest<'a>(
     d: First,
 ) -> Charged
     requires { ⌜ Room d × (bill ≡ wordPosted prices before first) ⌝ }
-    ensures { λ r. ⌜ r ≡ chargedOf prices before (byFirst (readWithin (lent (now (on .entry)) onbase (now (ext .entry)) extbase)) (va .0) first d) ⌝ }
+    ensures { λ r. ⌜ r ≡ chargedOf prices before (byFirst (readWithin (lent (now (on .entry)) (onbase .0) (now (ext .entry)) (extbase .0))) (va .0) first d) ⌝ }
 {
     let v = va.0;
     match d {
@@ -123,15 +119,15 @@ fn rest<'a>(
 // The plain walk, each word charged to the bill as it is read.
 pub(crate) fn walk<'a>(
     on: &'a [u8],
-    onbase: u32,
+    onbase: PhysicalAddress,
     ext: &'a [u8],
-    extbase: u32,
+    extbase: PhysicalAddress,
     prices: Prices,
     bill: Bill,
     base: PhysicalAddress,
     va: VirtualAddress,
 ) -> Charged
-    ensures { λ r. ⌜ r ≡ chargedOf prices bill (walkWithin (lent (now (on .entry)) onbase (now (ext .entry)) extbase) (base .0) (va .0)) ⌝ }
+    ensures { λ r. ⌜ r ≡ chargedOf prices bill (walkWithin (lent (now (on .entry)) (onbase .0) (now (ext .entry)) (extbase .0)) (base .0) (va .0)) ⌝ }
 {
     let at = PhysicalAddress(base.0 / 128 * 128 + 4 * (va.0 / 1048576 % 16));
     let read = walk::read_word(on, onbase, ext, extbase, at);

@@ -13,11 +13,7 @@ use registers::Answer;
 use registers::Pending;
 use registers::Registers;
 use walk::Found;
-ghost use mathlib.Core.Path.{_≡_};
-ghost use Rattle.memory.specs.Memory.{lent};
-ghost use Rattle.registers.specs.Fields.{setting};
-ghost use Rattle.bank.specs.InPlace.{bankOf, Spanned};
-ghost use Rattle.plan.specs.Plans.{settingAt};
+ghost use Rattle.perform.specs.Names.{_≡_, lent, setting, bankOf, Spanned, settingAt};
 ghost use Rattle.perform.specs.Performed.{performed, quietPerformed, Fit, Performs};
 
 mod attempt;
@@ -117,12 +113,14 @@ pub fn perform<'a>(
     p: Pending,
     bill: Bill,
     on: &'a [u8],
-    onbase: u32,
+    onbase: PhysicalAddress,
     ext: &'a [u8],
-    extbase: u32,
+    extbase: PhysicalAddress,
     prices: Prices,
 ) -> Performed
-    ensures { λ x. ⌜ (Spanned (now (cam .entry)) (now (lows .entry)) (now (highs .entry)) → Fit (r .control) (now (cam .entry)) lock victim plan → Performs (performed (lent (now (on .entry)) onbase (now (ext .entry)) extbase) prices bill r (bankOf (now (cam .entry)) (now (ram .entry)) lock victim) p plan) x (now (cam .exit)) (now (ram .exit)) (now (lows .exit)) (now (highs .exit))) ⌝ }
+    ensures { λ x. ⌜ (Spanned (now (cam .entry)) (now (lows .entry)) (now (highs .entry)) → Fit (r .control) (now (cam .entry)) lock victim plan
+        → Performs (performed (lent (now (on .entry)) (onbase .0) (now (ext .entry)) (extbase .0)) prices bill r (bankOf (now (cam .entry)) (now (ram .entry)) lock victim) p plan)
+        x (now (cam .exit)) (now (ram .exit)) (now (lows .exit)) (now (highs .exit))) ⌝ }
 {
     let base = r.base;
     let staged = r.staged;

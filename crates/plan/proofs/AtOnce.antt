@@ -1,11 +1,10 @@
 -- Tests made at once and one after the other come to the same. Assumes nothing.
-use mathlib.Core.Path.{_≡_, refl, sym, _∙_, ap}
-use mathlib.Core.Bool.{Bool, true, false, _&&_, true≢false, false≢true}
-use Prim.Native.Nat.{ℕ}
+use Rattle.plan.specs.Names.{_≡_, Bool, ℕ, pick, _and_}
+use Rattle.plan.proofs.Names.{sym, _∙_, ap, _&&_, Plan}
+use mathlib.Core.Path.{refl}
+use mathlib.Core.Bool.{true, false, true≢false, false≢true}
 use native.Mathlib.Omega.{arith}
-use Rattle.page.specs.Pick.{pick, _and_}
 use Rattle.page.proofs.Picks.{and-is}
-use Rattle.plan.specs.declared.Plan.{Plan}
 use Rattle.plan.specs.Plans.{lentRefusal}
 
 -- the machine's test of two, the second by what it says

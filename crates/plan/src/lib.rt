@@ -8,11 +8,11 @@ use registers::Fault;
 use registers::Pending;
 use registers::Setting;
 use registers::Tending;
-ghost use mathlib.Core.Path.{_≡_};
-ghost use Rattle.page.specs.Pick.{_and_};
+ghost use Rattle.plan.specs.Names.{_≡_, _and_};
 ghost use Rattle.bill.specs.Bill.{billOk};
 ghost use Rattle.registers.specs.Table.{commandOf};
-ghost use Rattle.plan.specs.Plans.{lentRefusal, requestRefusal, requestPlan, prefetchPlan, retryPlan, pendingPlan, acknowledgePlan, settingPlan, tendPlan, unlessWalking, commandPlan, writePlan, readPlan, dropPlan, shiftPlan};
+ghost use Rattle.plan.specs.Plans.{lentRefusal, requestRefusal, requestPlan, prefetchPlan, retryPlan, pendingPlan, acknowledgePlan};
+ghost use Rattle.plan.specs.Plans.{settingPlan, tendPlan, unlessWalking, commandPlan, writePlan, readPlan, dropPlan, shiftPlan};
 
 // Why the unit tries an address.
 pub enum Reason {

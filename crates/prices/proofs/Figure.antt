@@ -1,12 +1,7 @@
 -- A word's price is one of its price's figures, so what every figure passes, it passes. Assumes nothing.
-use mathlib.Core.Path.{_≡_}
-use mathlib.Core.Bool.{Bool, true}
-use Prim.Native.Nat.{ℕ}
-use lib.Dec.{eqb}
-use lib.Ieee.{Float}
-use Rattle.page.proofs.Picks.{pick-by, and-left, and-right}
-use Rattle.prices.specs.Types.{Price, LastRow, Side}
-use Rattle.prices.specs.Prices.{every, rowPrice, wordPrice}
+use Rattle.prices.specs.Names.{_≡_, Bool, ℕ, eqb, Float, Price, LastRow, Side}
+use Rattle.prices.proofs.Names.{true, and-left, and-right, every, rowPrice, wordPrice}
+use Rattle.page.proofs.Picks.{pick-by}
 
 row-figure : (test : Float → Bool) (same fresh : Float) (last : LastRow) (row : ℕ) → test same ≡ true → test fresh ≡ true → test (rowPrice same fresh last row) ≡ true
 unfolding rowPrice

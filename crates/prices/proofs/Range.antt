@@ -1,17 +1,15 @@
 -- What `figureOk` says of a figure. Assumes nothing.
-use mathlib.Core.Path.{_≡_, refl, sym, ap, _∙_, subst}
-use mathlib.Core.Bool.{Bool, true, false, _&&_, _||_, false≢true}
-use Prim.Native.Nat.{ℕ, _*_, _<_, _≤_}
+use Rattle.prices.specs.Names.{_≡_, Bool, ℕ, eqb, Float, binary64, _and_}
+use Rattle.prices.proofs.Names.{refl, sym, ap, _∙_, true, false, _&&_, pos, fin, and-left, and-right, figureOk, f0, f4096}
+use mathlib.Core.Path.{subst}
+use mathlib.Core.Bool.{_||_, false≢true}
+use Prim.Native.Nat.{_*_, _<_, _≤_}
 use native.Mathlib.Nat.{zero-mul, mul-one}
 use native.Mathlib.Omega.{arith}
-use lib.IntN.{pos}
 use lib.Count.{trailingZeros}
-use lib.Dec.{T, ltb, eqb, ltb→lt, eqb→eq}
-use lib.Ieee.{Float, nan, inf, fin, binary64, up, down, level, lt, eq, le, ofBits, ofFields, odd}
+use lib.Dec.{T, ltb, ltb→lt, eqb→eq}
+use lib.Ieee.{nan, inf, up, down, level, lt, eq, le, ofBits, ofFields, odd}
 use lib.Ieee.Fits.{and-l}
-use Rattle.page.specs.Pick.{_and_}
-use Rattle.page.proofs.Picks.{and-left, and-right}
-use Rattle.prices.specs.Prices.{figureOk, f0, f4096}
 use Rattle.prices.proofs.Values.{zero-is, top-is}
 
 -- finite, at most 4,096 in size, and not below zero

@@ -1,12 +1,7 @@
 -- What a row price charges: the first read of a memory is a new row; then the row last read is the same row, and any other is new. Assumes nothing.
-use mathlib.Core.Path.{_≡_, refl}
-use Prim.Native.Nat.{ℕ}
-use lib.Ieee.{Float}
-use borrow.Author.Tests.{eq-eqb, ne-eqb}
-use Rattle.page.proofs.Picks.{pick-yes, pick-no}
-use Rattle.prices.specs.Types.{Side}
-use Rattle.prices.specs.declared.Price.{Price}
-use Rattle.prices.specs.Prices.{rowPrice, wordPrice, sideRead, freshSide}
+use Rattle.prices.specs.Names.{_≡_, ℕ, Float, Price, Side}
+use Rattle.prices.proofs.Names.{refl, eq-eqb, ne-eqb, pick-yes, pick-no, rowPrice, wordPrice}
+use Rattle.prices.specs.Prices.{sideRead, freshSide}
 
 module _ (same fresh : Float) where
   pub first-row : (row : ℕ) → wordPrice (Price.Row same fresh) freshSide row ≡ fresh

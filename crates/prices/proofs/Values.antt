@@ -1,10 +1,8 @@
 -- The ends of a figure's range as values. Assumes nothing.
-use mathlib.Core.Path.{_≡_, refl}
-use lib.IntN.{pos}
-use mathlib.Core.Bool.{false}
+use Rattle.prices.specs.Names.{_≡_}
+use Rattle.prices.proofs.Names.{refl, pos, false, fin, f0, f4096}
 use lib.Count.{trailingZeros}
-use lib.Ieee.{fin, ofBits, ofFields, odd}
-use Rattle.prices.specs.Prices.{f0, f4096}
+use lib.Ieee.{ofBits, ofFields, odd}
 
 pub zero-is : f0 ≡ fin false 0 (pos 0)
 unfolding ofBits ofFields odd

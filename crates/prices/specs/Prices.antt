@@ -1,7 +1,5 @@
 -- What a word costs (01, "Meters and the walk bill", and refusal 9). Figures are binary64 values.
-use Rattle.page.specs.Ground.{ℕ, _/_, Bool, eqb}
-use Rattle.page.specs.Pick.{pick, _and_}
-use Rattle.prices.specs.Types.{Float, binary64, PhysicalAddress, Price, Prices, LastRow, Side}
+use Rattle.prices.specs.Names.{ℕ, _/_, Bool, eqb, pick, _and_, Float, binary64, PhysicalAddress, Price, Prices, LastRow, Side}
 use lib.Ieee.{ofBits, le}
 
 -- 0 and 4,096 as bit patterns of an f64

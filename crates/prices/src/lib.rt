@@ -1,6 +1,6 @@
 // What a word costs: a memory's price, flat or by row, and what is kept of a memory to tell its row.
 use page::PhysicalAddress;
-ghost use mathlib.Core.Path.{_≡_};
+ghost use Rattle.prices.specs.Names.{_≡_};
 ghost use Rattle.prices.specs.Prices.{figureOk, priceOk, pricesOk, rowOf, rowPrice, wordPrice, sideRead, freshSide};
 
 // Rows are this many bytes of physical address.

@@ -1,19 +1,8 @@
 -- What the check of a list promises of its mappings. Assumes nothing.
-use mathlib.Core.Path.{_≡_, refl, sym, _∙_, subst}
-use mathlib.Core.Bool.{Bool, true, false, true≢false}
-use mathlib.Core.List.{List, [], _∷_}
-use Prim.Native.Nat.{ℕ, zero, suc, _+_, _/_, _≤_, _<_}
-use native.Mathlib.Omega.{arith}
-use native.Mathlib.Decide.{decLe}
-use borrow.Author.Tests.{not-false}
-use lib.ListN.{length}
-use Rattle.page.specs.Pick.{pick, _or_}
-use Rattle.page.proofs.Picks.{pick-yes, pick-no, and-left, and-right, or-yes, or-no}
-use Rattle.records.specs.declared.Mapping.{Mapping}
-use Rattle.records.specs.declared.Checked.{Checked}
-use Rattle.records.specs.Mappings.{recordAt, mappingOf, mappingsFrom, mappings, overlap}
-use Rattle.records.specs.Checks.{proper, wellFormed}
-use Rattle.records.specs.Refusals.{bad, clashes, overlapping, checkedFrom, begun, checked}
+use Rattle.records.specs.Names.{_≡_, Bool, true, false, List, [], _∷_, ℕ, zero, suc, _+_, _/_, _≤_, _<_, length, pick, _or_, Mapping, Checked}
+use Rattle.records.proofs.Names.{refl, sym, _∙_, subst, true≢false, arith, decLe, not-false, pick-yes, pick-no, and-left, and-right, or-yes}
+use Rattle.records.proofs.Names.{or-no, recordAt, mappingOf, mappingsFrom, mappings, overlap, proper, wellFormed, bad, clashes, overlapping}
+use Rattle.records.proofs.Names.{checkedFrom, begun, checked}
 use Rattle.records.proofs.Alls.{All}
 
 -- neither of two tests that fail together holds

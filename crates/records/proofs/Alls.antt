@@ -1,10 +1,6 @@
 -- What is true of every mapping of a list. Assumes nothing.
-use mathlib.Core.List.{List, [], _∷_}
-use Prim.Native.Nat.{ℕ, zero, suc, _<_}
-use native.Mathlib.Omega.{arith}
-use lib.ListN.{length, getD}
-use Rattle.records.specs.declared.Mapping.{Mapping}
-use Rattle.records.specs.Mappings.{noMapping}
+use Rattle.records.specs.Names.{List, [], _∷_, ℕ, zero, suc, _<_, length, getD, Mapping}
+use Rattle.records.proofs.Names.{arith, noMapping}
 
 abbrev pub All : (Mapping → Type 0) → List Mapping → Type 0
 All P [] = Unit

@@ -1,9 +1,9 @@
 -- Addresses cut at two numbers of low bits. Assumes nothing.
-use mathlib.Core.Path.{_≡_, sym, ap, _∙_, subst}
-use Prim.Native.Nat.{ℕ, _+_, _*_, _-_, _/_, _%_, _^_, _≤_}
-use native.Mathlib.Nat.{add-comm, add-sub-of-le, add-zero, add-mul, add-assoc, mul-assoc, mul-add-div-right, mul-mod-left}
-use lib.Pow.{pow-pos, pow-add, shr-shr, field, mod-mod-pow, split}
-use Rattle.page.specs.Low.{upper, joined}
+use Rattle.records.specs.Names.{_≡_, ℕ, _+_, _*_, _/_, _%_, _^_, _≤_, joined}
+use Rattle.records.proofs.Names.{sym, ap, _∙_, subst, _-_, mul-mod-left, pow-pos, shr-shr, field, mod-mod-pow}
+use native.Mathlib.Nat.{add-comm, add-sub-of-le, add-zero, add-mul, add-assoc, mul-assoc, mul-add-div-right}
+use lib.Pow.{pow-add, split}
+use Rattle.page.specs.Low.{upper}
 use Rattle.page.proofs.Lower.{joined-high}
 
 -- two addresses that agree above s bits agree above any more

@@ -1,22 +1,9 @@
 -- Which mapping holds an address: one law over the number of low bits. Assumes nothing.
-use mathlib.Core.Path.{_≡_, refl, sym, ap, ap₂, _∙_, subst}
-use mathlib.Core.Bool.{Bool, true, false, true≢false}
-use mathlib.Core.List.{List, [], _∷_}
-use mathlib.Core.Logic.{_⊎_, inl, inr}
-use Prim.Native.Nat.{ℕ, _/_, _^_, _≤_}
-use native.Mathlib.Omega.{arith}
-use native.Mathlib.Decide.{decLe}
-use lib.Dec.{eqb}
-use borrow.Author.Tests.{eqb-true, eqb-false, eq-eqb}
-use Rattle.page.specs.Pick.{pick, _or_}
-use Rattle.page.specs.Words.{lowBits}
-use Rattle.page.specs.declared.VirtualAddress.{VirtualAddress}
-use Rattle.page.proofs.Picks.{pick-yes, pick-no, pick-by, or-yes, or-no}
-use Rattle.page.proofs.Slot.{lowBits-le}
-use Rattle.records.specs.declared.Mapping.{Mapping}
-use Rattle.records.specs.declared.Held.{Held}
-use Rattle.records.specs.Mappings.{holds, overlap}
-use Rattle.records.specs.Meanings.{holder}
+use Rattle.records.specs.Names.{_≡_, Bool, true, false, List, [], _∷_, ℕ, _/_, _^_, _≤_, eqb, pick, _or_, lowBits, VirtualAddress, Mapping, Held}
+use Rattle.records.proofs.Names.{refl, sym, ap, ap₂, _∙_, subst, true≢false, _⊎_, inl, inr, arith, decLe, eqb-true, eq-eqb, pick-yes, pick-no}
+use Rattle.records.proofs.Names.{or-yes, or-no, lowBits-le, holds, overlap, holder}
+use borrow.Author.Tests.{eqb-false}
+use Rattle.page.proofs.Picks.{pick-by}
 use Rattle.records.proofs.Alls.{All}
 use Rattle.records.proofs.Bits.{agree-up}
 use Rattle.records.proofs.Accepted.{Disjoint}

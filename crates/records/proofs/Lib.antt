@@ -1,3 +1,4 @@
+pub mod Names
 pub mod Scan
 pub mod Alls
 pub mod Bits

@@ -1,10 +1,7 @@
 -- The mappings of the records, by index. Assumes nothing.
-use mathlib.Core.Path.{_≡_, refl, ap, _∙_}
-use mathlib.Core.List.{List}
-use Prim.Native.Nat.{ℕ, zero, suc, _+_, _/_, _≤_, _<_}
-use native.Mathlib.Omega.{arith}
-use lib.ListN.{length, getD, List·getD-eq-default}
-use Rattle.records.specs.Mappings.{recordAt, mappingOf, mappingsFrom, mappings, noMapping}
+use Rattle.records.specs.Names.{_≡_, List, ℕ, zero, suc, _+_, _/_, _≤_, _<_, length, getD}
+use Rattle.records.proofs.Names.{refl, ap, _∙_, arith, recordAt, mappingOf, mappingsFrom, mappings, noMapping}
+use lib.ListN.{List·getD-eq-default}
 
 pub from-length : (rs : List ℕ) (n i : ℕ) → length (mappingsFrom rs i n) ≡ n
 unfolding mappingsFrom

@@ -1,18 +1,8 @@
 -- The kinds that the check notes: after i records those of the first i mappings. Assumes nothing.
-use mathlib.Core.Path.{_≡_, refl, sym, ap, _∙_, subst}
-use mathlib.Core.Bool.{Bool, true, false}
-use mathlib.Core.List.{List}
-use Prim.Native.Nat.{ℕ, zero, suc, _+_, _*_, _/_, _≤_, _<_}
-use native.Mathlib.Omega.{arith}
-use native.Mathlib.Numerals.{add-one}
-use lib.ListN.{length, set, length-set}
-use Rattle.page.specs.Pick.{_or_}
-use Rattle.page.specs.declared.Kind.{Kind}
-use Rattle.records.specs.declared.Mapping.{Mapping}
-use Rattle.records.specs.Mappings.{recordAt, mappingOf, mappingsFrom, mappings}
-use Rattle.records.specs.Noted.{isIn, hasKind, Blank, noteAt, Kinds}
+use Rattle.records.specs.Names.{_≡_, Bool, true, false, List, ℕ, zero, suc, _+_, _*_, _/_, _≤_, _<_, length, set, _or_, Kind, Mapping, Checked}
+use Rattle.records.proofs.Names.{refl, sym, ap, _∙_, subst, arith, add-one, length-set, recordAt, mappingOf, mappingsFrom, mappings, isIn}
+use Rattle.records.proofs.Names.{hasKind, Blank, noteAt, Kinds}
 use Rattle.records.proofs.Notes.{noted-none, noted-more}
-use Rattle.records.specs.declared.Checked.{Checked}
 
 or-swap : (a b c : Bool) → (a or (b or c)) ≡ (b or (a or c))
 unfolding _or_
@@ -39,7 +29,8 @@ pub notes-none : (rs : List ℕ) (seen : List Bool) → Blank seen → Notes rs 
 unfolding mappingsFrom
 notes-none rs seen e = record { room = ap length e; kinds = noted-none seen e }
 
-pub notes-more : (rs : List ℕ) (i : ℕ) (m : Mapping) (seen after : List Bool) → m ≡ mappingOf (recordAt rs i) → m .at .0 < 16777216 → after ≡ set seen (noteAt m) true → Notes rs i seen → Notes rs (i + 1) after
+pub notes-more : (rs : List ℕ) (i : ℕ) (m : Mapping) (seen after : List Bool) → m ≡ mappingOf (recordAt rs i) → m .at .0 < 16777216 → after ≡ set seen (noteAt m) true
+    → Notes rs i seen → Notes rs (i + 1) after
 notes-more rs i m seen after q lt e n = record {
   room = ap length e ∙ simp length-set (n .room);
   kinds =

@@ -1,19 +1,8 @@
 -- The kinds of page of each megabyte, noted one mapping after the other. Assumes nothing.
-use mathlib.Core.Path.{_≡_, refl, sym, ap, _∙_}
-use mathlib.Core.Bool.{Bool, true, false}
-use mathlib.Core.List.{List, []}
-use Prim.Native.Nat.{ℕ, zero, suc, _+_, _*_, _/_, _^_, _<_}
-use native.Mathlib.Omega.{arith}
-use native.Mathlib.Decide.{ℕ-discrete}
-use borrow.Author.Tests.{eq-eqb, ne-eqb}
-use lib.ListN.{length, getD, set, replicate}
-use lib.Seq.{getD-set-same, getD-set-other}
-use Rattle.page.specs.Pick.{_or_}
-use Rattle.page.specs.Words.{typeOf}
-use Rattle.page.specs.declared.Kind.{Kind}
-use Rattle.page.proofs.Picks.{and-yes, and-no, or-yes, or-no}
-use Rattle.records.specs.declared.Mapping.{Mapping}
-use Rattle.records.specs.Noted.{isIn, hasKind, Blank, noteAt, Kinds}
+use Rattle.records.specs.Names.{_≡_, Bool, true, false, List, [], ℕ, zero, suc, _+_, _*_, _/_, _^_, _<_, length, getD, set, replicate, _or_}
+use Rattle.records.specs.Names.{typeOf, Kind, Mapping}
+use Rattle.records.proofs.Names.{refl, sym, ap, _∙_, arith, ℕ-discrete, eq-eqb, ne-eqb, getD-set-same, getD-set-other, and-yes, and-no, or-yes}
+use Rattle.records.proofs.Names.{or-no, isIn, hasKind, Blank, noteAt, Kinds}
 
 pub type-lt : (k : Kind) → typeOf k < 4
 type-lt Kind.Section = omega arith

@@ -1,18 +1,10 @@
 -- The check of a list, record by record. Assumes nothing.
-use mathlib.Core.Path.{_≡_, refl, sym, ap, _∙_}
-use mathlib.Core.Bool.{Bool, true, false, not, true≢false}
-use mathlib.Core.List.{List}
-use Prim.Native.Nat.{ℕ, suc, _+_, _*_, _-_, _≤_, _<_}
-use native.Mathlib.Omega.{arith}
-use native.Mathlib.Numerals.{add-one}
-use borrow.Author.Tests.{le-leb, lt-leb, leb-true, not-false}
-use lib.ListN.{length, drop, length-take, length-drop}
-use Rattle.page.specs.Pick.{pick, _or_}
-use Rattle.page.proofs.Picks.{pick-yes, pick-no, and-no, and-left, or-yes, or-no}
-use Rattle.records.specs.declared.Checked.{Checked}
-use Rattle.records.specs.Mappings.{recordAt}
-use Rattle.records.specs.Checks.{wellFormed}
-use Rattle.records.specs.Refusals.{most, bad, overlapping, checkedFrom, begun, checked}
+use Rattle.records.specs.Names.{_≡_, Bool, true, false, not, List, ℕ, suc, _+_, _*_, _≤_, _<_, length, drop, pick, _or_, Checked}
+use Rattle.records.proofs.Names.{refl, sym, ap, _∙_, true≢false, _-_, arith, add-one, le-leb, lt-leb, not-false, length-take, length-drop}
+use Rattle.records.proofs.Names.{pick-yes, pick-no, and-no, and-left, or-yes, or-no, recordAt, wellFormed, bad, overlapping, checkedFrom}
+use Rattle.records.proofs.Names.{begun, checked}
+use borrow.Author.Tests.{leb-true}
+use Rattle.records.specs.Refusals.{most}
 
 or-second : (a b : Bool) → (a or b) ≡ false → b ≡ false
 or-second true b e = absurd (true≢false (sym (or-yes true b refl) ∙ e))

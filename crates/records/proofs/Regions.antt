@@ -1,19 +1,7 @@
 -- The tiny pages that a mapping has, as a run. Assumes nothing.
-use mathlib.Core.Path.{_≡_, sym, ap, _∙_}
-use mathlib.Core.Bool.{Bool, true, false, true≢false}
-use mathlib.Core.List.{List}
-use Prim.Native.Nat.{ℕ, _+_, _*_, _/_, _%_, _^_, _≤_, _<_}
-use native.Mathlib.Omega.{arith}
-use lib.Dec.{eqb}
-use lib.Bits.{bitOr}
-use lib.Pow.{shl-exact}
-use lib.ListN.{length, getD, set}
-use borrow.Author.Tests.{eq-eqb, eqb-true}
-use Rattle.page.specs.Words.{virtual, lowBits}
-use Rattle.page.specs.declared.Kind.{Kind}
-use Rattle.records.specs.declared.Mapping.{Mapping}
-use Rattle.records.specs.Mappings.{holds}
-use Rattle.records.specs.Bitmap.{Says, Clear, Free, Full, Covered}
+use Rattle.records.specs.Names.{_≡_, Bool, true, false, List, ℕ, _+_, _*_, _/_, _%_, _^_, _≤_, _<_, eqb, length, getD, set, virtual, lowBits}
+use Rattle.records.specs.Names.{Kind, Mapping}
+use Rattle.records.proofs.Names.{sym, ap, _∙_, true≢false, arith, bitOr, shl-exact, eq-eqb, eqb-true, holds, Says, Untaken, Free, Full, Covered}
 use Rattle.records.proofs.Runs.{says-run, says-word, full-or, full-all}
 
 -- the run of n pages from s on is exactly what the mapping has
@@ -47,7 +35,7 @@ module _ (m : Mapping) (lt : m .at .0 < 16777216) where
   region-section e = region-by m Kind.Section _ 1024 e (omega arith) (λ p h. (omega arith, omega arith)) (λ p l h. omega arith)
 
 -- what a test says of the run it says of the mapping
-pub says-free : (c : List ℕ) (m : Mapping) (s n : ℕ) (r : Bool) → Region m s n → Says (Clear c s n) r → Says (Free c m) r
+pub says-free : (c : List ℕ) (m : Mapping) (s n : ℕ) (r : Bool) → Region m s n → Says (Untaken c s n) r → Says (Free c m) r
 says-free c m s n true g f = λ p h e. let i = g .inside p e in f p (i .0) (i .1)
 says-free c m s n false g f = λ free. f (λ p l h. free p (omega (arith, g .below)) (g .within p l h))
 
@@ -62,7 +50,7 @@ module _ (c : List ℕ) (m : Mapping) (lt : m .at .0 < 16777216) where
   abbrev word : ℕ
   word = m .at .0 / 65536
 
-  pub free-section : (r : Bool) → m .kind ≡ Kind.Section → Says (Clear c (64 * (word / 16 * 16)) 1024) r → Says (Free c m) r
+  pub free-section : (r : Bool) → m .kind ≡ Kind.Section → Says (Untaken c (64 * (word / 16 * 16)) 1024) r → Says (Free c m) r
   free-section r e s = says-free c m _ 1024 r (region-section m lt e) s
 
   pub free-large : m .kind ≡ Kind.Large → getD c word 0 < 2 ^ 64 → Says (Free c m) (eqb (getD c word 0) 0)

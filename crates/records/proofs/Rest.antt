@@ -1,22 +1,15 @@
 -- A record's last four bytes as one word: type, access, and two zeros. Assumes nothing.
-use mathlib.Core.Path.{_≡_, refl, sym, ap, _∙_}
-use mathlib.Core.Bool.{Bool, true, false, true≢false}
-use mathlib.Core.List.{List}
-use Prim.Native.Nat.{ℕ, _+_, _*_, _/_, _%_, _^_, _≤_, _<_}
-use native.Mathlib.Omega.{arith}
-use native.Mathlib.Decide.{ℕ-discrete}
-use borrow.Author.Tests.{le-leb, lt-ltb, le-ltb, eq-eqb, ne-eqb, ltb-true, eqb-true}
-use lib.Bits.{bitOr, or-mod, or-zero-l, or-add-and, and-le-r}
-use lib.Pow.{shl-exact}
-use lib.Dec.{eqb, ltb, leb, lit<}
-use lib.ListN.{length, getD, take, drop, length-take, length-drop}
+use Rattle.records.specs.Names.{_≡_, Bool, true, false, List, ℕ, _+_, _*_, _/_, _%_, _^_, _≤_, _<_, eqb, ltb, leb, length, getD, take, drop}
+use Rattle.records.specs.Names.{_and_, _or_, megabytes, lowBits, kindOf, wordOf}
+use Rattle.records.proofs.Names.{refl, sym, ap, _∙_, true≢false, arith, ℕ-discrete, le-leb, eq-eqb, ne-eqb, ltb-true, eqb-true, bitOr}
+use Rattle.records.proofs.Names.{shl-exact, length-take, length-drop, pick-yes, and-yes, and-no, and-left, and-right, or-yes, or-no, mappingOf}
+use Rattle.records.proofs.Names.{proper, wellFormed}
+use borrow.Author.Tests.{lt-ltb, le-ltb}
+use lib.Bits.{or-mod, or-zero-l, or-add-and, and-le-r}
+use lib.Dec.{lit<}
 use lib.Seq.{getD-take, getD-drop}
-use Rattle.page.specs.Pick.{_and_, _or_}
-use Rattle.page.specs.Words.{megabytes, lowBits, kindOf}
-use Rattle.page.proofs.Picks.{pick-yes, and-yes, and-no, and-left, and-right, or-yes, or-no}
-use Rattle.wire.specs.Words.{littleEndian, wordOf}
-use Rattle.records.specs.Mappings.{mappingOf}
-use Rattle.records.specs.Checks.{multiple, proper, wellFormed}
+use Rattle.wire.specs.Words.{littleEndian}
+use Rattle.records.specs.Checks.{multiple}
 
 pub by-false : (b : Bool) → (b ≡ true → ⊥) → b ≡ false
 by-false true f = absurd (f refl)
@@ -53,7 +46,10 @@ module _ (r : List ℕ) (room : 12 ≤ length r) (bytes : (i : ℕ) → getD r i
   rest-is =
       pick-yes _ _ _ (le-leb 4 (length (take 4 (drop 8 r))) (omega (arith, length-take 4 (drop 8 r), length-drop 8 r)))
       ∙ (let a = byte 0 (omega arith) in let b = byte 1 (omega arith) in let c = byte 2 (omega arith) in let d = byte 3 (omega arith) in
-      let z : littleEndian (getD (take 4 (drop 8 r)) 0 0) (getD (take 4 (drop 8 r)) 1 0) (getD (take 4 (drop 8 r)) 2 0) (getD (take 4 (drop 8 r)) 3 0) ≡ getD r 8 0 + 256 * getD r 9 0 + 65536 * getD r 10 0 + 16777216 * getD r 11 0 = omega arith in z)
+      let z : littleEndian (getD (take 4 (drop 8 r)) 0 0) (getD (take 4 (drop 8 r)) 1 0) (getD (take 4 (drop 8 r)) 2 0) (getD (take 4 (drop 8 r)) 3 0)
+      ≡ getD r 8 0 + 256 * getD r 9 0 + 65536 * getD r 10 0 + 16777216 * getD r 11 0 =
+      omega arith in
+      z)
 
   -- what a well-formed record's bytes are
   parts : wellFormed megabytes r ≡ true → (getD r 8 0 < 4) × ((getD r 9 0 ≡ 2 → ⊥) → getD r 9 0 ≡ 3) × (getD r 10 0 ≡ 0) × (getD r 11 0 ≡ 0)

@@ -1,17 +1,11 @@
 -- Bits of numbers, and runs of them that are zero. Assumes nothing.
-use mathlib.Core.Path.{_≡_, refl, sym, ap, ap₂, _∙_, subst}
-use mathlib.Core.List.{List}
-use Prim.Native.Nat.{ℕ, zero, suc, _+_, _*_, _-_, _/_, _%_, _^_, _≤_, _<_, max}
-use native.Mathlib.Omega.{arith}
-use native.Mathlib.Nat.{zero-div, zero-mul, mod-one, mod-eq-of-lt, mul-mod-left, max-zero}
-use native.Mathlib.Decide.{decLe, ℕ-discrete}
-use borrow.Author.Tests.{eq-eqb, ne-eqb}
-use lib.Dec.{eqb}
-use lib.Pow.{field, mod-mod-pow, mod-pow-add, shr-shr, shr-lt, shl-lt, shl-shr, high, ones-lt, ones-split, pow-mono}
-use lib.Bits.{bitOr, or-shr, or-step}
-use lib.ListN.{length, getD, set}
-use lib.Seq.{getD-set-same, getD-set-other}
-use Rattle.records.specs.Bitmap.{bit, Says, Clear, Full}
+use Rattle.records.specs.Names.{_≡_, List, ℕ, zero, suc, _+_, _*_, _/_, _%_, _^_, _≤_, _<_, eqb, length, getD, set}
+use Rattle.records.proofs.Names.{refl, sym, ap, ap₂, _∙_, subst, _-_, arith, zero-div, mul-mod-left, decLe, ℕ-discrete, eq-eqb, ne-eqb, field}
+use Rattle.records.proofs.Names.{mod-mod-pow, shr-shr, bitOr, getD-set-same, getD-set-other, bit, Says, Untaken, Full}
+use Prim.Native.Nat.{max}
+use native.Mathlib.Nat.{zero-mul, mod-one, mod-eq-of-lt, max-zero}
+use lib.Pow.{mod-pow-add, shr-lt, shl-lt, shl-shr, high, ones-lt, ones-split, pow-mono}
+use lib.Bits.{or-shr, or-step}
 
 -- a number whose n low bits are zero, by the bit
 pub bits-zero : (n x r : ℕ) → x % 2 ^ n ≡ 0 → r < n → x / 2 ^ r % 2 ≡ 0
@@ -43,27 +37,27 @@ module _ (c : List ℕ) (w b n : ℕ) (fits : b + n ≤ 64) where
       ap₂ (λ (i j : ℕ). getD c i 0 / 2 ^ j % 2) (let e : (64 * w + b + r) / 64 ≡ w = omega arith in e) (let e : (64 * w + b + r) % 64 ≡ b + r = omega arith in e)
       ∙ ap (λ (k : ℕ). k % 2) (sym (shr-shr (getD c w 0) b r))
 
-  pub run-clear : getD c w 0 / 2 ^ b % 2 ^ n ≡ 0 → Clear c (64 * w + b) n
+  pub run-clear : getD c w 0 / 2 ^ b % 2 ^ n ≡ 0 → Untaken c (64 * w + b) n
   run-clear e p l h =
       let s : p ≡ 64 * w + b + (p - (64 * w + b)) = omega arith in
       ap (bit c) s ∙ at-bit (p - (64 * w + b)) (omega arith) ∙ bits-zero n (getD c w 0 / 2 ^ b) (p - (64 * w + b)) e (omega arith)
 
-  pub clear-run : Clear c (64 * w + b) n → getD c w 0 / 2 ^ b % 2 ^ n ≡ 0
+  pub clear-run : Untaken c (64 * w + b) n → getD c w 0 / 2 ^ b % 2 ^ n ≡ 0
   clear-run f = zero-bits n (getD c w 0 / 2 ^ b) (λ r h. sym (at-bit r h) ∙ f (64 * w + b + r) (omega arith) (omega arith))
 
-  pub says-run : Says (Clear c (64 * w + b) n) (eqb (getD c w 0 / 2 ^ b % 2 ^ n) 0)
+  pub says-run : Says (Untaken c (64 * w + b) n) (eqb (getD c w 0 / 2 ^ b % 2 ^ n) 0)
   says-run = says-zero _ _ run-clear clear-run
 
 -- a word that is zero, of its 64 bits
-pub word-clear : (c : List ℕ) (w : ℕ) → getD c w 0 ≡ 0 → Clear c (64 * w) 64
+pub word-clear : (c : List ℕ) (w : ℕ) → getD c w 0 ≡ 0 → Untaken c (64 * w) 64
 word-clear c w e p l h = run-clear c w 0 64 (omega arith) (ap (λ (x : ℕ). x / 2 ^ 0 % 2 ^ 64) e) p (omega arith) (omega arith)
 
-pub clear-word : (c : List ℕ) (w : ℕ) → getD c w 0 < 2 ^ 64 → Clear c (64 * w) 64 → getD c w 0 ≡ 0
+pub clear-word : (c : List ℕ) (w : ℕ) → getD c w 0 < 2 ^ 64 → Untaken c (64 * w) 64 → getD c w 0 ≡ 0
 clear-word c w lt f =
     let z : getD c w 0 / 2 ^ 0 % 2 ^ 64 ≡ 0 = clear-run c w 0 64 (omega arith) (λ p l h. f p (omega arith) (omega arith)) in
     sym (mod-eq-of-lt lt) ∙ ap (λ (x : ℕ). x % 2 ^ 64) (let e : getD c w 0 ≡ getD c w 0 / 2 ^ 0 = omega arith in e) ∙ z
 
-pub says-word : (c : List ℕ) (w : ℕ) → getD c w 0 < 2 ^ 64 → Says (Clear c (64 * w + 0) 64) (eqb (getD c w 0) 0)
+pub says-word : (c : List ℕ) (w : ℕ) → getD c w 0 < 2 ^ 64 → Says (Untaken c (64 * w + 0) 64) (eqb (getD c w 0) 0)
 says-word c w lt = says-zero _ _ (λ e p l h. word-clear c w e p (omega arith) (omega arith)) (λ f. clear-word c w lt (λ p l h. f p (omega arith) (omega arith)))
 
 -- the bits of an or
@@ -163,17 +157,17 @@ full-join c d e s n k f g = (
 pub full-none : (c : List ℕ) (s : ℕ) → Full c s 0 c
 full-none c s = (λ p l h. absurd (omega arith), λ p o. refl)
 
-pub clear-join : (c : List ℕ) (s n k : ℕ) → Clear c s n → Clear c (s + n) k → Clear c s (n + k)
+pub clear-join : (c : List ℕ) (s n k : ℕ) → Untaken c s n → Untaken c (s + n) k → Untaken c s (n + k)
 clear-join c s n k f g p l h = elim (decLe (s + n) p) [
   | yes q ↦ g p q (omega arith)
   | no q ↦ f p l (omega arith)
 ]
 
-pub clear-part : (c : List ℕ) (s n t k : ℕ) → s ≤ t → t + k ≤ s + n → Clear c s n → Clear c t k
+pub clear-part : (c : List ℕ) (s n t k : ℕ) → s ≤ t → t + k ≤ s + n → Untaken c s n → Untaken c t k
 clear-part c s n t k a b f p l h = f p (omega arith) (omega arith)
 
 -- one word more, of words one behind the other
-pub clear-turn : (c : List ℕ) (w j : ℕ) → getD c (w + j) 0 ≡ 0 → Clear c (64 * w) (64 * j) → Clear c (64 * w) (64 * (j + 1))
+pub clear-turn : (c : List ℕ) (w j : ℕ) → getD c (w + j) 0 ≡ 0 → Untaken c (64 * w) (64 * j) → Untaken c (64 * w) (64 * (j + 1))
 clear-turn c w j e f p l h =
     clear-join c (64 * w) (64 * j) 64 f (λ q a b. word-clear c (w + j) e q (omega arith) (omega arith)) p l (omega arith)
 

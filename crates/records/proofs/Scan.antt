@@ -1,12 +1,8 @@
 -- A scan of a list, one mapping after the other, whose answer is F of the list: F of what is left at j is the answer. Assumes nothing.
-use mathlib.Core.Path.{_≡_, refl, sym, ap, _∙_}
-use mathlib.Core.List.{List, [], _∷_}
-use Prim.Native.Nat.{ℕ, suc, _+_, _≤_, _<_}
-use native.Mathlib.Numerals.{add-one}
-use lib.ListN.{length, getD, drop, drop-of-length-le}
+use Rattle.records.specs.Names.{_≡_, List, [], _∷_, ℕ, suc, _+_, _≤_, _<_, length, getD, drop, Mapping}
+use Rattle.records.proofs.Names.{refl, sym, ap, _∙_, add-one, noMapping}
+use lib.ListN.{drop-of-length-le}
 use lib.Seq.{drop-cons}
-use Rattle.records.specs.declared.Mapping.{Mapping}
-use Rattle.records.specs.Mappings.{noMapping}
 
 module _ {X : Type 0} (F : List Mapping → X) (ms : List Mapping) where
   abbrev pub Rest : ℕ → Type 0

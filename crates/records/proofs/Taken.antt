@@ -1,25 +1,12 @@
 -- The pages that the records before have, as bits, and what a record that overlaps one of them finds there. Assumes nothing.
-use mathlib.Core.Path.{_≡_, refl, sym, ap, _∙_, subst}
-use mathlib.Core.Bool.{Bool, true, false, not, true≢false}
-use mathlib.Core.List.{List}
-use Prim.Native.Nat.{ℕ, zero, suc, _+_, _*_, _/_, _%_, _^_, _≤_, _<_}
-use native.Mathlib.Omega.{arith}
-use native.Mathlib.Nat.{zero-div}
-use native.Mathlib.Decide.{decLe}
-use mathlib.Core.Logic.{_⊎_, inl, inr, ⊎-elim}
-use borrow.Author.Tests.{eq-eqb, eqb-true, ltb-true}
-use lib.ListN.{getD}
-use Rattle.page.specs.Words.{virtual, megabytes, lowBits}
-use Rattle.page.specs.declared.VirtualAddress.{VirtualAddress}
-use Rattle.page.specs.declared.Kind.{Kind}
-use Rattle.page.proofs.Picks.{and-left, or-no}
-use Rattle.records.specs.declared.Mapping.{Mapping}
-use Rattle.records.specs.Mappings.{recordAt, mappingOf, mappingsFrom, mappings, noMapping, holds, overlap}
-use Rattle.records.specs.Checks.{proper}
+use Rattle.records.specs.Names.{_≡_, Bool, true, false, not, List, ℕ, zero, suc, _+_, _*_, _/_, _%_, _^_, _≤_, _<_, getD, virtual, megabytes}
+use Rattle.records.specs.Names.{lowBits, VirtualAddress, Kind, Mapping}
+use Rattle.records.proofs.Names.{refl, sym, ap, _∙_, subst, true≢false, arith, zero-div, decLe, _⊎_, inl, inr, eq-eqb, eqb-true, ltb-true}
+use Rattle.records.proofs.Names.{and-left, or-no, recordAt, mappingOf, mappingsFrom, mappings, noMapping, holds, overlap, proper, bit, Says}
+use Rattle.records.proofs.Names.{Free, Covered, bad, clashes, overlapping}
+use mathlib.Core.Logic.{⊎-elim}
 use Rattle.records.proofs.Listed.{mappings-at}
 use Rattle.records.proofs.Rest.{by-false}
-use Rattle.records.specs.Bitmap.{bit, Says, Free, Covered}
-use Rattle.records.specs.Refusals.{bad, clashes, overlapping}
 use Rattle.records.proofs.Refusals.{whole}
 use Rattle.records.proofs.Accepted.{clash-at, proper-at}
 use Rattle.records.proofs.Holders.{Both, overlap-shared, both-hold}

@@ -1,7 +1,5 @@
 -- The tiny pages that earlier records have, as bits, 64 to a word: how an overlap is found (01, "When the unit says no", 11).
-use Rattle.page.specs.Ground.{ℕ, _+_, _*_, _/_, _%_, _^_, _<_, _≤_, _≡_, Bool, true, false, List, getD}
-use Rattle.page.specs.Words.{virtual}
-use Rattle.records.specs.declared.Mapping.{Mapping}
+use Rattle.records.specs.Names.{ℕ, _+_, _*_, _/_, _%_, _^_, _<_, _≤_, _≡_, Bool, true, false, List, getD, virtual, Mapping}
 use Rattle.records.specs.Mappings.{holds}
 
 -- the bit of tiny page p: 1 where it is taken
@@ -14,8 +12,8 @@ Says P true = P
 Says P false = P → ⊥
 
 -- no page of n from s on is taken
-abbrev pub Clear : List ℕ → ℕ → ℕ → Type 0
-Clear c s n = (p : ℕ) → s ≤ p → p < s + n → bit c p ≡ 0
+abbrev pub Untaken : List ℕ → ℕ → ℕ → Type 0
+Untaken c s n = (p : ℕ) → s ≤ p → p < s + n → bit c p ≡ 0
 
 -- no page that a mapping has is taken
 abbrev pub Free : List ℕ → Mapping → Type 0

@@ -1,9 +1,5 @@
 -- What makes a record proper (01, "The builder"; "When the unit says no", 10).
-use Rattle.page.specs.Ground.{ℕ, _*_, _%_, _^_, Bool, List, eqb, ltb, leb, length, getD}
-use Rattle.page.specs.Pick.{_and_, _or_}
-use Rattle.page.specs.Words.{lowBits}
-use Rattle.page.specs.declared.Kind.{Kind}
-use Rattle.records.specs.declared.Mapping.{Mapping}
+use Rattle.records.specs.Names.{ℕ, _*_, _%_, _^_, Bool, List, eqb, ltb, leb, length, getD, _and_, _or_, lowBits, Kind, Mapping}
 use Rattle.records.specs.Mappings.{recordSize, mappingOf}
 
 -- x is a multiple of the page's size

@@ -1,3 +1,4 @@
+pub mod Names
 pub mod Mappings
 pub mod Checks
 pub mod Refusals

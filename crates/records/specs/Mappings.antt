@@ -1,13 +1,6 @@
 -- A record of the builder's input as a mapping (01, "The builder").
-use Rattle.page.specs.Ground.{ℕ, zero, suc, _*_, _/_, Bool, List, [], _∷_, length, getD, take, drop}
-use Rattle.page.specs.Pick.{_or_}
-use Rattle.page.specs.Low.{agree, joined}
-use Rattle.page.specs.Words.{virtual, physical, lowBits, kindOf}
-use Rattle.page.specs.declared.Kind.{Kind}
-use Rattle.page.specs.declared.VirtualAddress.{VirtualAddress}
-use Rattle.page.specs.declared.PhysicalAddress.{PhysicalAddress}
-use Rattle.wire.specs.Words.{wordOf}
-use Rattle.records.specs.declared.Mapping.{Mapping}
+use Rattle.records.specs.Names.{ℕ, zero, suc, _*_, _/_, Bool, List, [], _∷_, length, getD, take, drop, _or_, agree, joined, virtual, physical}
+use Rattle.records.specs.Names.{lowBits, kindOf, Kind, VirtualAddress, PhysicalAddress, wordOf, Mapping}
 
 -- the bytes of a record
 abbrev pub recordSize : ℕ

@@ -1,13 +1,6 @@
 -- What a list of mappings means at an address (01, demand 3).
-use Rattle.page.specs.Ground.{ℕ, List, [], _∷_}
-use Rattle.page.specs.Pick.{pick}
-use Rattle.page.specs.Words.{permits}
-use Rattle.page.specs.declared.Access.{Access}
-use Rattle.page.specs.declared.VirtualAddress.{VirtualAddress}
-use Rattle.records.specs.declared.Mapping.{Mapping}
+use Rattle.records.specs.Names.{ℕ, List, [], _∷_, pick, permits, Access, VirtualAddress, Mapping, Held, Meaning}
 use Rattle.records.specs.Mappings.{holds, byteOf}
-use Rattle.records.specs.declared.Held.{Held}
-use Rattle.records.specs.declared.Meaning.{Meaning}
 
 -- the first mapping of a list whose region has the address
 unfoldable pub holder : List Mapping → VirtualAddress → Held

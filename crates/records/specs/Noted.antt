@@ -1,10 +1,6 @@
 -- Which kinds of page stand in which megabyte, noted in one pass over a list (01, "The builder").
-use Rattle.page.specs.Ground.{ℕ, _/_, _^_, Bool, false, List, [], _∷_, eqb, _+_, _*_, _<_, _≡_, getD}
-use Rattle.page.specs.Pick.{_and_, _or_}
-use Rattle.page.specs.Words.{typeOf, megabytes}
-use Rattle.page.specs.declared.Kind.{Kind}
-use Rattle.records.specs.declared.Mapping.{Mapping}
-use lib.ListN.{replicate}
+use Rattle.records.specs.Names.{ℕ, _/_, _^_, Bool, false, List, [], _∷_, eqb, _+_, _*_, _<_, _≡_, getD, _and_, _or_, typeOf, megabytes, Kind}
+use Rattle.records.specs.Names.{Mapping, replicate}
 
 -- a mapping is a page of kind k in megabyte i
 abbrev pub isIn : ℕ → Kind → Mapping → Bool

@@ -1,10 +1,7 @@
 -- Which records of a list are refused (01, "The builder"; "When the unit says no", 10 and 11).
-use Rattle.page.specs.Ground.{ℕ, zero, suc, _+_, _/_, Bool, false, not, List, [], _∷_, leb, length}
-use Rattle.page.specs.Pick.{pick, _or_}
-use Rattle.records.specs.declared.Mapping.{Mapping}
+use Rattle.records.specs.Names.{ℕ, zero, suc, _+_, _/_, Bool, false, not, List, [], _∷_, leb, length, pick, _or_, Mapping, Checked}
 use Rattle.records.specs.Mappings.{recordSize, recordAt, mappingOf, mappingsFrom, overlap}
 use Rattle.records.specs.Checks.{wellFormed}
-use Rattle.records.specs.declared.Checked.{Checked}
 
 -- the most records of a list
 abbrev pub most : ℕ

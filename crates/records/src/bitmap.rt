@@ -1,10 +1,8 @@
 // Which tiny pages are taken: a bit for each of the 16,384, 64 to a word.
 use crate::Mapping;
 use page::Kind;
-ghost use mathlib.Core.Path.{_≡_};
-ghost use Prim.Native.Nat.{_+_, _*_, _<_, _≤_};
-ghost use lib.ListN.{length};
-ghost use Rattle.records.specs.Bitmap.{Says, Clear, Free, Full, Covered};
+ghost use Rattle.records.specs.Names.{_≡_, _+_, _*_, _<_, _≤_, length};
+ghost use Rattle.records.specs.Bitmap.{Says, Untaken, Free, Full, Covered};
 
 // Every bit of a word.
 const ALL: u64 = 18446744073709551615;
@@ -12,7 +10,7 @@ const ALL: u64 = 18446744073709551615;
 // Whether sixteen words are zero.
 fn sixteen_free(c: &[u64], w: usize) -> bool
     requires { ⌜ (length (now c) ≡ 256) × (w + 16 ≤ 256) ⌝ }
-    ensures { λ r. ⌜ Says (Clear (now (c .entry)) (64 * w) 1024) r ⌝ }
+    ensures { λ r. ⌜ Says (Untaken (now (c .entry)) (64 * w) 1024) r ⌝ }
 {
     let mut j = 0;
     while j < 16 {

@@ -6,11 +6,7 @@ use page::Kind;
 use page::LIMIT;
 use page::PhysicalAddress;
 use page::VirtualAddress;
-ghost use mathlib.Core.Path.{_≡_};
-ghost use Rattle.page.specs.Words.{megabytes};
-ghost use Prim.Native.Nat.{_+_, _*_, _<_, _≤_};
-ghost use lib.ListN.{length, getD, take, drop};
-ghost use Rattle.wire.specs.Words.{wordOf};
+ghost use Rattle.records.specs.Names.{_≡_, megabytes, _+_, _*_, _<_, _≤_, length, getD, take, drop, wordOf};
 ghost use Rattle.records.specs.Mappings.{recordSize, recordAt, mappingOf, mappings, noMapping, holds, byteOf};
 ghost use Rattle.records.specs.Checks.{wellFormed};
 
@@ -120,7 +116,7 @@ pub fn byte_of(m: Mapping, va: VirtualAddress) -> PhysicalAddress
 {
     let to = m.to;
     let k = m.kind;
-    PhysicalAddress(page::join(k, to.0, va.0))
+    page::join(k, to, va)
 }
 
 // Whether a record's bytes are as they must be.

@@ -14,14 +14,9 @@ use page::Access;
 use page::MEGABYTE;
 use page::PhysicalAddress;
 use page::VirtualAddress;
-ghost use mathlib.Core.Path.{_≡_};
-ghost use Prim.Native.Nat.{_*_, _<_, _≤_};
-ghost use mathlib.Core.Bool.{true};
-ghost use lib.ListN.{length, set};
+ghost use Rattle.records.specs.Names.{_≡_, _*_, _<_, _≤_, true, length, set, megabytes, Checked};
 ghost use Rattle.records.specs.Mappings.{recordSize, mappings};
-ghost use Rattle.page.specs.Words.{megabytes};
 ghost use Rattle.records.specs.Noted.{Blank, noteAt, Kinds};
-ghost use Rattle.records.specs.declared.Checked.{Checked};
 ghost use Rattle.records.specs.Refusals.{bad, checked};
 ghost use Rattle.records.specs.Meanings.{holder, heldMeaning, meaning};
 

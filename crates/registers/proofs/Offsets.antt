@@ -1,20 +1,14 @@
 -- The offsets: 21 registers and no other. Assumes nothing.
-use mathlib.Core.Path.{_≡_, refl, sym, ap, _∙_, subst}
-use mathlib.Core.Bool.{Bool, true, false, not, true≢false}
-use mathlib.Core.List.{List, [], _∷_}
-use Prim.Native.Nat.{ℕ, zero, suc, _*_, _%_, _<_, _≤_}
-use native.Mathlib.Omega.{arith}
-use lib.Dec.{eqb, leb}
-use borrow.Author.Tests.{eqb-true, eqb-false, leb-true, not-true, not-false}
-use Rattle.page.specs.Pick.{pick, _and_}
-use Rattle.page.proofs.Picks.{pick-no, pick-by, and-left, and-right}
-use Rattle.registers.specs.declared.Pending.{Pending}
-use Rattle.registers.specs.declared.Registers.{Registers}
-use Rattle.registers.specs.declared.Answer.{Answer}
-use Rattle.registers.specs.declared.Tending.{Tending}
-use Rattle.registers.specs.declared.Command.{Command}
-use Rattle.registers.specs.Answers.{number}
-use Rattle.registers.specs.Table.{listed, noRegister, controlCommand, lockCommand, loadCommand, whenBit, commandOf, valueAt}
+use Rattle.registers.specs.Names.{_≡_, Bool, true, false, not, List, [], _∷_, ℕ, _*_, _%_, eqb, leb, pick, _and_, Pending, Registers, Answer}
+use Rattle.registers.specs.Names.{Tending, Command}
+use Rattle.registers.proofs.Names.{refl, sym, ap, _∙_, subst, _<_, arith, eqb-true, not-true, not-false, pick-by, and-left, and-right, listed}
+use Rattle.registers.proofs.Names.{controlCommand, lockCommand, loadCommand, whenBit, commandOf, valueAt}
+use mathlib.Core.Bool.{true≢false}
+use Prim.Native.Nat.{zero, suc, _≤_}
+use borrow.Author.Tests.{eqb-false, leb-true}
+use Rattle.page.proofs.Picks.{pick-no}
+use Rattle.registers.specs.Answers.{answerNumber}
+use Rattle.registers.specs.Table.{noRegister}
 
 -- the table's answer at an offset that is known
 pub command-at : (o k v : ℕ) → o ≡ k → commandOf k v ≡ commandOf o v
@@ -151,9 +145,9 @@ command-five v =
     refl
     (λ o h. ap isFive (command-elsewhere o v h) ∙ sym h)
 
-pub value-five : (r : Registers) (lock victim : ℕ) (p : Pending) (o : ℕ) → eqb (number (valueAt o r lock victim p)) 5 ≡ noRegister o
+pub value-five : (r : Registers) (lock victim : ℕ) (p : Pending) (o : ℕ) → eqb (answerNumber (valueAt o r lock victim p)) 5 ≡ noRegister o
 unfolding valueAt listed pick noRegister _and_
 value-five r lock victim p =
-    by-offset (λ (o : ℕ). eqb (number (valueAt o r lock victim p)) 5 ≡ noRegister o)
+    by-offset (λ (o : ℕ). eqb (answerNumber (valueAt o r lock victim p)) 5 ≡ noRegister o)
     refl refl refl refl refl refl refl refl refl refl refl refl refl refl refl refl refl refl refl refl refl
-    (λ o h. ap (λ (a : Answer). eqb (number a) 5) (value-elsewhere o r lock victim p h) ∙ sym h)
+    (λ o h. ap (λ (a : Answer). eqb (answerNumber a) 5) (value-elsewhere o r lock victim p h) ∙ sym h)

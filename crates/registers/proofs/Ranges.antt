@@ -1,25 +1,16 @@
 -- Registers in range, and what keeps them there. Assumes nothing.
-use mathlib.Core.Path.{_≡_, refl, sym, ap₂, _∙_, subst}
-use mathlib.Core.Bool.{true}
-use Prim.Native.Nat.{ℕ, _+_, _*_, _/_, _%_, _^_, _<_}
-use native.Mathlib.Omega.{arith}
-use lib.Dec.{eqb, ltb}
-use borrow.Author.Tests.{lt-ltb, ltb-true, eq-eqb, eqb-true}
-use Rattle.page.specs.Pick.{pick, _and_}
-use Rattle.page.specs.declared.Words.{Words}
-use Rattle.page.proofs.Picks.{pick-by, and-yes, and-left, and-right}
-use Rattle.bank.specs.declared.Bank.{Bank}
-use Rattle.lanes.specs.Lanes.{slots, camLimit, camOk}
+use Rattle.registers.specs.Names.{_≡_, true, ℕ, _+_, _*_, _/_, _%_, _^_, eqb, ltb, pick, _and_, Words, Bank, slots, Entry, Registers, Setting}
+use Rattle.registers.specs.Names.{Tending, Command}
+use Rattle.registers.proofs.Names.{refl, sym, _∙_, subst, _<_, arith, lt-ltb, eq-eqb, eqb-true, pick-by, and-yes, and-left, and-right, entryOk}
+use Rattle.registers.proofs.Names.{registersOk, camAddress, listed, controlCommand, lockCommand, loadCommand, whenBit, commandOf}
+use mathlib.Core.Path.{ap₂}
+use borrow.Author.Tests.{ltb-true}
+use Rattle.lanes.specs.Lanes.{camLimit, camOk}
 use Rattle.bank.specs.Slots.{bankOk}
 use Rattle.bank.specs.Changes.{loaded, copied}
 use Rattle.bank.proofs.Ranges.{wordsOk, stored-ok, locked-ok, flush-ok, flushAt-ok, copied-ok}
-use Rattle.registers.specs.declared.Entry.{Entry}
-use Rattle.registers.specs.declared.Registers.{Registers}
-use Rattle.registers.specs.declared.Setting.{Setting}
-use Rattle.registers.specs.declared.Tending.{Tending}
-use Rattle.registers.specs.declared.Command.{Command}
-use Rattle.registers.specs.Fields.{halfOk, entryOk, registersOk, freshRegisters, wordsOf, entryOf, camAddress, withControl, withBase, withPrefetch, withStaged, withCopied, setting}
-use Rattle.registers.specs.Table.{listed, controlCommand, lockCommand, loadCommand, whenBit, commandOf, tended}
+use Rattle.registers.specs.Fields.{halfOk, freshRegisters, wordsOf, entryOf, withControl, withBase, withPrefetch, withStaged, withCopied, setting}
+use Rattle.registers.specs.Table.{tended}
 use Rattle.registers.proofs.Offsets.{by-offset, command-elsewhere}
 
 -- a slot in register form in range, by its parts

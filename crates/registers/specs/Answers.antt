@@ -1,8 +1,5 @@
 -- Answers and pending faults, with the paper's numbers (01, "When the unit says no", "Registers").
-use Rattle.page.specs.Ground.{ℕ, Bool, true, false, List, [], _∷_}
-use Rattle.registers.specs.declared.Fault.{Fault}
-use Rattle.registers.specs.declared.Pending.{Pending}
-use Rattle.registers.specs.declared.Answer.{Answer}
+use Rattle.registers.specs.Names.{ℕ, Bool, true, false, List, [], _∷_, Fault, Pending, Answer}
 
 -- the paper's number of a fault
 abbrev pub faultNumber : Fault → ℕ
@@ -12,20 +9,20 @@ faultNumber Fault.Permission = 23
 faultNumber Fault.Prefetch = 24
 
 -- the paper's number of an answer; 0 where the paper has none
-abbrev pub number : Answer → ℕ
-number (Answer.Address x) = 0
-number (Answer.Fault k) = faultNumber k
-number (Answer.Value x) = 0
-number Answer.Done = 0
-number (Answer.Refused k) = k
+abbrev pub answerNumber : Answer → ℕ
+answerNumber (Answer.Address x) = 0
+answerNumber (Answer.Fault k) = faultNumber k
+answerNumber (Answer.Value x) = 0
+answerNumber Answer.Done = 0
+answerNumber (Answer.Refused k) = k
 
 -- what stands beside the number
-abbrev pub values : Answer → List ℕ
-values (Answer.Address x) = x .0 ∷ []
-values (Answer.Fault k) = []
-values (Answer.Value x) = x ∷ []
-values Answer.Done = []
-values (Answer.Refused k) = []
+abbrev pub answerValues : Answer → List ℕ
+answerValues (Answer.Address x) = x .0 ∷ []
+answerValues (Answer.Fault k) = []
+answerValues (Answer.Value x) = x ∷ []
+answerValues Answer.Done = []
+answerValues (Answer.Refused k) = []
 
 -- 1 to 12: the call is refused
 abbrev pub isRefusal : Answer → Bool

@@ -1,13 +1,6 @@
 -- The registers' fields: control bits, a slot in register form, ranges, settings (01, "Registers", "The unit").
-use Rattle.page.specs.Ground.{ℕ, _+_, _*_, _/_, _%_, _^_, Bool, true, eqb, ltb}
-use Rattle.page.specs.Pick.{_and_}
-use Rattle.page.specs.Words.{virtual, physical, limit}
-use Rattle.page.specs.declared.VirtualAddress.{VirtualAddress}
-use Rattle.page.specs.declared.Words.{Words}
-use Rattle.registers.specs.declared.Entry.{Entry}
-use Rattle.registers.specs.declared.Registers.{Registers}
-use Rattle.registers.specs.declared.Pending.{Pending}
-use Rattle.registers.specs.declared.Setting.{Setting}
+use Rattle.registers.specs.Names.{ℕ, _+_, _*_, _/_, _%_, _^_, Bool, true, eqb, ltb, _and_, virtual, physical, limit, VirtualAddress, Words}
+use Rattle.registers.specs.Names.{Entry, Registers, Pending, Setting}
 
 -- control: 1 enable, 2 walk
 abbrev pub isOn : ℕ → Bool

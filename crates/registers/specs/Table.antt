@@ -1,16 +1,6 @@
 -- The 21 registers in the order of Table 3 of 000: what a write asks for, and what a read shows (01, "Registers").
-use Rattle.page.specs.Ground.{ℕ, _+_, _*_, _/_, _%_, Bool, not, List, [], _∷_, eqb, ltb, leb}
-use Rattle.page.specs.Pick.{pick, _and_}
-use Rattle.lanes.specs.Lanes.{slots}
-use Rattle.bank.specs.Changes.{lockedAt, bankFlushed, bankFlushedAt}
-use Rattle.bank.specs.declared.Bank.{Bank}
-use Rattle.registers.specs.declared.Pending.{Pending}
-use Rattle.registers.specs.declared.Entry.{Entry}
-use Rattle.registers.specs.declared.Registers.{Registers}
-use Rattle.registers.specs.declared.Answer.{Answer}
-use Rattle.registers.specs.declared.Setting.{Setting}
-use Rattle.registers.specs.declared.Tending.{Tending}
-use Rattle.registers.specs.declared.Command.{Command}
+use Rattle.registers.specs.Names.{ℕ, _+_, _*_, _/_, _%_, Bool, not, List, [], _∷_, eqb, ltb, leb, pick, _and_, slots, lockedAt, bankFlushed}
+use Rattle.registers.specs.Names.{bankFlushedAt, Bank, Pending, Entry, Registers, Answer, Setting, Tending, Command}
 use Rattle.registers.specs.Answers.{faultStatus, faultAddress}
 use Rattle.registers.specs.Fields.{camAddress}
 

@@ -6,8 +6,8 @@ use page::LIMIT;
 use page::PhysicalAddress;
 use page::VirtualAddress;
 use page::Words;
-ghost use mathlib.Core.Path.{_≡_};
-ghost use Rattle.registers.specs.Answers.{isPrefetch, idle};
+ghost use Rattle.registers.specs.Names.{_≡_};
+ghost use Rattle.registers.specs.Answers.{faultBit, isPrefetch, idle};
 ghost use Rattle.registers.specs.Fields.{isOn, isWalking, freshRegisters, entryOk, registersOk, pendingOk, wordsOf, entryOf, camAddress};
 
 pub enum Fault {
@@ -113,6 +113,18 @@ pub fn is_prefetch(k: Fault) -> bool
         Fault::Miss => false,
         Fault::Permission => false,
         Fault::Prefetch => true,
+    }
+}
+
+// The status bit of a fault.
+pub fn fault_bit(k: Fault) -> u8
+    ensures { λ r. ⌜ r ≡ faultBit k ⌝ }
+{
+    match k {
+        Fault::Translation => 1,
+        Fault::Miss => 2,
+        Fault::Permission => 4,
+        Fault::Prefetch => 8,
     }
 }
 

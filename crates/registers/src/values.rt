@@ -1,23 +1,11 @@
 // What a read shows.
 use crate::Answer;
-use crate::Fault;
 use crate::Pending;
 use crate::Registers;
-ghost use mathlib.Core.Path.{_≡_};
-ghost use Rattle.registers.specs.Answers.{faultBit, faultStatus, faultAddress};
+use crate::fault_bit;
+ghost use Rattle.registers.specs.Names.{_≡_};
+ghost use Rattle.registers.specs.Answers.{faultStatus, faultAddress};
 ghost use Rattle.registers.specs.Table.{valueAt};
-
-// The status bit of a fault.
-fn fault_bit(k: Fault) -> u16
-    ensures { λ r. ⌜ r ≡ faultBit k ⌝ }
-{
-    match k {
-        Fault::Translation => 1,
-        Fault::Miss => 2,
-        Fault::Permission => 4,
-        Fault::Prefetch => 8,
-    }
-}
 
 // The fault status register.
 fn fault_status(p: Pending) -> u16
@@ -25,7 +13,7 @@ fn fault_status(p: Pending) -> u16
 {
     match p {
         Pending::Nothing => 0,
-        Pending::Held(k, _, _) => fault_bit(k),
+        Pending::Held(k, _, _) => fault_bit(k) as u16,
     }
 }
 

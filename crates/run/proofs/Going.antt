@@ -1,39 +1,19 @@
 -- What holds before each call of a run. Assumes nothing.
-use mathlib.Core.Path.{_≡_, sym, _∙_, ap, ap₂, subst}
-use native.Mathlib.Omega.{arith}
-use mathlib.Core.Bool.{Bool, true}
-use mathlib.Core.List.{List}
-use Prim.Native.Nat.{ℕ, _+_, _*_, _<_, _≤_}
-use lib.ListN.{length}
-use Rattle.page.specs.Pick.{_and_}
-use Rattle.memory.specs.Memory.{Lent, lentOk}
-use Rattle.meters.specs.Posted.{posted}
-use Rattle.meters.specs.declared.Meters.{Meters}
+use Rattle.run.specs.Names.{_≡_, Bool, true, List, ℕ, _+_, _*_, _≤_, length, _and_, Lent, posted, Meters, Prices, billOk, Bill, Bank, Pending}
+use Rattle.run.specs.Names.{Registers, Plan, Done, Call, stepped, Bench, Stepped, placed, wordsPut}
+use Rattle.run.proofs.Names.{sym, _∙_, ap, ap₂, arith, _<_, lentOk, moneyOk, bankOf, Fit, performed, BytesFit, callAt, isGood, saidWords}
+use Rattle.run.proofs.Names.{partsOk, planOf, benchOf, benchDone}
+use mathlib.Core.Path.{subst}
 use Rattle.prices.specs.Prices.{pricesOk}
-use Rattle.prices.specs.declared.Prices.{Prices}
-use Rattle.bill.specs.Bill.{billOk, moneyOk}
-use Rattle.bill.specs.declared.Bill.{Bill}
-use Rattle.bank.specs.declared.Bank.{Bank}
-use Rattle.registers.specs.declared.Pending.{Pending}
-use Rattle.registers.specs.declared.Registers.{Registers}
-use Rattle.bank.specs.InPlace.{bankOf, Spanned}
-use Rattle.plan.specs.declared.Plan.{Plan}
-use Rattle.perform.specs.Performed.{Done, Fit, Performs, doneOf, performed}
+use Rattle.bank.specs.InPlace.{Spanned}
+use Rattle.perform.specs.Performed.{Performs, doneOf}
 use Rattle.perform.specs.declared.Performed.{Performed}
-use Rattle.conduct.specs.Refused.{BytesFit}
-use Rattle.calls.specs.declared.Call.{Call}
-use Rattle.calls.specs.Records.{callAt, isGood}
-use Rattle.session.specs.Bench.{stepped}
-use Rattle.session.specs.declared.Bench.{Bench}
-use Rattle.session.specs.declared.Stepped.{Stepped}
-use Rattle.wire.specs.Words.{placed, wordsPut}
-use Rattle.run.specs.Answers.{saidWords}
-use Rattle.run.specs.Planned.{partsOk, planOf, benchOf, benchDone}
 use Rattle.run.proofs.Turns.{left, run-turn}
 use Rattle.run.proofs.Planned.{Narrow, narrow-at, planned, planned-stepped, planned-fits, range-same}
 
 -- the parts make the bench from which the rest of the session is still to be written; whether it is in range is known, and each slot's span
-pub record Going (m : Lent) (p : Prices) (handed : ℕ) (calls : List ℕ) (n : ℕ) (start : Bench) (first out : List ℕ) (r : Registers) (cam ram : List ℕ) (lock victim : ℕ) (q : Pending) (b : Bill) (t : Meters) (lows highs : List ℕ) (ok : Bool) (i : ℕ) : Type 0 where
+pub record Going (m : Lent) (p : Prices) (handed : ℕ) (calls : List ℕ) (n : ℕ) (start : Bench) (first out : List ℕ) (r : Registers) (cam ram : List ℕ) (lock victim : ℕ)
+    (q : Pending) (b : Bill) (t : Meters) (lows highs : List ℕ) (ok : Bool) (i : ℕ) : Type 0 where
   pub below : i ≤ n
   pub long : length out ≡ length first
   pub same : placed first 0 (left m p handed calls n start 0) ≡ placed out (16 * i) (left m p handed calls n (benchOf r (bankOf cam ram lock victim) q b t) i)

@@ -1,18 +1,9 @@
 -- How many words a session writes. Assumes nothing.
-use mathlib.Core.Path.{_≡_}
-use mathlib.Core.List.{List, [], _∷_}
-use Prim.Native.Nat.{ℕ, _+_, _*_}
-use native.Mathlib.Omega.{arith}
-use lib.ListN.{length, length-append}
-use Rattle.memory.specs.Memory.{Lent}
-use Rattle.prices.specs.declared.Prices.{Prices}
-use Rattle.calls.specs.declared.Call.{Call}
-use Rattle.session.specs.Bench.{stepped}
-use Rattle.session.specs.declared.Bench.{Bench}
-use Rattle.run.specs.Answers.{saidWords}
+use Rattle.run.specs.Names.{_≡_, List, [], _∷_, ℕ, _+_, _*_, length, Lent, Prices, Call, stepped, Bench}
+use Rattle.run.proofs.Names.{arith, saidWords, sessionWords}
+use lib.ListN.{length-append}
 use Rattle.run.proofs.Sizes.{said-length}
 use Rattle.state.proofs.Lengths.{state-length}
-use Rattle.run.specs.Run.{sessionWords}
 
 pub session-length : (m : Lent) (p : Prices) (handed : ℕ) (b : Bench) (cs : List Call) → length (sessionWords m p handed b cs) ≡ 4 * length cs + 82
 unfolding sessionWords

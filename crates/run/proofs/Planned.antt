@@ -1,34 +1,18 @@
 -- A call of a run is its plan, performed; it finds and leaves a device in range, or out of range. Assumes nothing.
-use mathlib.Core.Path.{_≡_, refl, sym, _∙_, ap}
-use mathlib.Core.Bool.{Bool, true, false, false≢true}
-use Prim.Native.Nat.{ℕ, _<_}
+use Rattle.run.specs.Names.{_≡_, Bool, true, ℕ, List, pick, Lent, Meters, Prices, Bill, Bank, Pending, Registers, commandOf, Plan, Done, Call, stepped}
+use Rattle.run.proofs.Names.{refl, sym, _∙_, ap, _<_, and-right, lentOk, moneyOk, Fit, performed, BytesFit, callAt, isGood, partsOk, planOf}
+use Rattle.run.proofs.Names.{benchOf, benchDone}
+use mathlib.Core.Bool.{false, false≢true}
 use borrow.Author.Tests.{ltb-true}
-use mathlib.Core.List.{List}
-use Rattle.page.specs.Pick.{pick}
-use Rattle.page.proofs.Picks.{pick-by, and-right}
-use Rattle.memory.specs.Memory.{Lent, lentOk}
-use Rattle.meters.specs.declared.Meters.{Meters}
-use Rattle.prices.specs.declared.Prices.{Prices}
-use Rattle.bill.specs.Bill.{moneyOk}
-use Rattle.bill.specs.declared.Bill.{Bill}
-use Rattle.bank.specs.declared.Bank.{Bank}
-use Rattle.registers.specs.declared.Pending.{Pending}
-use Rattle.registers.specs.declared.Registers.{Registers}
-use Rattle.registers.specs.Table.{commandOf}
-use Rattle.plan.specs.declared.Plan.{Plan}
-use Rattle.perform.specs.Performed.{Done, Fit, performed}
+use Rattle.page.proofs.Picks.{pick-by}
 use Rattle.unit.specs.Machine as M
 use Rattle.unit.specs.declared.Device.{Device}
 use Rattle.unit.proofs.Fitting.{request-fits, write-fits, read-fits, drop-fits, shift-fits}
 use Rattle.unit.proofs.Planned.{request-done, write-done, read-done, drop-done, shift-done}
-use Rattle.conduct.specs.Refused.{BytesFit}
 use Rattle.conduct.proofs.Ranged.{range-kept}
-use Rattle.calls.specs.Forms.{writeBy, readBy, requestBy, dropBy, shiftBy}
-use Rattle.calls.specs.declared.Call.{Call}
+use Rattle.calls.specs.Forms.{writeBy, readBy, requestBy, dropBy, reportBy}
 use Rattle.calls.specs.Kinds.{callBy, callFrom}
-use Rattle.calls.specs.Records.{callOf, callAt, isGood}
-use Rattle.session.specs.Bench.{stepped}
-use Rattle.run.specs.Planned.{partsOk, planOf, benchOf, benchDone}
+use Rattle.calls.specs.Records.{callOf}
 
 -- a value of a register write has 16 bits
 abbrev pub Narrow : Call → Type 0
@@ -40,7 +24,7 @@ Narrow (Call.Shift va) = Unit {0}
 Narrow Call.Bad = Unit {0}
 
 call-narrow : (k x a v : ℕ) → Narrow (callBy k x a v)
-unfolding callBy writeBy readBy requestBy dropBy shiftBy
+unfolding callBy writeBy readBy requestBy dropBy reportBy
 call-narrow k x a v =
     pick-by Narrow _ _ _ (λ _. pick-by Narrow _ _ _ (λ h. ltb-true v 65536 (and-right _ _ h)) (λ _. tt))
     (λ _. pick-by Narrow _ _ _ (λ _. pick-by Narrow _ _ _ (λ _. tt) (λ _. tt))

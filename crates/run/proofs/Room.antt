@@ -1,16 +1,10 @@
 -- What a run that is answered has: room, and calls alone. Assumes nothing.
-use mathlib.Core.Path.{_≡_, sym, _∙_}
-use mathlib.Core.Bool.{true}
-use mathlib.Core.List.{List}
-use Prim.Native.Nat.{ℕ, _+_, _*_, _-_, _/_, _≤_}
-use native.Mathlib.Omega.{arith}
+use Rattle.run.specs.Names.{_≡_, true, List, ℕ, _+_, _*_, _≤_, leb, allGood, stateSize}
+use Rattle.run.proofs.Names.{sym, _∙_, _-_, _/_, arith, le-leb, lt-leb, and-right, runSize, mayRun}
 use native.Mathlib.Decide.{decLe}
-use lib.Dec.{leb}
-use borrow.Author.Tests.{le-leb, lt-leb, leb-true}
-use Rattle.page.proofs.Picks.{and-left, and-right}
-use Rattle.calls.specs.Records.{allGood}
-use Rattle.run.specs.Asked.{answerSize, runSize, mayRun}
-use Rattle.state.specs.State.{stateSize}
+use borrow.Author.Tests.{leb-true}
+use Rattle.page.proofs.Picks.{and-left}
+use Rattle.run.specs.Asked.{answerSize}
 
 -- as many answers as fit beside a state
 pub room-for : (n room : ℕ) → stateSize ≤ room → leb n ((room - stateSize) / answerSize) ≡ leb (answerSize * n + stateSize) room

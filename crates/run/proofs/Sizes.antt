@@ -1,8 +1,6 @@
 -- What a call said has four words. Assumes nothing.
-use mathlib.Core.Path.{_≡_, refl}
-use lib.ListN.{length}
-use Rattle.decision.specs.declared.Said.{Said}
-use Rattle.run.specs.Answers.{saidWords}
+use Rattle.run.specs.Names.{_≡_, length, Said}
+use Rattle.run.proofs.Names.{refl, saidWords}
 
 pub said-length : (s : Said) → length (saidWords s) ≡ 4
 said-length (Said.Answered r) = refl

@@ -1,24 +1,12 @@
 -- One turn of the run: what is left to write. Assumes nothing.
-use mathlib.Core.Path.{_≡_, refl, sym, _∙_, ap, ap₂}
-use mathlib.Core.List.{List, _++_}
-use Prim.Native.Nat.{ℕ, zero, suc, _+_, _*_, _-_, _<_, _≤_}
-use native.Mathlib.Omega.{arith}
-use lib.ListN.{length}
-use Rattle.memory.specs.Memory.{Lent}
-use Rattle.prices.specs.declared.Prices.{Prices}
-use Rattle.calls.specs.Records.{callSize, callAt, callsFrom}
-use Rattle.calls.specs.declared.Call.{Call}
+use Rattle.run.specs.Names.{_≡_, List, _++_, ℕ, _+_, _*_, _≤_, length, Lent, Prices, Call, stepped, Bench, Stepped, placed, wordsPut, stateWords}
+use Rattle.run.proofs.Names.{refl, sym, _∙_, ap, ap₂, _-_, _<_, arith, callAt, saidWords, sessionWords}
+use Prim.Native.Nat.{zero, suc}
+use Rattle.calls.specs.Records.{callSize, callsFrom}
 use Rattle.calls.proofs.Rest.{calls-next, calls-none}
-use Rattle.session.specs.Bench.{stepped}
-use Rattle.session.specs.declared.Bench.{Bench}
-use Rattle.session.specs.declared.Stepped.{Stepped}
-use Rattle.wire.specs.Words.{placed, wordsPut}
 use Rattle.wire.proofs.Placing.{placed-then, written-fits}
-use Rattle.run.specs.Answers.{saidWords}
 use Rattle.run.proofs.Sizes.{said-length}
-use Rattle.state.specs.State.{stateWords}
 use Rattle.state.proofs.Parts.{state-fits}
-use Rattle.run.specs.Run.{sessionWords}
 use Rattle.run.proofs.Lengths.{session-length}
 
 -- the session from call i of n on
@@ -43,7 +31,8 @@ module _ (m : Lent) (p : Prices) (handed : ℕ) (l : List ℕ) (n : ℕ) where
       ap (λ (cs : List Call). placed out (16 * i) (sessionWords m p handed b cs)) (calls-next l n i h)
       ∙ ap (λ (x : Stepped). placed out (16 * i) (saidWords (x .said) ++ sessionWords m p handed (x .bench) (callsFrom l (i + 1) (n - (i + 1))))) (sym e)
       ∙ sym (placed-then out (16 * i) (saidWords (s .said)) (omega arith) rest (omega arith))
-      ∙ ap₂ (λ (x : List ℕ) (j : ℕ). placed x j rest) (sym (q ∙ written-fits out (16 * i) (saidWords (s .said)) (omega arith))) (let d : 16 * i + 4 * length (saidWords (s .said)) ≡ 16 * (i + 1) = omega arith in d)
+      ∙ ap₂ (λ (x : List ℕ) (j : ℕ). placed x j rest) (sym (q ∙ written-fits out (16 * i) (saidWords (s .said)) (omega arith)))
+      (let d : 16 * i + 4 * length (saidWords (s .said)) ≡ 16 * (i + 1) = omega arith in d)
 
   pub run-end : (out : List ℕ) (b : Bench) (i : ℕ) → n ≤ i → i ≤ n → 16 * n + 328 ≤ length out
       → placed out (16 * i) (left b i) ≡ wordsPut out (16 * n) (stateWords handed b)

@@ -1,8 +1,5 @@
 -- Which runs are answered.
-use Rattle.page.specs.Ground.{ℕ, _+_, _*_, Bool, List, leb}
-use Rattle.page.specs.Pick.{_and_}
-use Rattle.calls.specs.Records.{callCount, allGood}
-use Rattle.state.specs.State.{stateSize}
+use Rattle.run.specs.Names.{ℕ, _+_, _*_, Bool, List, leb, _and_, callCount, allGood, stateSize}
 
 -- the bytes of an answer, and of a state
 abbrev pub answerSize : ℕ

@@ -1,21 +1,7 @@
 -- The plan of a call of a record, and the bench that a plan leaves.
-use Rattle.page.specs.Ground.{ℕ, _≤_, _≡_, Bool, true, List, length}
-use Rattle.meters.specs.Posted.{posted}
-use Rattle.meters.specs.declared.Meters.{Meters}
-use Rattle.bill.specs.declared.Bill.{Bill}
-use Rattle.bank.specs.declared.Bank.{Bank}
-use Rattle.registers.specs.Table.{commandOf}
-use Rattle.registers.specs.declared.Pending.{Pending}
-use Rattle.registers.specs.declared.Registers.{Registers}
-use Rattle.plan.specs.Plans.{requestPlan, writePlan, readPlan, dropPlan, shiftPlan}
-use Rattle.plan.specs.declared.Plan.{Plan}
-use Rattle.perform.specs.Performed.{Done}
-use Rattle.unit.specs.Device.{inRange}
-use Rattle.calls.specs.declared.Call.{Call}
-use Rattle.calls.specs.Records.{allGood}
+use Rattle.run.specs.Names.{ℕ, _≤_, _≡_, Bool, true, List, length, posted, Meters, Bill, Bank, commandOf, Pending, Registers, requestPlan}
+use Rattle.run.specs.Names.{writePlan, readPlan, dropPlan, shiftPlan, Plan, Done, inRange, Call, allGood, Bench, Stepped}
 use Rattle.run.specs.Asked.{runSize}
-use Rattle.session.specs.declared.Bench.{Bench}
-use Rattle.session.specs.declared.Stepped.{Stepped}
 
 -- by what was tested: ok that the device is in range, l that the memories are not refused, x that prices and bill are not
 abbrev pub planOf : Bool → Bool → Bool → ℕ → Pending → Call → Plan
@@ -39,6 +25,6 @@ abbrev pub benchDone : Meters → Done → Stepped
 benchDone t x = record { bench = benchOf (x .registers) (x .bank) (x .pending) (x .bill) (posted t (x .tally)); said = x .said }
 
 -- every record is a call, and there is room for what a run writes
-pub record Asked (calls out : List ℕ) : Type 0 where
+pub record Runnable (calls out : List ℕ) : Type 0 where
   pub good : allGood calls ≡ true
   pub room : runSize calls ≤ length out

@@ -1,15 +1,6 @@
 -- What a run writes and answers.
-use Rattle.page.specs.Ground.{ℕ, List, [], _∷_, _++_, length}
-use Rattle.page.specs.Pick.{pick}
-use Rattle.memory.specs.Memory.{Lent}
-use Rattle.prices.specs.declared.Prices.{Prices}
-use Rattle.calls.specs.Records.{callsIn}
-use Rattle.calls.specs.declared.Call.{Call}
-use Rattle.session.specs.Bench.{stepped}
-use Rattle.session.specs.declared.Bench.{Bench}
-use Rattle.wire.specs.Words.{placed}
+use Rattle.run.specs.Names.{ℕ, List, [], _∷_, _++_, length, pick, Lent, Prices, callsIn, Call, stepped, Bench, placed, stateWords}
 use Rattle.run.specs.Answers.{saidWords}
-use Rattle.state.specs.State.{stateWords}
 use Rattle.run.specs.Asked.{runSize, mayRun}
 
 -- what is written: an answer for each call, then the state

@@ -3,10 +3,8 @@ use decision::Said;
 use decision::Shift;
 use registers::Answer;
 use registers::Fault;
-ghost use mathlib.Core.Path.{_≡_};
-ghost use Rattle.registers.specs.Answers.{faultNumber};
-ghost use Rattle.wire.specs.Words.{wordsPut};
-ghost use Rattle.run.specs.Answers.{answerNumber, answerValue, shiftNumber, shiftValue, pairWords, saidWords};
+ghost use Rattle.run.specs.Names.{_≡_, faultNumber, wordsPut};
+ghost use Rattle.run.specs.Answers.{answerCode, answerWord, shiftCode, shiftWord, pairWords, saidWords};
 
 // The number of a fault.
 fn fault_number(k: Fault) -> u32
@@ -22,7 +20,7 @@ fn fault_number(k: Fault) -> u32
 
 // The number of an answer.
 fn answer_number(r: Answer) -> u32
-    ensures { λ x. ⌜ x ≡ answerNumber r ⌝ }
+    ensures { λ x. ⌜ x ≡ answerCode r ⌝ }
 {
     match r {
         Answer::Address(_) => 100,
@@ -35,7 +33,7 @@ fn answer_number(r: Answer) -> u32
 
 // The value beside an answer's number.
 fn answer_value(r: Answer) -> u64
-    ensures { λ x. ⌜ x ≡ answerValue r ⌝ }
+    ensures { λ x. ⌜ x ≡ answerWord r ⌝ }
 {
     match r {
         Answer::Address(x) => x.0 as u64,
@@ -48,7 +46,7 @@ fn answer_value(r: Answer) -> u64
 
 // The number of a shift report.
 fn shift_number(s: Shift) -> u32
-    ensures { λ r. ⌜ r ≡ shiftNumber s ⌝ }
+    ensures { λ r. ⌜ r ≡ shiftCode s ⌝ }
 {
     match s {
         Shift::Distance(_) => 102,
@@ -59,7 +57,7 @@ fn shift_number(s: Shift) -> u32
 
 // The value beside a shift report's number.
 fn shift_value(s: Shift) -> u64
-    ensures { λ r. ⌜ r ≡ shiftValue s ⌝ }
+    ensures { λ r. ⌜ r ≡ shiftWord s ⌝ }
 {
     match s {
         Shift::Distance(d) => wire::twos(d),

@@ -4,16 +4,14 @@ pub mod answers;
 use bank::Bank;
 use bill::Bill;
 use calls::Call;
+use page::PhysicalAddress;
 use plan::Plan;
 use prices::Prices;
 use registers::Pending;
 use session::Bench;
 use unit::Device;
-ghost use mathlib.Core.Path.{_≡_};
-ghost use Rattle.page.specs.Pick.{_and_};
-ghost use Rattle.memory.specs.Memory.{lent};
-ghost use Rattle.bill.specs.Bill.{billOk};
-ghost use Rattle.run.specs.Planned.{planOf, Asked};
+ghost use Rattle.run.specs.Names.{_≡_, _and_, lent, billOk};
+ghost use Rattle.run.specs.Planned.{planOf, Runnable};
 ghost use Rattle.run.specs.Run.{ran, ranFrom, runWith};
 ghost use Rattle.run.specs.Asked.{mayRun};
 
@@ -49,14 +47,14 @@ fn run_all<'a>(
     handed: u32,
     calls: &[u8],
     on: &'a [u8],
-    onbase: u32,
+    onbase: PhysicalAddress,
     ext: &'a [u8],
-    extbase: u32,
+    extbase: PhysicalAddress,
     prices: Prices,
     out: &mut [u8],
 ) -> u64
-    requires { ⌜ Asked (now calls) (now out) ⌝ }
-    ensures { λ r. ⌜ ran r (now (out .exit)) ≡ ranFrom (lent (now (on .entry)) onbase (now (ext .entry)) extbase) prices handed start (now (calls .entry)) (now (out .entry)) ⌝ }
+    requires { ⌜ Runnable (now calls) (now out) ⌝ }
+    ensures { λ r. ⌜ ran r (now (out .exit)) ≡ ranFrom (lent (now (on .entry)) (onbase .0) (now (ext .entry)) (extbase .0)) prices handed start (now (calls .entry)) (now (out .entry)) ⌝ }
 {
     let n = calls::count(calls);
     let memories = memory::memories_ok(on, onbase, ext, extbase);
@@ -130,15 +128,16 @@ pub fn run_from<'a>(
     handed: u32,
     calls: &[u8],
     on: &'a [u8],
-    onbase: u32,
+    onbase: PhysicalAddress,
     ext: &'a [u8],
-    extbase: u32,
+    extbase: PhysicalAddress,
     onkind: u32,
     extkind: u32,
     prices: Prices,
     out: &mut [u8],
 ) -> u64
-    ensures { λ r. ⌜ ran r (now (out .exit)) ≡ runWith (lent (now (on .entry)) onbase (now (ext .entry)) extbase) prices onkind extkind handed start (now (calls .entry)) (now (out .entry)) ⌝ }
+    ensures { λ r. ⌜ ran r (now (out .exit))
+        ≡ runWith (lent (now (on .entry)) (onbase .0) (now (ext .entry)) (extbase .0)) prices onkind extkind handed start (now (calls .entry)) (now (out .entry)) ⌝ }
 {
     if !may_run(calls, onkind, extkind, out.len()) {
         return 0;

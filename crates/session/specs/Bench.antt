@@ -3,7 +3,7 @@ use Rattle.meters.specs.Posted.{noMeters, posted}
 use Rattle.meters.specs.declared.Meters.{Meters}
 use Rattle.bill.specs.Bill.{freshBill}
 use Rattle.registers.specs.declared.Answer.{Answer}
-use Rattle.unit.specs.Types.{Lent, Prices}
+use Rattle.unit.specs.Names.{Lent, Prices}
 use Rattle.unit.specs.Device.{freshDevice}
 use Rattle.unit.specs.Machine as M
 use Rattle.unit.specs.Machine.{Step, step}

@@ -4,12 +4,13 @@ use calls::Call;
 use decision::Said;
 use meters::Meters;
 use meters::Tally;
+use page::PhysicalAddress;
 use prices::Prices;
 use registers::Answer;
 use unit::Device;
 use unit::Outcome;
 use unit::Told;
-ghost use mathlib.Core.Path.{_≡_};
+ghost use Rattle.session.specs.Names.{_≡_};
 ghost use Rattle.memory.specs.Memory.{lent};
 ghost use Rattle.unit.specs.Machine.{stepOut, stepTold};
 ghost use Rattle.session.specs.Bench.{freshBench, made, stepped};
@@ -79,12 +80,12 @@ impl Bench {
         self,
         call: Call,
         on: &'a [u8],
-        onbase: u32,
+        onbase: PhysicalAddress,
         ext: &'a [u8],
-        extbase: u32,
+        extbase: PhysicalAddress,
         prices: Prices,
     ) -> Stepped
-        ensures { λ r. ⌜ r ≡ stepped (lent (now (on .entry)) onbase (now (ext .entry)) extbase) prices self call ⌝ }
+        ensures { λ r. ⌜ r ≡ stepped (lent (now (on .entry)) (onbase .0) (now (ext .entry)) (extbase .0)) prices self call ⌝ }
     {
         let device = self.device;
         let bill = self.bill;

@@ -1,7 +1,8 @@
 -- The bytes of words from the first one on, which compute in as many steps as there are words. Assumes nothing.
-use mathlib.Core.Path.{_≡_, sym, ap, _∙_}
-use mathlib.Core.List.{List, [], _++_, append-assoc, append-nil}
-use Prim.Native.Nat.{ℕ, zero, suc, _+_}
+use Rattle.sheet.specs.Names.{_≡_, List, [], _++_, ℕ, zero, suc, _+_}
+use Rattle.sheet.proofs.Names.{ap, _∙_}
+use mathlib.Core.Path.{sym}
+use mathlib.Core.List.{append-assoc, append-nil}
 use native.Mathlib.Omega.{arith}
 use Rattle.wire.specs.Spliced.{bytesBy}
 use Rattle.wire.specs.Words.{wordBytes}

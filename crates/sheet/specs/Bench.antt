@@ -1,13 +1,6 @@
 -- The bench that the sheet's lines start from (01, "Bench sheet"): list A built in a memory, and the device that demand 3 starts.
-use Rattle.page.specs.Ground.{ℕ, _+_, _*_, List, replicate}
-use Rattle.memory.specs.Memory.{Lent}
-use Rattle.builder.specs.Build.{buildOf}
-use Rattle.bill.specs.Bill.{freshBill}
-use Rattle.unit.specs.declared.Device.{Device}
-use Rattle.unit.specs.Offsets.{lockAt}
-use Rattle.unit.specs.Calls.{writeOf}
-use Rattle.translates.specs.ListA.{recordsA, baseA}
-use Rattle.demands.specs.Buyer.{roomA, pricesA, lentAlone, startA}
+use Rattle.sheet.specs.Names.{ℕ, _+_, _*_, List, replicate, Lent, buildOf, freshBill, Device, lockAt, writeOf, recordsA, baseA, roomA, pricesA}
+use Rattle.sheet.specs.Names.{lentAlone, startA}
 
 -- what the builder leaves of list A in a memory that just holds it
 unfoldable pub builtA : List ℕ

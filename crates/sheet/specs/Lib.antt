@@ -1,2 +1,3 @@
+pub mod Names
 pub mod Bench
 pub mod Sheet

@@ -1,25 +1,8 @@
 -- The proved lines of the bench sheet as one table (01, "Bench sheet"): a question to the bench, and the numbers that answer it.
-use Rattle.page.specs.Ground.{ℕ, zero, suc, _+_, _-_, _*_, _/_, _≡_, Bool, true, false, List, [], _∷_, _++_, eqb, getD, take, drop, replicate}
-use Rattle.page.specs.Pick.{_and_}
-use Rattle.page.specs.Words.{virtual, wordValid}
-use Rattle.wire.specs.Words.{wordOf}
-use Rattle.memory.specs.Reads.{sources}
-use Rattle.memory.specs.declared.Source.{Source}
-use Rattle.walk.specs.Descriptors.{firstOf}
-use Rattle.walk.specs.declared.First.{First}
-use Rattle.builder.specs.declared.Built.{Built}
-use Rattle.builder.specs.Build.{answerOf, builtNumber, builtValue}
-use Rattle.bill.specs.Bill.{freshBill}
-use Rattle.lanes.specs.Lanes.{slots}
-use Rattle.registers.specs.Answers.{number, values}
-use Rattle.registers.specs.Fields.{entryOf}
-use Rattle.unit.specs.Types.{Access, Bank, Answer, Entry}
-use Rattle.unit.specs.declared.Device.{Device}
-use Rattle.unit.specs.declared.Outcome.{Outcome}
-use Rattle.unit.specs.Device.{look, decidedBy}
-use Rattle.unit.specs.Calls.{requestOf}
-use Rattle.translates.specs.ListA.{recordsA, baseA}
-use Rattle.demands.specs.Buyer.{pricesA, startA}
+use Rattle.sheet.specs.Names.{ℕ, zero, suc, _+_, _-_, _*_, _/_, _≡_, Bool, true, false, List, [], _∷_, _++_, eqb, getD, take, drop, replicate}
+use Rattle.sheet.specs.Names.{_and_, virtual, wordValid, wordOf, sources, Source, firstOf, First, Built, answerOf, builtNumber, builtValue}
+use Rattle.sheet.specs.Names.{freshBill, slots, answerNumber, answerValues, entryOf, Access, Bank, Answer, Entry, Device, Outcome, look, decidedBy}
+use Rattle.sheet.specs.Names.{requestOf, recordsA, baseA, pricesA, startA}
 use Rattle.sheet.specs.Bench.{builtA, lentA, lockedA}
 
 -- what a line asks
@@ -46,11 +29,11 @@ abbrev pub Line : Type 0
 Line = Question × List ℕ
 
 -- an answer is the paper's number, 0 where it has none, and the values beside it
-abbrev pub said : Answer → List ℕ
-said r = number r ∷ values r
+abbrev pub saidNumbers : Answer → List ℕ
+saidNumbers r = answerNumber r ∷ answerValues r
 
-abbrev pub builtSaid : Built → List ℕ
-builtSaid b = builtNumber b ∷ builtValue b ∷ []
+abbrev pub builtNumbers : Built → List ℕ
+builtNumbers b = builtNumber b ∷ builtValue b ∷ []
 
 abbrev pub address : ℕ → List ℕ
 address x = 0 ∷ x ∷ []
@@ -61,11 +44,11 @@ fault k = k ∷ []
 abbrev pub refused : ℕ → List ℕ
 refused k = k ∷ []
 
-abbrev pub accepted : ℕ → List ℕ
-accepted n = 0 ∷ n ∷ []
+abbrev pub acceptedLength : ℕ → List ℕ
+acceptedLength n = 0 ∷ n ∷ []
 
-abbrev pub refusedWith : ℕ → ℕ → List ℕ
-refusedWith k count = k ∷ count ∷ []
+abbrev pub refusedCount : ℕ → ℕ → List ℕ
+refusedCount k count = k ∷ count ∷ []
 
 -- a line that names an access or asks no request, and one that names none and so holds for both
 abbrev pub line : Question → List ℕ → List Line
@@ -95,8 +78,8 @@ sheet =
     ++ both (request 0x500800) (fault 21)
     ++ both (request 0xFFFFFF) (fault 21)
     ++ both (request 0x1000000) (refused 1)
-    ++ line (room 8192) (accepted 8192)
-    ++ line (room 8188) (refusedWith 12 3)
+    ++ line (room 8192) (acceptedLength 8192)
+    ++ line (room 8188) (refusedCount 12 3)
     ++ both (lockedValid 31 0 0x012345) (31 ∷ [])
     ++ both (lockedSlot 31 0 31 0x012345) largeA
 
@@ -107,28 +90,28 @@ lastAt (s ∷ []) = s .at .0 ∷ []
 lastAt (s ∷ t ∷ ss) = lastAt (t ∷ ss)
 
 -- slot i in register form: CAM high, CAM low, RAM high, RAM low
-abbrev pub halves : Entry → List ℕ
-halves e = e .camhi ∷ e .camlo ∷ e .ramhi ∷ e .ramlo ∷ []
+abbrev pub entryHalves : Entry → List ℕ
+entryHalves e = e .camhi ∷ e .camlo ∷ e .ramhi ∷ e .ramlo ∷ []
 
-abbrev pub slotAt : Bank → ℕ → List ℕ
-slotAt b i = halves (entryOf (record { cam = getD (b .cam) i 0; ram = getD (b .ram) i 0 }))
+abbrev pub slotHalves : Bank → ℕ → List ℕ
+slotHalves b i = entryHalves (entryOf (record { cam = getD (b .cam) i 0; ram = getD (b .ram) i 0 }))
 
 -- i before others where a test holds
-abbrev pub kept : Bool → ℕ → List ℕ → List ℕ
-kept true i is = i ∷ is
-kept false i is = is
+abbrev pub keptIf : Bool → ℕ → List ℕ → List ℕ
+keptIf true i is = i ∷ is
+keptIf false i is = is
 
 -- the valid ones of the n slots from i on
 abbrev pub validFrom : ℕ → ℕ → Bank → List ℕ
 validFrom zero i b = []
-validFrom (suc n) i b = kept (wordValid (getD (b .cam) i 0)) i (validFrom n (i + 1) b)
+validFrom (suc n) i b = keptIf (wordValid (getD (b .cam) i 0)) i (validFrom n (i + 1) b)
 
 -- two lists of numbers are equal
-abbrev pub same : List ℕ → List ℕ → Bool
-same [] [] = true
-same [] (y ∷ ys) = false
-same (x ∷ xs) [] = false
-same (x ∷ xs) (y ∷ ys) = eqb x y and same xs ys
+abbrev pub sameNumbers : List ℕ → List ℕ → Bool
+sameNumbers [] [] = true
+sameNumbers [] (y ∷ ys) = false
+sameNumbers (x ∷ xs) [] = false
+sameNumbers (x ∷ xs) (y ∷ ys) = eqb x y and sameNumbers xs ys
 
 -- the bench with these bytes in its memory
 module _ (bytes : List ℕ) where
@@ -177,16 +160,16 @@ module _ (bytes : List ℕ) where
   answeredIn (word k) = wordIn k ∷ []
   answeredIn (coarse i j k) = coarseWords (firstOf (wordIn i)) j k
   answeredIn (fine i j k) = fineWords (firstOf (wordIn i)) j k
-  answeredIn (request va a) = said (asked begun va a .answer)
+  answeredIn (request va a) = saidNumbers (asked begun va a .answer)
   answeredIn (lastWord va a) = lastAt (readFor begun va a)
-  answeredIn (slot i va a) = slotAt (asked begun va a .device .bank) i
+  answeredIn (slot i va a) = slotHalves (asked begun va a .device .bank) i
   answeredIn (lockedValid lock victim va a) = validFrom slots 0 (asked (locked lock victim) va a .device .bank)
-  answeredIn (lockedSlot lock victim i va a) = slotAt (asked (locked lock victim) va a .device .bank) i
-  answeredIn (room n) = builtSaid (answerOf recordsA baseA n)
+  answeredIn (lockedSlot lock victim i va a) = slotHalves (asked (locked lock victim) va a .device .bank) i
+  answeredIn (room n) = builtNumbers (answerOf recordsA baseA n)
 
   -- it answers as a line expects
   unfoldable pub passesIn : Line → Bool
-  passesIn l = same (answeredIn (l .0)) (l .1)
+  passesIn l = sameNumbers (answeredIn (l .0)) (l .1)
 
   -- as each line of a list does
   abbrev pub allPassIn : List Line → Bool

@@ -6,6 +6,7 @@ use calls::Call;
 use decision::Said;
 use libc::STDOUT_FILENO;
 use page::Access;
+use page::PhysicalAddress;
 use page::VirtualAddress;
 use prices::Price;
 use prices::Prices;
@@ -36,7 +37,7 @@ fn whole() {
     let a = list();
     let mut image = [0u8; 8192];
     label(0);
-    built(builder::build(&a, BASE, &mut image));
+    built(builder::build(&a, PhysicalAddress(BASE), &mut image));
     label(1);
     short();
     words(&image);
@@ -47,14 +48,14 @@ fn whole() {
 fn short() {
     let a = list();
     let mut image = [0u8; 8188];
-    built(builder::build(&a, BASE, &mut image));
+    built(builder::build(&a, PhysicalAddress(BASE), &mut image));
 }
 
 // The empty list in the room that it needs, asked.
 fn bare() {
     let mut image = [0u8; 64];
     label(2);
-    built(builder::build(b"", BASE, &mut image));
+    built(builder::build(b"", PhysicalAddress(BASE), &mut image));
     empty(&image);
 }
 
@@ -152,7 +153,14 @@ fn prices() -> Prices {
 // A call made.
 fn stepped(b: Bench, ext: &[u8], call: Call) -> Stepped {
     let on = [0u8; 16];
-    b.step(call, &on, 0, ext, BASE, prices())
+    b.step(
+        call,
+        &on,
+        PhysicalAddress(0),
+        ext,
+        PhysicalAddress(BASE),
+        prices(),
+    )
 }
 
 // A register write.

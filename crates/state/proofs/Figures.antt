@@ -1,10 +1,9 @@
 -- The bits of a figure: it equals itself, or it is the NaN. Assumes nothing.
-use mathlib.Core.Path.{_≡_, refl, sym, _∙_, ap}
-use mathlib.Core.Bool.{Bool, true, false, not, _&&_, true≢false, false≢true}
-use Prim.Native.Nat.{_*_}
+use Rattle.state.specs.Names.{_≡_, Bool, _*_, Float, binary64}
+use Rattle.state.proofs.Names.{refl, sym, _∙_, ap, eq-eqb}
+use mathlib.Core.Bool.{true, false, not, _&&_, true≢false, false≢true}
 use lib.Dec.{T}
-use borrow.Author.Tests.{eq-eqb}
-use lib.Ieee.{Float, nan, inf, fin, ne, eq, isNan, toBits, binary64, up, down}
+use lib.Ieee.{nan, inf, fin, ne, eq, isNan, toBits, up, down}
 
 pub self-equal : (x : Float) → ne x x ≡ false → T (not (isNan x))
 unfolding isNan ne

@@ -1,14 +1,10 @@
 -- One turn of the loop over a lane: what is left to read. Assumes nothing.
-use mathlib.Core.Path.{_≡_, refl, sym, _∙_, ap, ap₂}
-use mathlib.Core.List.{List, [], _∷_, _++_, append-assoc}
-use Prim.Native.Nat.{ℕ, suc, _+_, _*_, _-_, _<_, _≤_}
-use native.Mathlib.Omega.{arith}
+use Rattle.state.specs.Names.{_≡_, List, [], _∷_, _++_, ℕ, suc, _+_, _*_, _≤_, length, slots, swapped, wordAt}
+use Rattle.state.proofs.Names.{refl, sym, _∙_, ap, ap₂, _-_, _<_, arith, take, laneFrom}
+use mathlib.Core.List.{append-assoc}
 use native.Mathlib.Numerals.{add-one}
-use lib.ListN.{length, take, set}
+use lib.ListN.{set}
 use lib.Seq.{take-suc-set, take-all}
-use Rattle.lanes.specs.Lanes.{slots}
-use Rattle.wire.specs.Words.{swapped, wordAt}
-use Rattle.state.specs.Handed.{laneFrom}
 
 pub lane-turn : (s lane : List ℕ) (at i v : ℕ) → i < slots → length lane ≡ slots → v ≡ swapped (wordAt s (at + 8 * i))
     → take i lane ++ laneFrom s at i (slots - i) ≡ take (i + 1) (set lane i v) ++ laneFrom s at (i + 1) (slots - (i + 1))

@@ -1,15 +1,6 @@
 -- How many words each part of a state has. Assumes nothing.
-use mathlib.Core.Path.{_≡_, refl}
-use mathlib.Core.List.{List, _++_}
-use Prim.Native.Nat.{ℕ, zero, suc, _+_, _*_}
-use native.Mathlib.Omega.{arith}
-use lib.ListN.{length, length-append}
-use Rattle.lanes.specs.Lanes.{slots}
-use Rattle.registers.specs.declared.Pending.{Pending}
-use Rattle.unit.specs.declared.Device.{Device}
-use Rattle.session.specs.declared.Bench.{Bench}
-use Rattle.state.specs.State.{slotWords, pendingWords, deviceWords, stateWords}
-use Rattle.state.specs.Parts.{meterWords, billWords}
+use Rattle.state.specs.Names.{_≡_, List, _++_, ℕ, zero, suc, _+_, _*_, length, slots, Pending, Device, Bench}
+use Rattle.state.proofs.Names.{refl, arith, length-append, slotWords, pendingWords, deviceWords, stateWords, meterWords, billWords}
 
 pub slots-length : (cam ram : List ℕ) (i n : ℕ) → length (slotWords cam ram i n) ≡ 2 * n
 unfolding slotWords

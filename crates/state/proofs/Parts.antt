@@ -1,15 +1,7 @@
 -- The parts of a state, one behind the other. Assumes nothing.
-use mathlib.Core.Path.{_≡_, _∙_}
-use mathlib.Core.List.{List, _++_}
-use Prim.Native.Nat.{ℕ, _+_, _*_, _<_, _≤_}
-use native.Mathlib.Omega.{arith}
-use lib.ListN.{length, length-append}
-use borrow.Author.Tests.{lt-leb}
-use Rattle.page.proofs.Picks.{pick-no}
-use Rattle.session.specs.declared.Bench.{Bench}
-use Rattle.wire.specs.Words.{placed, wordsPut}
-use Rattle.wire.proofs.Placing.{followed, written-fits}
-use Rattle.state.specs.State.{stateWords}
+use Rattle.state.specs.Names.{_≡_, List, _++_, ℕ, _+_, _*_, _≤_, length, Bench, placed, wordsPut}
+use Rattle.state.proofs.Names.{_∙_, _<_, arith, length-append, lt-leb, pick-no, written-fits, stateWords}
+use Rattle.wire.proofs.Placing.{followed}
 use Rattle.state.proofs.Lengths.{state-length}
 
 -- registers, slots and the pending fault

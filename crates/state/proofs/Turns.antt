@@ -1,13 +1,7 @@
 -- One turn of the loop over the slots: what is left to write. Assumes nothing.
-use mathlib.Core.Path.{_≡_, sym, _∙_, ap, ap₂}
-use mathlib.Core.List.{List, [], _∷_}
-use Prim.Native.Nat.{ℕ, suc, _+_, _*_, _-_, _<_, _≤_}
-use native.Mathlib.Omega.{arith}
-use lib.ListN.{length, getD}
-use Rattle.lanes.specs.Lanes.{slots}
-use Rattle.wire.specs.Words.{placed, wordsPut, swapped}
-use Rattle.wire.proofs.Placing.{placed-none, placed-then, written-fits}
-use Rattle.state.specs.State.{slotWords}
+use Rattle.state.specs.Names.{_≡_, List, [], _∷_, ℕ, suc, _+_, _*_, _≤_, length, getD, slots, placed, wordsPut, swapped}
+use Rattle.state.proofs.Names.{sym, _∙_, ap, ap₂, _-_, _<_, arith, written-fits, slotWords}
+use Rattle.wire.proofs.Placing.{placed-none, placed-then}
 use Rattle.state.proofs.Lengths.{slots-length}
 
 -- the slots from slot i on

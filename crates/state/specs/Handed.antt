@@ -1,21 +1,6 @@
 -- A bench from a handed-in state: register images and slots as they stand; and prices of a kind.
-use Rattle.page.specs.Ground.{ℕ, zero, suc, _+_, _*_, Bool, List, [], _∷_, eqb, leb, length, getD}
-use Rattle.page.specs.Pick.{pick, _and_, _or_}
-use Rattle.page.specs.Words.{physical}
-use Rattle.meters.specs.declared.Meters.{Meters}
-use Rattle.bill.specs.declared.Bill.{Bill}
-use Rattle.prices.specs.declared.Side.{Side}
-use Rattle.prices.specs.declared.LastRow.{LastRow}
-use Rattle.prices.specs.declared.Price.{Price}
-use Rattle.prices.specs.declared.Prices.{Prices}
-use Rattle.bank.specs.declared.Bank.{Bank}
-use Rattle.lanes.specs.Lanes.{slots}
-use Rattle.registers.specs.declared.Entry.{Entry}
-use Rattle.registers.specs.declared.Registers.{Registers}
-use Rattle.unit.specs.declared.Device.{Device}
-use Rattle.session.specs.declared.Bench.{Bench}
-use lib.Ieee.{Float}
-use Rattle.wire.specs.Words.{swapped, wordAt, lowAt, highAt}
+use Rattle.state.specs.Names.{ℕ, zero, suc, _+_, _*_, Bool, List, [], _∷_, eqb, leb, length, getD, pick, _and_, _or_, physical, Meters, Bill}
+use Rattle.state.specs.Names.{Side, LastRow, Price, Prices, Bank, slots, Entry, Registers, Device, Bench, Float, swapped, wordAt, lowAt, highAt}
 use Rattle.state.specs.Taken.{narrowed, pendingOf}
 use Rattle.state.specs.Parts.{noRow}
 use Rattle.state.specs.State.{stateSize}

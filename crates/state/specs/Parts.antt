@@ -1,12 +1,6 @@
 -- Parts of a state as words.
-use Rattle.page.specs.Ground.{ℕ, _/_, _%_, List, [], _∷_, _++_, ltb}
-use Rattle.page.specs.Pick.{pick, _and_}
-use Rattle.meters.specs.declared.Meters.{Meters}
-use Rattle.bill.specs.declared.Bill.{Bill}
-use Rattle.prices.specs.declared.LastRow.{LastRow}
-use Rattle.registers.specs.declared.Entry.{Entry}
-use lib.Ieee.{toBits, binary64}
-use Rattle.wire.specs.Words.{wide, halves}
+use Rattle.state.specs.Names.{ℕ, _/_, _%_, List, [], _∷_, _++_, ltb, pick, _and_, Meters, Bill, LastRow, Entry, binary64, wide, halves}
+use lib.Ieee.{toBits}
 
 -- CAM high, CAM low, RAM high, RAM low
 abbrev pub entryWords : Entry → List ℕ

@@ -1,13 +1,6 @@
 -- The state of a bench as 82 words.
-use Rattle.page.specs.Ground.{ℕ, zero, suc, _+_, _*_, List, [], _∷_, _++_, getD}
-use Rattle.page.specs.declared.Access.{Access}
-use Rattle.lanes.specs.Lanes.{slots}
-use Rattle.registers.specs.Answers.{faultBit}
-use Rattle.registers.specs.declared.Registers.{Registers}
-use Rattle.registers.specs.declared.Pending.{Pending}
-use Rattle.unit.specs.declared.Device.{Device}
-use Rattle.session.specs.declared.Bench.{Bench}
-use Rattle.wire.specs.Words.{halves, swapped}
+use Rattle.state.specs.Names.{ℕ, zero, suc, _+_, _*_, List, [], _∷_, _++_, getD, Access, slots, faultBit, Registers, Pending, Device, Bench}
+use Rattle.state.specs.Names.{halves, swapped}
 use Rattle.state.specs.Parts.{entryWords, lockWord, meterWords, billWords}
 
 -- prefetch, control; base; lock base, victim; the staged entry and the read registers

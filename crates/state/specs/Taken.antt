@@ -1,11 +1,5 @@
 -- Numbers of a handed-in state as a device takes them.
-use Rattle.page.specs.Ground.{ℕ, List, eqb, ltb}
-use Rattle.page.specs.Pick.{pick}
-use Rattle.page.specs.Words.{virtual}
-use Rattle.registers.specs.declared.Fault.{Fault}
-use Rattle.registers.specs.declared.Pending.{Pending}
-use Rattle.calls.specs.Forms.{accessOf}
-use Rattle.wire.specs.Words.{lowAt, highAt}
+use Rattle.state.specs.Names.{ℕ, List, eqb, ltb, pick, virtual, Fault, Pending, accessOf, lowAt, highAt}
 
 -- as many bits as a device holds, or the greatest number of them where it is more
 unfoldable pub narrowed : ℕ → ℕ

@@ -8,20 +8,13 @@ use page::Access;
 use prices::LastRow;
 use prices::Side;
 use registers::Entry;
-use registers::Fault;
 use registers::Pending;
 use registers::Registers;
 use session::Bench;
 use unit::Device;
-ghost use mathlib.Core.Path.{_≡_};
-ghost use Prim.Native.Nat.{_+_, _≤_};
-ghost use lib.ListN.{length};
-ghost use Rattle.lanes.specs.Lanes.{slots};
-ghost use Rattle.registers.specs.Answers.{faultBit};
-ghost use Rattle.wire.specs.Words.{placed, wordsPut};
+ghost use Rattle.state.specs.Names.{_≡_, _+_, _≤_, length, slots, placed, wordsPut, _++_, binary64};
 ghost use Rattle.state.specs.State.{registerWords, slotWords, accessNumber, pendingWords, deviceWords, stateWords};
-ghost use mathlib.Core.List.{_++_};
-ghost use lib.Ieee.{toBits, binary64};
+ghost use lib.Ieee.{toBits};
 ghost use Rattle.state.specs.Parts.{entryWords, lockWord, meterWords, rowWord, billWords};
 
 // The words of a state.
@@ -61,18 +54,6 @@ fn put_slots<'b>(out: &mut [u8], at: usize, cam: &'b [u32; 32], ram: &'b [u32; 3
     }
 }
 
-// The status bit of a fault.
-fn fault_bit(k: Fault) -> u8
-    ensures { λ r. ⌜ r ≡ faultBit k ⌝ }
-{
-    match k {
-        Fault::Translation => 1,
-        Fault::Miss => 2,
-        Fault::Permission => 4,
-        Fault::Prefetch => 8,
-    }
-}
-
 // The number of an access.
 fn access_number(a: Access) -> u8
     ensures { λ r. ⌜ r ≡ accessNumber a ⌝ }
@@ -89,7 +70,10 @@ fn pending_words(p: Pending) -> [u32; 2]
 {
     match p {
         Pending::Nothing => [0, 0],
-        Pending::Held(k, va, a) => [fault_bit(k) as u32 + 256 * (access_number(a) as u32), va.0],
+        Pending::Held(k, va, a) => [
+            registers::fault_bit(k) as u32 + 256 * (access_number(a) as u32),
+            va.0,
+        ],
     }
 }
 

@@ -16,11 +16,10 @@ use registers::Pending;
 use registers::Registers;
 use session::Bench;
 use unit::Device;
-ghost use mathlib.Core.Path.{_≡_};
+ghost use Rattle.state.specs.Names.{_≡_, _≤_, slots};
 ghost use Rattle.state.specs.Taken.{narrowed, lockTaken, victimTaken, pendingOf};
-ghost use Prim.Native.Nat.{_≤_};
-ghost use Rattle.lanes.specs.Lanes.{slots};
-ghost use Rattle.state.specs.Handed.{isStatus, isState, entryAt, registersIn, laneFrom, bankIn, metersIn, sideOf, billIn, deviceIn, benchIn, lockIn, priceOf, pricesOf};
+ghost use Rattle.state.specs.Handed.{isStatus, isState, entryAt, registersIn, laneFrom, bankIn, metersIn, sideOf, billIn, deviceIn, benchIn};
+ghost use Rattle.state.specs.Handed.{lockIn, priceOf, pricesOf};
 
 // A number of a device's 8 bits, or the greatest one where it is more.
 fn narrow(x: u16) -> u8

@@ -1,20 +1,12 @@
 -- A megabyte's table is fine enough for each of its pages. Assumes nothing.
-use mathlib.Core.Path.{_≡_, refl, sym, _∙_}
-use mathlib.Core.Bool.{false, true≢false}
-use mathlib.Core.List.{List, [], _∷_}
-use Prim.Native.Nat.{ℕ, _/_, _^_, _≤_}
-use lib.Dec.{lit≤}
-use borrow.Author.Tests.{eq-eqb}
-use Rattle.page.specs.Words.{lowBits, typeOf}
-use Rattle.page.specs.declared.Kind.{Kind}
-use Rattle.page.proofs.Picks.{pick-by, and-yes}
+use Rattle.tables.specs.Names.{_≡_, false, List, ℕ, _/_, _^_, lowBits, typeOf, Kind, Mapping, hasKind}
+use Rattle.tables.proofs.Names.{refl, sym, _∙_, true≢false, _∷_, _≤_, lit≤, eq-eqb, and-yes, tableOf, stepBits}
+use mathlib.Core.List.{[]}
+use Rattle.page.proofs.Picks.{pick-by}
 use Rattle.page.proofs.Slot.{lowBits-ge}
-use Rattle.records.specs.declared.Mapping.{Mapping}
 use Rattle.records.proofs.Accepted.{neither}
 use Rattle.records.proofs.Alls.{All, all-map, all-map2, every}
-use Rattle.tables.specs.Tables.{tableOf}
-use Rattle.records.specs.Noted.{isIn, hasKind}
-use Rattle.tables.specs.Words.{stepBits}
+use Rattle.records.specs.Noted.{isIn}
 
 -- a mapping of megabyte i leaves s low bits at least
 abbrev pub Fit : ℕ → ℕ → Mapping → Type 0

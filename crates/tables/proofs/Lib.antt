@@ -1,3 +1,4 @@
+pub mod Names
 pub mod Places
 pub mod Notes
 pub mod Offsets

@@ -1,15 +1,8 @@
 -- The kinds of page of each megabyte, noted one mapping after the other. Assumes nothing.
-use mathlib.Core.Path.{_≡_, refl, ap₂}
-use mathlib.Core.Bool.{Bool, true, false, _||_, true≢false}
-use mathlib.Core.List.{List}
-use Prim.Native.Nat.{ℕ, _+_, _<_}
-use lib.ListN.{getD}
-use Rattle.page.specs.Pick.{pick, _or_}
+use Rattle.tables.specs.Names.{_≡_, Bool, false, List, ℕ, _+_, getD, pick, _or_, Kind, Mapping, Second}
+use Rattle.tables.proofs.Names.{refl, ap₂, true, true≢false, _<_, tableOf}
+use mathlib.Core.Bool.{_||_}
 use Rattle.page.specs.Words.{megabytes}
-use Rattle.page.specs.declared.Kind.{Kind}
-use Rattle.records.specs.declared.Mapping.{Mapping}
-use Rattle.tables.specs.declared.Second.{Second}
-use Rattle.tables.specs.Tables.{tableOf}
 use Rattle.records.specs.Noted.{Kinds}
 use Rattle.tables.specs.Kinds.{tableBy, hasTable}
 

@@ -1,15 +1,10 @@
 -- The word at an offset among the tables. Assumes nothing.
-use mathlib.Core.Path.{_≡_, _∙_, subst}
-use mathlib.Core.List.{List}
-use Prim.Native.Nat.{ℕ, zero, suc, _-_, _/_, _≤_, _<_}
-use native.Mathlib.Omega.{arith}
-use native.Mathlib.Decide.{decLe}
+use Rattle.tables.specs.Names.{_≡_, List, ℕ, zero, suc, _-_, _/_, Mapping}
+use Rattle.tables.proofs.Names.{_∙_, subst, _≤_, _<_, arith, decLe, pick-yes, pick-no, and-yes, tableOf, tableEnd, tableStart, secondWord}
 use borrow.Author.Tests.{lt-ltb, le-leb, lt-leb}
-use Rattle.page.proofs.Picks.{pick-yes, pick-no, and-yes, and-no}
-use Rattle.records.specs.declared.Mapping.{Mapping}
-use Rattle.tables.specs.Tables.{tableOf, tableEnd, tableStart}
+use Rattle.page.proofs.Picks.{and-no}
 use Rattle.tables.proofs.Places.{end-start, end-le}
-use Rattle.tables.specs.Words.{secondWord, inTables}
+use Rattle.tables.specs.Words.{inTables}
 
 module _ (n : ℕ) (ms : List Mapping) where
   -- the word at an offset inside megabyte i's table is that table's

@@ -1,14 +1,9 @@
 -- Where the tables lie. Assumes nothing.
-use mathlib.Core.Path.{_≡_, refl, sym, ap, ap₂, _∙_, subst}
-use mathlib.Core.List.{List}
-use Prim.Native.Nat.{ℕ, zero, suc, _+_, _*_, _-_, _%_, _≤_}
-use native.Mathlib.Omega.{arith}
+use Rattle.tables.specs.Names.{_≡_, List, ℕ, zero, suc, _+_, _*_, _-_, _%_, Mapping, Second}
+use Rattle.tables.proofs.Names.{refl, sym, ap, ap₂, _∙_, subst, _≤_, arith, lit≤, tableOf, startAfter, tableEnd, tableStart}
 use native.Mathlib.Nat.{le-refl}
 use native.Mathlib.Numerals.{add-one}
-use lib.Dec.{lit≤}
-use Rattle.records.specs.declared.Mapping.{Mapping}
-use Rattle.tables.specs.declared.Second.{Second}
-use Rattle.tables.specs.Tables.{tableOf, tableSize, startAfter, tableEnd, tableStart, imageLength}
+use Rattle.tables.specs.Tables.{tableSize, imageLength}
 
 -- a table begins no earlier than the offset that it follows, less than its own size later, at a multiple of 4
 pub start-ge : (t : Second) (e : ℕ) → e ≤ startAfter t e

@@ -1,26 +1,15 @@
 -- Which words of a table stand for a mapping's region: one law over the number of low bits. Assumes nothing.
-use mathlib.Core.Path.{_≡_, refl, sym, ap, ap₂, _∙_, subst}
-use mathlib.Core.Bool.{Bool, true, false}
-use mathlib.Core.List.{List, _∷_}
-use Prim.Native.Nat.{ℕ, _+_, _*_, _-_, _/_, _%_, _^_, _≤_, _<_}
-use native.Mathlib.Omega.{arith}
-use native.Mathlib.Decide.{decLe}
+use Rattle.tables.specs.Names.{_≡_, Bool, false, List, ℕ, _+_, _*_, _-_, _/_, _%_, _^_, eqb, upper, lowBits, Mapping, Held, holder, Second}
+use Rattle.tables.proofs.Names.{refl, sym, ap, ap₂, _∙_, subst, true, _∷_, _≤_, _<_, arith, decLe, pow-pos, lit≤, eq-eqb, pick-yes, pick-no}
+use Rattle.tables.proofs.Names.{stepBits, secondWord}
 use native.Mathlib.Nat.{mul-add-div-right, mul-assoc, mul-le-mul-right, mul-lt-mul-of-pos-right, le-of-mul-le-mul-right, add-mul, mod-lt, div-mul-le-self}
-use lib.Pow.{pow-add, pow-pos, shl-shr, split, high}
-use lib.Dec.{eqb, lit≤}
-use borrow.Author.Tests.{eq-eqb, ne-eqb, eqb-true, eqb-false}
-use Rattle.page.specs.Low.{upper}
-use Rattle.page.specs.Words.{lowBits}
-use Rattle.page.proofs.Picks.{pick-yes, pick-no}
+use lib.Pow.{pow-add, shl-shr, split, high}
+use borrow.Author.Tests.{ne-eqb, eqb-true, eqb-false}
 use Rattle.page.proofs.Lower.{upper-lt, upper-le}
 use Rattle.page.proofs.Slot.{lowBits-le}
-use Rattle.records.specs.declared.Mapping.{Mapping}
-use Rattle.records.specs.declared.Held.{Held}
 use Rattle.records.specs.Mappings.{holds}
-use Rattle.records.specs.Meanings.{holder}
 use Rattle.records.proofs.Bits.{agree-up}
-use Rattle.tables.specs.declared.Second.{Second}
-use Rattle.tables.specs.Words.{writtenAs, pageWord, secondBy, stepBits, addressOf, secondWord, wordIn, wordsIn}
+use Rattle.tables.specs.Words.{writtenAs, pageWord, secondBy, addressOf, wordIn, wordsIn}
 use Rattle.tables.proofs.Fits.{Fit}
 
 -- an address lies in the page of another exactly where it lies between that page's ends

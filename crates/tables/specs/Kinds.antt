@@ -1,7 +1,5 @@
 -- Which kinds of page stand in which megabyte, noted in one pass over a list, and the tables that the notes give (01, "The builder").
-use Rattle.page.specs.Ground.{ℕ, _+_, Bool, false, List, getD}
-use Rattle.page.specs.Pick.{pick, _or_}
-use Rattle.tables.specs.declared.Second.{Second}
+use Rattle.tables.specs.Names.{ℕ, _+_, Bool, false, List, getD, pick, _or_, Second}
 
 -- the table that the notes give megabyte i
 unfoldable pub tableBy : List Bool → ℕ → Second

@@ -1,3 +1,4 @@
+pub mod Names
 pub mod Tables
 pub mod Kinds
 pub mod Words

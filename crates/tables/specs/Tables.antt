@@ -1,10 +1,5 @@
 -- Where the tables of a list lie, under a first level of n words (01, "The builder").
-use Rattle.page.specs.Ground.{ℕ, zero, suc, _+_, _-_, _*_, _/_, List}
-use Rattle.page.specs.Pick.{pick, _or_}
-use Rattle.page.specs.declared.Kind.{Kind}
-use Rattle.records.specs.declared.Mapping.{Mapping}
-use Rattle.tables.specs.declared.Second.{Second}
-use Rattle.records.specs.Noted.{hasKind}
+use Rattle.tables.specs.Names.{ℕ, zero, suc, _+_, _-_, _*_, _/_, List, pick, _or_, Kind, Mapping, Second, hasKind}
 
 -- the table of megabyte i: fine where it holds a tiny page, else coarse where it holds large or small ones
 unfoldable pub tableOf : List Mapping → ℕ → Second

@@ -1,15 +1,6 @@
 -- Which word stands where in the image of a list, under a first level of n words (01, "The builder", "The walk").
-use Rattle.page.specs.Ground.{ℕ, zero, suc, _+_, _-_, _*_, _/_, _%_, _^_, List, eqb, ltb, leb}
-use Rattle.page.specs.Pick.{pick, _and_}
-use Rattle.page.specs.Low.{upper}
-use Rattle.page.specs.Words.{virtual, lowBits, typeOf}
-use Rattle.page.specs.declared.Kind.{Kind}
-use Rattle.page.specs.declared.VirtualAddress.{VirtualAddress}
-use Rattle.records.specs.declared.Mapping.{Mapping}
-use Rattle.records.specs.declared.Held.{Held}
-use Rattle.records.specs.Mappings.{byteOf}
-use Rattle.records.specs.Meanings.{holder}
-use Rattle.tables.specs.declared.Second.{Second}
+use Rattle.tables.specs.Names.{ℕ, zero, suc, _+_, _-_, _*_, _/_, _%_, _^_, List, eqb, ltb, leb, pick, _and_, upper, virtual, lowBits, typeOf}
+use Rattle.tables.specs.Names.{Kind, VirtualAddress, Mapping, Held, byteOf, holder, Second}
 use Rattle.tables.specs.Tables.{tableOf, tableEnd, tableStart}
 
 -- the word of a section, or of none

@@ -1,7 +1,7 @@
 // Where the tables of a list lie.
 pub mod words;
 
-ghost use mathlib.Core.Path.{_≡_};
+ghost use Rattle.tables.specs.Names.{_≡_};
 ghost use Rattle.tables.specs.Tables.{tableSize, startAfter};
 
 // The second-level table of a megabyte.

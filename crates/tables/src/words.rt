@@ -3,9 +3,7 @@ use crate::Second;
 use page::Kind;
 use page::MEGABYTE;
 use records::Mapping;
-ghost use mathlib.Core.Path.{_≡_};
-ghost use Prim.Native.Nat.{_+_, _^_};
-ghost use Rattle.records.specs.declared.Held.{Held};
+ghost use Rattle.tables.specs.Names.{_≡_, _+_, _^_, Held};
 ghost use Rattle.tables.specs.Words.{sectionWord, stepBits, wordIn};
 
 // The word of a section.

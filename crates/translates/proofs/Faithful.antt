@@ -1,30 +1,11 @@
 -- What is found where a mapping holds an address: its byte and access, the same over a page's whole range, by words inside the image. Assumes nothing.
-use mathlib.Core.Path.{_≡_, refl, sym, ap, ap₂, _∙_, subst}
-use mathlib.Core.List.{List}
-use Prim.Native.Nat.{ℕ, suc, _+_, _*_, _/_, _%_, _^_, _≤_, _<_}
-use native.Mathlib.Omega.{arith}
-use Rattle.page.specs.Low.{upper, joined}
-use Rattle.page.specs.Words.{physical, lowBits}
-use Rattle.page.specs.declared.VirtualAddress.{VirtualAddress}
+use Rattle.translates.specs.Names.{_≡_, List, ℕ, _+_, _≤_, _<_, VirtualAddress, Page, Found, Mapping, Held, byteOf, holder, imageLength}
+use Rattle.translates.proofs.Names.{refl, sym, ap, ap₂, _∙_, subst, suc, _*_, _/_, _%_, _^_, arith, upper, joined, physical, lowBits}
+use Rattle.translates.proofs.Names.{lowBits-le, Place, All, OnHeld, Disjoint, agree-up, Second, tableOf, tableSize, tableStart, writtenAs}
+use Rattle.translates.proofs.Names.{end-next, end-last, image-first, Gives, ReadsInside}
 use Rattle.page.proofs.Lower.{upper-high, joined-agree}
-use Rattle.page.proofs.Slot.{lowBits-le}
-use Rattle.memory.specs.declared.Place.{Place}
-use Rattle.walk.specs.declared.Page.{Page}
-use Rattle.walk.specs.declared.Found.{Found}
-use Rattle.records.specs.declared.Mapping.{Mapping}
-use Rattle.records.specs.declared.Held.{Held}
-use Rattle.records.specs.Mappings.{byteOf}
-use Rattle.records.specs.Meanings.{holder}
-use Rattle.records.proofs.Alls.{All}
-use Rattle.records.proofs.Holders.{OnHeld, holder-same, holds-over}
-use Rattle.records.proofs.Accepted.{Disjoint}
-use Rattle.records.proofs.Bits.{agree-up, joined-cut}
-use Rattle.tables.specs.declared.Second.{Second}
-use Rattle.tables.specs.declared.Second.{Second}
-use Rattle.tables.specs.Tables.{tableOf, tableSize, tableStart, imageLength}
-use Rattle.tables.specs.Words.{writtenAs}
-use Rattle.tables.proofs.Places.{end-next, end-last, image-first}
-use Rattle.translates.specs.Statements.{Gives, Inside}
+use Rattle.records.proofs.Holders.{holder-same, holds-over}
+use Rattle.records.proofs.Bits.{joined-cut}
 use Rattle.translates.proofs.Written.{pageFor, foundFor, Known, written-le, part-same}
 use Rattle.translates.proofs.Over.{Narrow, known, readsFor}
 
@@ -63,16 +44,17 @@ module _ (ms : List Mapping) (narrow : All Narrow ms) (apart : Disjoint ms) (va 
 
 -- the words read lie in the image
 pub reads-inside : (n : ℕ) (ms : List Mapping) (base : ℕ) (place : ℕ → Place) (va : VirtualAddress) → va .0 / 2 ^ 20 < n
-    → Inside base (imageLength n ms) (readsFor place base (tableStart n ms (va .0 / 2 ^ 20)) va (tableOf ms (va .0 / 2 ^ 20)))
+    → ReadsInside base (imageLength n ms) (readsFor place base (tableStart n ms (va .0 / 2 ^ 20)) va (tableOf ms (va .0 / 2 ^ 20)))
 reads-inside n ms base place va low = by-table (tableOf ms (va .0 / 2 ^ 20)) refl
   where
     first : (base ≤ base + 4 * (va .0 / 2 ^ 20)) × (base + 4 * (va .0 / 2 ^ 20) + 4 ≤ base + imageLength n ms)
     first = (omega arith, omega (arith, image-first n ms))
 
-    second : (j : ℕ) → 4 * j + 4 ≤ tableSize (tableOf ms (va .0 / 2 ^ 20)) → (base ≤ base + (tableStart n ms (va .0 / 2 ^ 20) + 4 * j)) × (base + (tableStart n ms (va .0 / 2 ^ 20) + 4 * j) + 4 ≤ base + imageLength n ms)
+    second : (j : ℕ) → 4 * j + 4 ≤ tableSize (tableOf ms (va .0 / 2 ^ 20))
+        → (base ≤ base + (tableStart n ms (va .0 / 2 ^ 20) + 4 * j)) × (base + (tableStart n ms (va .0 / 2 ^ 20) + 4 * j) + 4 ≤ base + imageLength n ms)
     second j h = (omega arith, omega (arith, end-next n ms (va .0 / 2 ^ 20), end-last n ms (suc (va .0 / 2 ^ 20)) (omega arith)))
 
-    by-table : (t : Second) → tableOf ms (va .0 / 2 ^ 20) ≡ t → Inside base (imageLength n ms) (readsFor place base (tableStart n ms (va .0 / 2 ^ 20)) va t)
+    by-table : (t : Second) → tableOf ms (va .0 / 2 ^ 20) ≡ t → ReadsInside base (imageLength n ms) (readsFor place base (tableStart n ms (va .0 / 2 ^ 20)) va t)
     by-table Second.Fine e = (first, second (va .0 / 2 ^ 10 % 2 ^ 10) (omega (arith, ap tableSize e)))
     by-table Second.Coarse e = (first, second (va .0 / 2 ^ 12 % 2 ^ 8) (omega (arith, ap tableSize e)))
     by-table Second.Absent e = first

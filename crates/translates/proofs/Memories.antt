@@ -1,45 +1,28 @@
 -- Memories that hold the image read as its words. Assumes nothing.
-use mathlib.Core.Path.{_≡_, refl, sym, ap, ap₂, _∙_}
-use mathlib.Core.Bool.{Bool, true, false, true≢false}
-use mathlib.Core.List.{List}
+use Rattle.translates.specs.Names.{_≡_, true, List, ℕ, _+_, _-_, _≤_, _<_, length, getD, take, drop, VirtualAddress, Lent, lentOk, Mapping}
+use Rattle.translates.specs.Names.{Held, byteOf, holder, imageLength, image}
+use Rattle.translates.proofs.Names.{refl, sym, ap, ap₂, _∙_, Bool, false, suc, _*_, _/_, _%_, _^_, arith, mod-eq-of-lt, lit<, length-take}
+use Rattle.translates.proofs.Names.{getD-take, getD-drop, upper, virtual, lowBits, Kind, pick-yes, pick-no, pick-by, lowBits-le, typeOf-lt}
+use Rattle.translates.proofs.Names.{placeIn, wordOf, Place, Read, readIn, All, OnHeld, all-holder, Second, tableOf, tableSize, tableStart}
+use Rattle.translates.proofs.Names.{sectionWord, firstBy, firstWord, writtenAs, pageWord, secondBy, addressOf, secondWord, inTables, imageWord}
+use Rattle.translates.proofs.Names.{bytesBy, end-next, end-last, Has, Standing}
+use mathlib.Core.Bool.{true≢false}
 use mathlib.Core.Logic.{inl, inr}
-use Prim.Native.Nat.{ℕ, suc, zero, _+_, _*_, _-_, _/_, _%_, _^_, _≤_, _<_}
-use native.Mathlib.Omega.{arith}
-use native.Mathlib.Nat.{mod-add-div', mod-eq-of-lt, div-div-eq-div-mul}
-use lib.Dec.{lit<}
+use Prim.Native.Nat.{zero}
+use native.Mathlib.Nat.{mod-add-div', div-div-eq-div-mul}
 use borrow.Author.Tests.{le-leb, ltb-true}
-use lib.ListN.{length, getD, take, drop, length-take, length-drop}
-use lib.Seq.{getD-take, getD-drop}
-use Rattle.page.specs.Low.{upper}
-use Rattle.page.specs.Words.{virtual, lowBits}
-use Rattle.page.specs.declared.Kind.{Kind}
-use Rattle.page.specs.declared.VirtualAddress.{VirtualAddress}
-use Rattle.page.proofs.Picks.{pick-yes, pick-no, pick-by, and-yes}
+use lib.ListN.{length-drop}
+use Rattle.page.proofs.Picks.{and-yes}
 use Rattle.page.proofs.Lower.{upper-le, joined-lt}
-use Rattle.page.proofs.Slot.{lowBits-le, start-1024, typeOf-lt}
-use Rattle.memory.specs.Memory.{Lent, lentOk, holds, placeWithin, placeIn, partAt}
-use Rattle.wire.specs.Words.{littleEndian, wordOf, wordBytes}
-use Rattle.memory.specs.declared.Place.{Place}
+use Rattle.page.proofs.Slot.{start-1024}
+use Rattle.memory.specs.Memory.{liesIn, placeWithin, partAt}
+use Rattle.wire.specs.Words.{littleEndian, wordBytes}
 use Rattle.memory.proofs.Places.{place-ok, held-once}
-use Rattle.walk.specs.declared.Read.{Read}
-use Rattle.walk.specs.Walk.{readAt, readIn}
-use Rattle.records.specs.declared.Mapping.{Mapping}
-use Rattle.records.specs.declared.Held.{Held}
-use Rattle.records.specs.Mappings.{byteOf}
-use Rattle.records.specs.Meanings.{holder}
+use Rattle.walk.specs.Walk.{readAt}
 use Rattle.records.specs.Mappings as M
-use Rattle.records.proofs.Alls.{All}
-use Rattle.records.proofs.Holders.{OnHeld, all-holder}
-use Rattle.tables.specs.declared.Second.{Second}
-use Rattle.tables.specs.declared.Second.{Second}
-use Rattle.tables.specs.Tables.{tableOf, tableSize, tableStart, imageLength}
-use Rattle.tables.specs.Words.{sectionWord, firstBy, firstWord, writtenAs, pageWord, secondBy, addressOf, secondWord, inTables, imageWord}
-use Rattle.builder.specs.Image.{image}
-use Rattle.wire.specs.Spliced.{bytesBy}
 use Rattle.wire.proofs.Splices.{bytes-at, bytes-length}
-use Rattle.tables.proofs.Places.{end-next, end-last, image-4}
+use Rattle.tables.proofs.Places.{image-4}
 use Rattle.builder.proofs.Whole.{image-length-is}
-use Rattle.translates.specs.Statements.{Has, Standing}
 use Rattle.translates.proofs.Over.{Stands}
 
 -- every word of the image fits 32 bits where the physical addresses do
@@ -140,8 +123,8 @@ module _ (f : ℕ → ℕ) (n k : ℕ) (l : List ℕ) (k₀ : ℕ) (h : k < n) (
 module _ (n : ℕ) (ms : List Mapping) (phys : All Phys ms) (base : ℕ) (room : base + imageLength n ms ≤ 2 ^ 32) (m : Lent) (ok : lentOk m ≡ true) where
   -- the word at an offset of the image, in the memory that has it
   part : (l : List ℕ) (b k : ℕ) → Has l b base (image n ms base) → 4 * k + 4 ≤ imageLength n ms
-      → (holds b (length l) (base + 4 * k) ≡ true) × (wordOf (take 4 (drop (base + 4 * k - b) l)) ≡ imageWord n ms base k)
-  unfolding image holds
+      → (liesIn b (length l) (base + 4 * k) ≡ true) × (wordOf (take 4 (drop (base + 4 * k - b) l)) ≡ imageWord n ms base k)
+  unfolding image liesIn
   part l b k h fits =
       let len = image-length-is n ms base in
       let full : take (imageLength n ms) (drop (base - b) l) ≡ image n ms base = ap (λ (x : ℕ). take x (drop (base - b) l)) (sym len) ∙ h .1 in
@@ -155,15 +138,15 @@ module _ (n : ℕ) (ms : List Mapping) (phys : All Phys ms) (base : ℕ) (room :
       )
 
   -- where the word lies
-  on-chip : (k : ℕ) → holds (m .onbase) (length (m .on)) (base + 4 * k) ≡ true → placeIn m (base + 4 * k) ≡ Place.OnChip (base + 4 * k - m .onbase)
+  on-chip : (k : ℕ) → liesIn (m .onbase) (length (m .on)) (base + 4 * k) ≡ true → placeIn m (base + 4 * k) ≡ Place.OnChip (base + 4 * k - m .onbase)
   unfolding placeWithin
   on-chip k h = place-ok m (base + 4 * k) ok ∙ pick-yes _ _ _ h
 
-  external : (k : ℕ) → holds (m .extbase) (length (m .ext)) (base + 4 * k) ≡ true → placeIn m (base + 4 * k) ≡ Place.External (base + 4 * k - m .extbase)
+  external : (k : ℕ) → liesIn (m .extbase) (length (m .ext)) (base + 4 * k) ≡ true → placeIn m (base + 4 * k) ≡ Place.External (base + 4 * k - m .extbase)
   unfolding placeWithin
-  external k h = place-ok m (base + 4 * k) ok ∙ pick-no _ _ _ (other (holds (m .onbase) (length (m .on)) (base + 4 * k)) refl) ∙ pick-yes _ _ _ h
+  external k h = place-ok m (base + 4 * k) ok ∙ pick-no _ _ _ (other (liesIn (m .onbase) (length (m .on)) (base + 4 * k)) refl) ∙ pick-yes _ _ _ h
     where
-      other : (b : Bool) → holds (m .onbase) (length (m .on)) (base + 4 * k) ≡ b → b ≡ false
+      other : (b : Bool) → liesIn (m .onbase) (length (m .on)) (base + 4 * k) ≡ b → b ≡ false
       other false e = refl
       other true e = absurd (true≢false (sym h ∙ held-once m (base + 4 * k) ok e))
 

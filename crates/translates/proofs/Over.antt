@@ -1,33 +1,15 @@
 -- The plain walk over any reading of the image. Assumes nothing.
-use mathlib.Core.Path.{_≡_, refl, sym, ap, _∙_, subst}
-use mathlib.Core.Bool.{true}
-use mathlib.Core.List.{List}
-use Prim.Native.Nat.{ℕ, suc, _+_, _*_, _-_, _/_, _%_, _^_, _≤_, _<_}
-use native.Mathlib.Omega.{arith}
+use Rattle.translates.specs.Names.{_≡_, true, List, ℕ, _+_, _-_, _≤_, _<_, VirtualAddress, Source, Reads, Found, Mapping, Held, holder, imageLength}
+use Rattle.translates.proofs.Names.{refl, sym, ap, _∙_, subst, suc, _*_, _/_, _%_, _^_, arith, virtual, pick-yes, pick-no, Place, Read, Table}
+use Rattle.translates.proofs.Names.{Walked, firstOf, secondOf, walkFrom, holds, All, OnHeld, all-holder, Second, tableOf, tableSize, tableEnd}
+use Rattle.translates.proofs.Names.{tableStart, firstBy, firstWord, secondBy, stepBits, addressOf, secondWord, sectionWord, inTables}
+use Rattle.translates.proofs.Names.{imageWord, end-next, end-last, image-first}
 use borrow.Author.Tests.{lt-ltb, le-ltb}
-use Rattle.page.specs.Words.{virtual}
-use Rattle.page.specs.declared.VirtualAddress.{VirtualAddress}
-use Rattle.page.proofs.Picks.{pick-yes, pick-no}
-use Rattle.memory.specs.declared.Place.{Place}
-use Rattle.memory.specs.declared.Source.{Source}
-use Rattle.memory.specs.declared.Reads.{Reads}
-use Rattle.walk.specs.declared.Read.{Read}
-use Rattle.walk.specs.declared.Table.{Table}
-use Rattle.walk.specs.declared.Found.{Found}
-use Rattle.walk.specs.declared.Walked.{Walked}
-use Rattle.walk.specs.Descriptors.{firstOf, secondOf}
-use Rattle.walk.specs.Walk.{coarseAt, fineAt, sourceAt, afterSecond, byFirst, afterFirst, walkFrom}
-use Rattle.records.specs.declared.Mapping.{Mapping}
-use Rattle.records.specs.declared.Held.{Held}
-use Rattle.records.specs.Mappings.{holds}
-use Rattle.records.specs.Meanings.{holder}
-use Rattle.records.proofs.Alls.{All, all-map2}
-use Rattle.records.proofs.Holders.{OnHeld, all-holder, holds-megabyte, holder-agree}
-use Rattle.tables.specs.declared.Second.{Second}
-use Rattle.tables.specs.declared.Second.{Second}
-use Rattle.tables.specs.Tables.{tableOf, tableSize, startAfter, tableEnd, tableStart, imageLength}
-use Rattle.tables.specs.Words.{firstBy, firstWord, secondBy, stepBits, addressOf, secondWord, sectionWord, inTables, imageWord}
-use Rattle.tables.proofs.Places.{end-first, end-start, end-next, end-last, end-4, start-4, size-4, image-first}
+use Rattle.walk.specs.Walk.{coarseAt, fineAt, sourceAt, afterSecond, byFirst, afterFirst}
+use Rattle.records.proofs.Alls.{all-map2}
+use Rattle.records.proofs.Holders.{holds-megabyte, holder-agree}
+use Rattle.tables.specs.Tables.{startAfter}
+use Rattle.tables.proofs.Places.{end-first, end-start, end-4, start-4, size-4}
 use Rattle.tables.proofs.Offsets.{in-table}
 use Rattle.tables.proofs.Fits.{Fit, fit}
 use Rattle.tables.proofs.Regions.{step-le}
@@ -166,7 +148,8 @@ module _ (n : ℕ) (ms : List Mapping) (base : ℕ) (rd : ℕ → Read) (place :
       ∙ by-section (holder ms va)
 
   -- the walk finds the mapping that holds the address, as the megabyte's table gives it, and reads these words
-  pub over : walkFrom rd firstOf (va .0) (base + 4 * (va .0 / 2 ^ 20)) ≡ walked (foundFor (tableOf ms (va .0 / 2 ^ 20)) (holder ms va) va) (readsFor place base (tableStart n ms (va .0 / 2 ^ 20)) va (tableOf ms (va .0 / 2 ^ 20)))
+  pub over : walkFrom rd firstOf (va .0) (base + 4 * (va .0 / 2 ^ 20)) ≡ walked (foundFor (tableOf ms (va .0 / 2 ^ 20)) (holder ms va) va)
+      (readsFor place base (tableStart n ms (va .0 / 2 ^ 20)) va (tableOf ms (va .0 / 2 ^ 20)))
   over = by-table (tableOf ms i) refl
     where
       by-table : (t : Second) → tableOf ms i ≡ t → walkFrom rd firstOf (va .0) (base + 4 * i) ≡ walked (foundFor t (holder ms va) va) (readsFor place base start va t)

@@ -1,27 +1,21 @@
 -- Lists that are accepted, by computation: list A of the bench sheet, and the empty list. Assumes nothing.
-use mathlib.Core.Path.{_≡_, refl}
-use mathlib.Core.List.{[]}
-use Prim.Native.Nat.{ℕ}
+use Rattle.translates.specs.Names.{_≡_, [], ℕ, megabytes, mappings, holder, Built, imageLength, image, answerOf}
+use Rattle.translates.proofs.Names.{refl, pick, _or_, wordOf, mappingOf, holds, proper, tableOf, tableEnd, tableStart, firstWord, inTables}
+use Rattle.translates.proofs.Names.{imageWord, bytesBy}
 use lib.ListN.{replicate}
-use Rattle.page.specs.Pick.{pick, _and_, _or_}
-use Rattle.page.specs.Words.{kindOf, megabytes}
+use Rattle.page.specs.Pick.{_and_}
+use Rattle.page.specs.Words.{kindOf}
 use Rattle.memory.specs.Memory.{memoryOk}
-use Rattle.wire.specs.Words.{wordOf}
-use Rattle.records.specs.Mappings.{mappingOf, mappingsFrom, mappings, holds, overlap}
-use Rattle.records.specs.Meanings.{holder}
-use Rattle.records.specs.Checks.{multiple, proper, wellFormed}
+use Rattle.records.specs.Mappings.{mappingsFrom, overlap}
+use Rattle.records.specs.Checks.{multiple, wellFormed}
 use Rattle.records.specs.Refusals.{bad, clashes, overlapping, checkedFrom, checked}
-use Rattle.builder.specs.declared.Built.{Built}
-use Rattle.tables.specs.Tables.{tableOf, tableEnd, tableStart, imageLength}
 use Rattle.records.specs.Noted.{hasKind}
-use Rattle.tables.specs.Words.{firstWord, inTables, imageWord}
-use Rattle.builder.specs.Image.{image}
-use Rattle.wire.specs.Spliced.{bytesBy}
-use Rattle.builder.specs.Build.{roomOk, answerOf}
+use Rattle.builder.specs.Build.{roomOk}
 use Rattle.translates.specs.ListA.{recordsA, baseA}
 
 pub accepts-a : answerOf recordsA baseA 8192 ≡ Built.Length 8192
-unfolding answerOf roomOk memoryOk checked checkedFrom bad wellFormed proper multiple mappingOf wordOf kindOf pick _and_ _or_ clashes overlapping overlap holds mappingsFrom mappings imageLength tableEnd tableOf hasKind
+unfolding answerOf roomOk memoryOk checked checkedFrom bad wellFormed proper multiple mappingOf wordOf kindOf pick _and_ _or_ clashes overlapping
+    overlap holds mappingsFrom mappings imageLength tableEnd tableOf hasKind
 accepts-a = refl
 
 -- the empty list builds 64 zero bytes

@@ -1,40 +1,23 @@
 -- The image of an accepted list translates as the list (01, demand 3). Assumes nothing.
-use mathlib.Core.Path.{_≡_, refl, sym, ap, ap₂, _∙_, subst}
-use mathlib.Core.Bool.{Bool, true, false}
-use mathlib.Core.List.{List}
-use Prim.Native.Nat.{ℕ, _+_, _-_, _*_, _/_, _%_, _^_, _≤_, _<_}
-use native.Mathlib.Omega.{arith}
+use Rattle.translates.specs.Names.{_≡_, true, List, ℕ, _+_, _-_, _≤_, _<_, length, take, drop, megabytes, limit, VirtualAddress, Lent, lentOk}
+use Rattle.translates.specs.Names.{Mapping, mappings, holder, Built, imageLength, image, answerOf, buildOf}
+use Rattle.translates.proofs.Names.{refl, sym, ap, ap₂, _∙_, subst, Bool, false, _*_, _/_, _%_, _^_, arith, lit<, length-take, getD-take}
+use Rattle.translates.proofs.Names.{getD-drop, le-refl, _or_, lowBits, pick-by, lowBits-le, placeIn, wordOf, Walked, firstOf, readIn, walkFrom}
+use Rattle.translates.proofs.Names.{mappingOf, proper, All, Disjoint, agree-up, Second, tableOf, tableStart, Gives, ReadsInside, Has, Standing}
 use native.Mathlib.Decide.{decLe}
-use lib.Dec.{eqb, lit<}
+use lib.Dec.{eqb}
 use borrow.Author.Tests.{eqb-true}
-use lib.ListN.{length, take, drop, length-take, List·getD-eq-default}
-use lib.Seq.{getD-take, getD-drop, take-append-seam}
-use native.Mathlib.Nat.{le-refl}
-use Rattle.page.specs.Pick.{_or_}
-use Rattle.page.specs.Words.{lowBits, megabytes, limit}
-use Rattle.page.specs.declared.VirtualAddress.{VirtualAddress}
-use Rattle.page.proofs.Picks.{pick-by, and-right, or-no}
-use Rattle.page.proofs.Slot.{lowBits-le}
-use Rattle.memory.specs.Memory.{Lent, lentOk, placeIn}
-use Rattle.wire.specs.Words.{wordOf}
-use Rattle.walk.specs.declared.Walked.{Walked}
-use Rattle.walk.specs.Descriptors.{firstOf}
-use Rattle.walk.specs.Walk.{readIn, walkFrom}
+use lib.ListN.{List·getD-eq-default}
+use lib.Seq.{take-append-seam}
+use Rattle.page.proofs.Picks.{and-right, or-no}
 use Rattle.walk.proofs.Indices.{first-at-legal}
-use Rattle.records.specs.declared.Mapping.{Mapping}
-use Rattle.records.specs.Mappings.{recordAt, mappingOf, mappings}
-use Rattle.records.specs.Meanings.{holder}
-use Rattle.records.specs.Checks.{proper}
-use Rattle.records.proofs.Alls.{All, all-map}
-use Rattle.records.proofs.Accepted.{accepted-proper, accepted-disjoint, all-records, Disjoint}
-use Rattle.records.proofs.Bits.{agree-up}
-use Rattle.tables.specs.declared.Second.{Second}
-use Rattle.builder.specs.declared.Built.{Built}
-use Rattle.tables.specs.Tables.{tableOf, tableStart, imageLength}
-use Rattle.builder.specs.Image.{image}
-use Rattle.builder.specs.Build.{answerOf, leaves, buildOf}
+use Rattle.records.specs.Mappings.{recordAt}
+use Rattle.records.proofs.Alls.{all-map}
+use Rattle.records.proofs.Accepted.{accepted-proper, accepted-disjoint, all-records}
+use Rattle.builder.specs.Build.{leaves}
 use Rattle.builder.proofs.Answers.{room-unit, room-memory, accepted}
-use Rattle.translates.specs.Statements.{lookIn, Gives, Inside, Has, Standing, Translates, Bytes, ImageTranslates, LeavesImage}
+use Rattle.translates.specs.Statements.{Translates, Bytes, ImageTranslates, LeavesImage}
+use Rattle.walk.specs.Uniform.{lookIn}
 use Rattle.translates.proofs.Written.{foundFor}
 use Rattle.translates.proofs.Over.{Narrow, known, walked, readsFor, over}
 use Rattle.translates.proofs.Faithful.{found-gives, found-uniform, reads-inside}
@@ -93,7 +76,7 @@ module _ (ms : List Mapping) (narrow : All Narrow ms) (apart : Disjoint ms) (phy
             let low′ : va′ .0 < limit = below (lowBits (p .kind)) (lowBits-le (p .kind)) (va .0) (va′ .0) low s in
             found-is va′ low′ ∙ found-uniform ms narrow apart va va′ p (sym (found-is va low) ∙ e) s;
         inside = λ va low.
-            subst (λ (w : Walked). Inside base (imageLength megabytes ms) (w .reads)) (sym (look-is va low))
+            subst (λ (w : Walked). ReadsInside base (imageLength megabytes ms) (w .reads)) (sym (look-is va low))
             (reads-inside megabytes ms base (placeIn m) va (omega arith));
       }
     where

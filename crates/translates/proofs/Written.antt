@@ -1,33 +1,18 @@
 -- The words that the builder writes, as the walk reads them: one law over the number of low bits. Assumes nothing.
-use mathlib.Core.Path.{_≡_, refl, sym, ap, ap₂, _∙_, subst}
-use mathlib.Core.Bool.{true}
-use Prim.Native.Nat.{ℕ, _+_, _*_, _-_, _/_, _%_, _^_, _≤_, _<_}
-use native.Mathlib.Omega.{arith}
-use native.Mathlib.Nat.{add-sub-of-le, mod-eq-of-lt, le-refl}
+use Rattle.translates.specs.Names.{_≡_, true, ℕ, _+_, _-_, _≤_, _<_, VirtualAddress, Page, Found, Mapping, Held, byteOf}
+use Rattle.translates.proofs.Names.{refl, sym, ap, ap₂, _∙_, subst, _*_, _/_, _%_, _^_, arith, mod-eq-of-lt, le-refl, upper, joined, pick}
+use Rattle.translates.proofs.Names.{physical, lowBits, Kind, pick-yes, pick-no, lowBits-le, typeOf-lt, Table, firstOf, secondOf, holds, OnHeld}
+use Rattle.translates.proofs.Names.{agree-up, Second, sectionWord, writtenAs, pageWord, secondBy, stepBits, addressOf}
+use native.Mathlib.Nat.{add-sub-of-le}
 use lib.Pow.{pow-pos, pow-add, high, shr-shr, shl-shr}
 use lib.Dec.{lit≤}
 use borrow.Author.Tests.{eq-eqb, ne-eqb}
-use Rattle.page.specs.Low.{upper, joined}
-use Rattle.page.specs.Pick.{pick}
-use Rattle.page.specs.Words.{physical, lowBits, typeOf}
-use Rattle.page.specs.declared.Kind.{Kind}
-use Rattle.page.specs.declared.VirtualAddress.{VirtualAddress}
-use Rattle.page.proofs.Picks.{pick-yes, pick-no}
+use Rattle.page.specs.Words.{typeOf}
 use Rattle.page.proofs.Lower.{joined-high}
-use Rattle.page.proofs.Slot.{lowBits-ge, lowBits-le, typeOf-lt}
-use Rattle.walk.specs.declared.Page.{Page}
+use Rattle.page.proofs.Slot.{lowBits-ge}
 use Rattle.walk.specs.declared.First.{First}
-use Rattle.walk.specs.declared.Table.{Table}
-use Rattle.walk.specs.declared.Found.{Found}
-use Rattle.walk.specs.Descriptors.{firstOf, pageOf, secondOf}
-use Rattle.records.specs.declared.Mapping.{Mapping}
-use Rattle.records.specs.declared.Held.{Held}
-use Rattle.records.specs.Mappings.{holds, byteOf}
-use Rattle.records.proofs.Holders.{OnHeld}
-use Rattle.records.proofs.Bits.{agree-up, joined-start}
-use Rattle.tables.specs.declared.Second.{Second}
-use Rattle.tables.specs.declared.Second.{Second}
-use Rattle.tables.specs.Words.{sectionWord, writtenAs, pageWord, secondBy, stepBits, addressOf}
+use Rattle.walk.specs.Descriptors.{pageOf}
+use Rattle.records.proofs.Bits.{joined-start}
 use Rattle.tables.proofs.Regions.{inside}
 
 -- the fields of a word of q upper-free low bits: type below, access in bits 5:4, the rest above
@@ -127,7 +112,8 @@ pub repeated-words : (t : Second) (k : Kind) (m : Mapping) (i j j′ r : ℕ) �
     → pageWord k m (addressOf t i j) ≡ pageWord k m (addressOf t i j′)
 unfolding pageWord
 repeated-words t k m i j j′ r e h same =
-    ap (λ (f : ℕ). f + 16 * (m .access % 4) + typeOf k) (part-same (lowBits k) m (addressOf t i j) (addressOf t i j′) h (agrees j ∙ ap (λ (x : ℕ). i * 2 ^ (20 - lowBits k) + x) same ∙ sym (agrees j′)))
+    ap (λ (f : ℕ). f + 16 * (m .access % 4) + typeOf k) (part-same (lowBits k) m (addressOf t i j) (addressOf t i j′) h
+    (agrees j ∙ ap (λ (x : ℕ). i * 2 ^ (20 - lowBits k) + x) same ∙ sym (agrees j′)))
   where
     steps : (x : ℕ) → x * 2 ^ stepBits t / 2 ^ lowBits k ≡ x / 2 ^ r
     steps x =
@@ -164,7 +150,8 @@ pub fine-found : (a va : VirtualAddress) → a .0 / 2 ^ 10 ≡ va .0 / 2 ^ 10 �
 unfolding secondOf pick
 fine-found a va e h o = second-found Second.Fine Table.Fine (λ _ _. tt) refl a va e h o
 
-pub coarse-found : (a va : VirtualAddress) → a .0 / 2 ^ 12 ≡ va .0 / 2 ^ 12 → (h : Held) → OnHeld (Known Second.Coarse va) h → secondOf Table.Coarse (secondBy Second.Coarse h a) ≡ foundFor Second.Coarse h va
+pub coarse-found : (a va : VirtualAddress) → a .0 / 2 ^ 12 ≡ va .0 / 2 ^ 12 → (h : Held) → OnHeld (Known Second.Coarse va) h
+    → secondOf Table.Coarse (secondBy Second.Coarse h a) ≡ foundFor Second.Coarse h va
 unfolding secondOf pick
 coarse-found a va e h o = second-found Second.Coarse Table.Coarse coarse-allows refl a va e h o
 

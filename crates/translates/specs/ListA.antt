@@ -1,5 +1,5 @@
 -- List A of the bench sheet (01, "Bench sheet"), as the builder reads it.
-use Rattle.page.specs.Ground.{ℕ, List, [], _∷_}
+use Rattle.translates.specs.Names.{ℕ, List, [], _∷_}
 
 abbrev pub recordsA : List ℕ
 recordsA =

@@ -1,28 +1,9 @@
 -- What the image of an accepted list owes (01, demand 3): the plain walk over it finds what the list says, the same over a
 -- page's whole range, and needs no word outside it.
-use Rattle.page.specs.Ground.{ℕ, _+_, _-_, _<_, _≤_, _≡_, true, List, _++_, length, getD, take, drop}
-use Rattle.page.specs.Words.{megabytes, limit}
-use Rattle.page.specs.declared.VirtualAddress.{VirtualAddress}
-use Rattle.memory.specs.Memory.{Lent, lentOk}
-use Rattle.memory.specs.declared.Source.{Source}
-use Rattle.memory.specs.declared.Reads.{Reads}
-use Rattle.walk.specs.declared.Page.{Page}
-use Rattle.walk.specs.declared.Found.{Found}
-use Rattle.walk.specs.Uniform.{Look, Uniform}
-use Rattle.walk.specs.Descriptors.{physicalOf}
-use Rattle.walk.specs.Walk.{walkIn}
-use Rattle.records.specs.declared.Mapping.{Mapping}
-use Rattle.records.specs.declared.Held.{Held}
-use Rattle.records.specs.Mappings.{mappings, byteOf}
-use Rattle.records.specs.Meanings.{holder}
-use Rattle.builder.specs.declared.Built.{Built}
-use Rattle.tables.specs.Tables.{imageLength}
-use Rattle.builder.specs.Image.{image}
-use Rattle.builder.specs.Build.{answerOf, buildOf}
-use mathlib.Core.Logic.{_⊎_}
-
-abbrev pub lookIn : Lent → ℕ → Look
-lookIn m base va = walkIn m base (va .0)
+use Rattle.translates.specs.Names.{ℕ, _+_, _-_, _<_, _≤_, _≡_, true, List, _++_, length, getD, take, drop, megabytes, limit, VirtualAddress}
+use Rattle.translates.specs.Names.{Lent, lentOk, Source, Reads, Page, Found, Uniform, physicalOf, Mapping, Held, mappings, byteOf, holder}
+use Rattle.translates.specs.Names.{Built, imageLength, image, answerOf, buildOf, _⊎_}
+use Rattle.walk.specs.Uniform.{lookIn}
 
 -- what is found has the byte and the access of the mapping that holds the address; where none does, no page is found
 abbrev pub Gives : Held → VirtualAddress → Found → Type 0
@@ -34,14 +15,14 @@ Gives Held.Nobody va Found.NoPage = Unit
 Gives Held.Nobody va Found.Missing = ⊥
 
 -- a word lies in the n bytes at base
-abbrev pub Within : ℕ → ℕ → Source → Type 0
-Within base n s = (base ≤ s .at .0) × (s .at .0 + 4 ≤ base + n)
+abbrev pub SourceInside : ℕ → ℕ → Source → Type 0
+SourceInside base n s = (base ≤ s .at .0) × (s .at .0 + 4 ≤ base + n)
 
 -- a walk read one or two words, and they lie in the n bytes at base
-abbrev pub Inside : ℕ → ℕ → Reads → Type 0
-Inside base n Reads.Nothing = ⊥
-Inside base n (Reads.One s) = Within base n s
-Inside base n (Reads.Two s t) = Within base n s × Within base n t
+abbrev pub ReadsInside : ℕ → ℕ → Reads → Type 0
+ReadsInside base n Reads.Nothing = ⊥
+ReadsInside base n (Reads.One s) = SourceInside base n s
+ReadsInside base n (Reads.Two s t) = SourceInside base n s × SourceInside base n t
 
 -- a memory lent at b has bytes at an address, among others
 abbrev pub Has : List ℕ → ℕ → ℕ → List ℕ → Type 0
@@ -55,7 +36,7 @@ Standing m at bytes = Has (m .on) (m .onbase) at bytes ⊎ Has (m .ext) (m .extb
 pub record Translates (m : Lent) (base : ℕ) (ms : List Mapping) : Type 0 where
   pub gives : (va : VirtualAddress) → va .0 < limit → Gives (holder ms va) va (lookIn m base va .found)
   pub uniform : Uniform limit (lookIn m base)
-  pub inside : (va : VirtualAddress) → va .0 < limit → Inside base (imageLength megabytes ms) (lookIn m base va .reads)
+  pub inside : (va : VirtualAddress) → va .0 < limit → ReadsInside base (imageLength megabytes ms) (lookIn m base va .reads)
 
 -- a list of bytes
 abbrev pub Bytes : List ℕ → Type 0

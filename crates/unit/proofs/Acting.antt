@@ -1,18 +1,11 @@
 -- A plan by what was tested, done to a device, is the call. Assumes nothing.
-use mathlib.Core.Path.{_≡_, sym, _∙_, ap, ap₂, subst}
-use mathlib.Core.Bool.{Bool}
-use Prim.Native.Nat.{ℕ}
-use Rattle.page.specs.Pick.{_and_}
+use Rattle.unit.specs.Names.{_≡_, Bool, ℕ, _and_, moneyOk, commandOf, Plan, Done, performed, Access, VirtualAddress, Lent, lentOk, Bill, Prices, Device}
+use Rattle.unit.proofs.Names.{sym, _∙_, ap, requestPlan, writePlan, readPlan, dropPlan, shiftPlan, inRange, toldOf, requestOf, writeOf, readOf}
+use Rattle.unit.proofs.Names.{dropOf, shiftOf}
+use mathlib.Core.Path.{ap₂, subst}
 use Rattle.prices.specs.Prices.{pricesOk}
-use Rattle.bill.specs.Bill.{billOk, moneyOk}
-use Rattle.registers.specs.Table.{commandOf}
-use Rattle.plan.specs.Plans.{requestPlan, writePlan, readPlan, dropPlan, shiftPlan}
-use Rattle.plan.specs.declared.Plan.{Plan}
-use Rattle.perform.specs.Performed.{Done, performed}
-use Rattle.unit.specs.Types.{Access, VirtualAddress, Lent, lentOk, Bill, Prices, Device}
-use Rattle.unit.specs.Device.{inRange}
-use Rattle.unit.specs.Acts.{Fitted, Alone, outcomeOf, toldOf}
-use Rattle.unit.specs.Calls.{requestOf, writeOf, readOf, dropOf, shiftOf}
+use Rattle.bill.specs.Bill.{billOk}
+use Rattle.unit.specs.Acts.{Fitted, Alone, outcomeOf}
 use Rattle.unit.proofs.Planned.{reporting, request-done, write-done, read-done, drop-done, shift-done}
 use Rattle.unit.proofs.Fitting.{request-fits, write-fits, read-fits, drop-fits, shift-fits}
 

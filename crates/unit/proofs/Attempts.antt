@@ -1,26 +1,16 @@
 -- A walk over memories that were tried, and an attempt that lacks a word: it says 3 of itself. Assumes nothing.
-use mathlib.Core.Path.{_≡_, refl, sym, _∙_, ap}
-use mathlib.Core.Bool.{Bool, true, not, false≢true}
-use mathlib.Core.List.{[], _∷_}
-use Prim.Native.Nat.{ℕ}
-use borrow.Author.Tests.{not-true}
-use Rattle.page.specs.Pick.{_and_}
-use Rattle.page.proofs.Picks.{pick-no, and-left, and-right}
+use Rattle.unit.specs.Names.{_≡_, Bool, true, not, [], _∷_, ℕ, _and_, isMissing, lookedUp, Pending, isPrefetch, isOn, isWalking, pageAt}
+use Rattle.unit.specs.Names.{shiftBy, Shift, Access, VirtualAddress, Lent, lentOk, Found, Walked, Bill, Prices, Matched, Fault, Device}
+use Rattle.unit.proofs.Names.{refl, sym, _∙_, ap, not-true, pick-no, and-left, and-right, refuses, refusedWith, look, attemptOf, lacks}
+use Rattle.unit.proofs.Names.{retryLacks, prefetched, heldRetried}
+use mathlib.Core.Bool.{false≢true}
 use Rattle.walk.specs.Walk.{walkWithin}
-use Rattle.walk.specs.Distances.{isMissing}
 use Rattle.walk.proofs.Walks.{walk-ok}
-use Rattle.lanes.specs.Lanes.{lookedUp}
-use Rattle.registers.specs.declared.Pending.{Pending}
-use Rattle.registers.specs.Answers.{isPrefetch}
-use Rattle.registers.specs.Fields.{isOn, isWalking}
 use Rattle.decision.specs.Decisions.{byFound}
-use Rattle.decision.specs.Prefetches.{pageAt, prefetchFound, shiftBy}
-use Rattle.decision.specs.declared.Shift.{Shift}
+use Rattle.decision.specs.Prefetches.{prefetchFound}
 use Rattle.decision.proofs.Joins.{decided-walk, prefetch-on}
-use Rattle.unit.specs.Types.{Access, VirtualAddress, Lent, lentOk, Found, Walked, Bill, Prices, Matched, Fault, Device}
-use Rattle.unit.specs.Refusals.{refuses}
-use Rattle.unit.specs.Device.{refusedWith, look, concluded, attemptOf}
-use Rattle.unit.specs.Calls.{noMatch, lacks, retryLacks, prefetchEnds, prefetched, heldRetried}
+use Rattle.unit.specs.Device.{concluded}
+use Rattle.unit.specs.Calls.{noMatch, prefetchEnds}
 use Rattle.unit.proofs.Refusing.{last-same}
 
 matched-nothing : (x : Matched) → noMatch x ≡ true → x ≡ Matched.Nothing
@@ -78,7 +68,8 @@ module _ (m : Lent) (p : Prices) (b : Bill) (d : Device) (v : ℕ) where
 
 -- the shift report
 module _ (m : Lent) (d : Device) (va : VirtualAddress) where
-  pub shift-last : lentOk m ≡ true → shiftBy va (walkWithin m (d .registers .base .0) (va .0) .found) ≡ refuses ((isMissing (look m d va .found), 3) ∷ []) Shift.Refused (shiftBy va (look m d va .found))
+  pub shift-last : lentOk m ≡ true
+      → shiftBy va (walkWithin m (d .registers .base .0) (va .0) .found) ≡ refuses ((isMissing (look m d va .found), 3) ∷ []) Shift.Refused (shiftBy va (look m d va .found))
   shift-last h =
       last-same _ _ _ _ _ (ap (λ (w : Walked). shiftBy va (w .found)) (look-ok m d va h))
       (λ q. ap (shiftBy va) (found-missing (look m d va .found) q))

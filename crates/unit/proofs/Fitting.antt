@@ -1,19 +1,10 @@
 -- A device in range has what the plan of any call asks of its parts. Assumes nothing.
-use mathlib.Core.Path.{_≡_}
-use mathlib.Core.Bool.{Bool, true}
-use Prim.Native.Nat.{ℕ, _<_}
-use native.Mathlib.Omega.{arith}
-use borrow.Author.Tests.{ltb-true, leb-false}
-use Rattle.page.specs.Words.{limit}
-use Rattle.page.proofs.Picks.{pick-by, and-left, and-right}
-use Rattle.bank.specs.Slots.{bankOk}
-use Rattle.registers.specs.Fields.{pendingOk}
-use Rattle.plan.specs.Plans.{requestPlan, pendingPlan, settingPlan, tendPlan, commandPlan, writePlan, readPlan, dropPlan, shiftPlan}
-use Rattle.plan.specs.declared.Plan.{Plan}
-use Rattle.plan.specs.declared.Reason.{Reason}
-use Rattle.perform.specs.Performed.{Ready, Fits}
-use Rattle.unit.specs.Types.{Access, VirtualAddress, Pending, Setting, Tending, Command, Device}
-use Rattle.unit.specs.Device.{inRange}
+use Rattle.unit.specs.Names.{_≡_, Bool, true, ℕ, limit, bankOk, pendingOk, Plan, Access, VirtualAddress, Pending, Setting, Tending, Command, Device}
+use Rattle.unit.proofs.Names.{_<_, arith, ltb-true, pick-by, and-left, and-right, requestPlan, pendingPlan, commandPlan, writePlan, readPlan}
+use Rattle.unit.proofs.Names.{dropPlan, shiftPlan, Reason, inRange}
+use borrow.Author.Tests.{leb-false}
+use Rattle.plan.specs.Plans.{settingPlan, tendPlan}
+use Rattle.perform.specs.Performed.{TriedOn, Fits}
 use Rattle.unit.specs.Acts as S
 
 module _ (d : Device) where
@@ -32,7 +23,7 @@ module _ (d : Device) where
   unfolding bankOk
   victim-lt h = ltb-true _ _ (and-left _ _ (and-right _ _ (bank-ok h)))
 
-  fits : inRange d ≡ true → (e : Reason) (va : VirtualAddress) → Ready e (d .registers .control) → va .0 < limit
+  fits : inRange d ≡ true → (e : Reason) (va : VirtualAddress) → TriedOn e (d .registers .control) → va .0 < limit
       → Fits (d .registers .control) (d .bank .cam) (d .bank .lock) (d .bank .victim) e va
   unfolding bankOk
   fits h e va r v = record {

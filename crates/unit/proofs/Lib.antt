@@ -1,3 +1,4 @@
+pub mod Names
 pub mod Refusing
 pub mod Attempts
 pub mod Planned

@@ -1,33 +1,23 @@
 -- Each call is its plan, performed on the parts of the device. Assumes nothing.
-use mathlib.Core.Path.{_≡_, refl, sym, _∙_, ap}
-use mathlib.Core.Bool.{Bool, true, false, not}
-use mathlib.Core.List.{[], _∷_}
-use Prim.Native.Nat.{ℕ, zero, suc, _/_, _%_, _^_, _<_}
-use native.Mathlib.Omega.{arith}
-use lib.Dec.{eqb, ltb, leb}
-use borrow.Author.Tests.{eqb-true, eqb-false, ltb-true, lt-leb, eq-eqb, ne-eqb}
-use Rattle.page.specs.Pick.{pick, _and_, _or_}
-use Rattle.page.specs.Words.{limit}
-use Rattle.page.proofs.Picks.{pick-yes, pick-no, pick-by, and-left, and-right, or-no}
-use Rattle.bill.specs.Bill.{moneyOk}
-use Rattle.lanes.specs.Lanes.{slots}
-use Rattle.registers.specs.Answers.{idle, isPrefetch}
-use Rattle.registers.specs.Fields.{isOn, isWalking, withPrefetch}
-use Rattle.registers.specs.Table.{listed, noRegister, controlCommand, lockCommand, loadCommand, whenBit, commandOf, valueAt}
-use Rattle.registers.specs.declared.Setting.{Setting}
+use Rattle.unit.specs.Names.{_≡_, Bool, true, false, not, [], _∷_, ℕ, _/_, _%_, _^_, eqb, leb, pick, _and_, _or_, limit, moneyOk, slots, idle}
+use Rattle.unit.specs.Names.{isPrefetch, isOn, isWalking, withPrefetch, noRegister, commandOf, valueAt, Setting, isMissing, pageAt}
+use Rattle.unit.specs.Names.{prefetchDecided, prefetchKept, shiftBy, Said, Plan, Done, quietly, performed, Access, VirtualAddress, Lent, lentOk}
+use Rattle.unit.specs.Names.{Walked, Bill, Prices, Fault, Pending, Answer, Tending, Command, Shift, Device, Outcome}
+use Rattle.unit.proofs.Names.{refl, sym, _∙_, ap, _<_, arith, ltb-true, pick-yes, pick-no, pick-by, and-left, and-right, requestPlan}
+use Rattle.unit.proofs.Names.{pendingPlan, commandPlan, writePlan, readPlan, dropPlan, shiftPlan, Reason, Refusing, Refusals, refuses, inRange}
+use Rattle.unit.proofs.Names.{refusedWith, look, attemptOf, lacks, retryLacks, requestOf, writeOf, readOf, dropOf, shiftOf, prefetched}
+use Rattle.unit.proofs.Names.{heldRetried}
+use Prim.Native.Nat.{zero, suc}
+use lib.Dec.{ltb}
+use borrow.Author.Tests.{eqb-true, eqb-false, lt-leb, eq-eqb, ne-eqb}
+use Rattle.page.proofs.Picks.{or-no}
+use Rattle.registers.specs.Table.{listed, controlCommand, lockCommand, loadCommand, whenBit}
 use Rattle.registers.proofs.Offsets.{by-offset, command-elsewhere, value-elsewhere}
-use Rattle.walk.specs.Distances.{isMissing}
-use Rattle.decision.specs.Prefetches.{pageAt, prefetchDecided, prefetchKept, shiftBy}
-use Rattle.decision.specs.declared.Said.{Said}
-use Rattle.plan.specs.Plans.{settingAt, requestPlan, retryPlan, pendingPlan, commandPlan, writePlan, readPlan, dropPlan, shiftPlan}
-use Rattle.plan.specs.declared.Plan.{Plan}
-use Rattle.plan.specs.declared.Reason.{Reason}
-use Rattle.perform.specs.Performed.{Done, quietly, endedFor, decidedFor, performed}
-use Rattle.unit.specs.Types.{Access, VirtualAddress, Lent, lentOk, Walked, Bill, Prices, Fault, Pending, Answer, Tending, Command, Shift, Device, Outcome}
-use Rattle.unit.specs.Refusals.{Refusing, Refusals, refuses}
-use Rattle.unit.specs.Device.{inRange, cleared, told, toldRefused, doneWith, refusedWith, look, attemptOf}
+use Rattle.plan.specs.Plans.{settingAt, retryPlan}
+use Rattle.perform.specs.Performed.{endedFor, decidedFor}
+use Rattle.unit.specs.Device.{cleared, told, toldRefused, doneWith}
 use Rattle.unit.specs.Acts.{doneBy, doneTold}
-use Rattle.unit.specs.Calls.{lacks, retryLacks, writeLacks, isMalformed, isUntimely, writeRefusals, readRefusals, requestOf, writeOf, readOf, dropOf, shiftOf, prefetched, heldRetried, retried, carried}
+use Rattle.unit.specs.Calls.{writeLacks, isMalformed, isUntimely, writeRefusals, readRefusals, retried, carried}
 use Rattle.unit.proofs.Refusing.{refused-here, passed, last-same}
 use Rattle.unit.proofs.Attempts.{look-ok, lacks-attempt, lacks-retry, prefetchLacks, lacks-prefetch, shift-last}
 

@@ -1,10 +1,7 @@
 -- A list of refusals: the first condition that holds is answered, one that does not hold is passed. Assumes nothing.
-use mathlib.Core.Path.{_≡_, refl, _∙_}
-use mathlib.Core.Bool.{Bool, true, false}
-use mathlib.Core.List.{[], _∷_}
-use Prim.Native.Nat.{ℕ}
-use Rattle.page.proofs.Picks.{pick-yes, pick-no, pick-by}
-use Rattle.unit.specs.Refusals.{Refusing, Refusals, refuses, Clear}
+use Rattle.unit.specs.Names.{_≡_, Bool, true, false, [], _∷_, ℕ}
+use Rattle.unit.proofs.Names.{refl, _∙_, pick-yes, pick-no, pick-by, Refusing, Refusals, refuses}
+use Rattle.unit.specs.Refusals.{Clear}
 
 module _ {A : Type 0} (t : Bool) (k : ℕ) (rs : Refusals) (say : ℕ → A) (else : A) where
   pub refused-here : t ≡ true → refuses ((t, k) ∷ rs) say else ≡ say k

@@ -1,10 +1,5 @@
 -- A plan, done to a device: what it hands back, in parts and as each call hands it back.
-use Rattle.page.specs.Ground.{_≡_}
-use Rattle.plan.specs.declared.Plan.{Plan}
-use Rattle.perform.specs.Performed.{Done, quietly, performed, Fit}
-use Rattle.decision.specs.declared.Said.{Said}
-use Rattle.unit.specs.Types.{Lent, Bill, Prices, Answer, Shift, Device, Outcome, Told}
-use Rattle.unit.specs.declared.Acted.{Acted}
+use Rattle.unit.specs.Names.{_≡_, Plan, Done, quietly, performed, Fit, Said, Acted, Lent, Bill, Prices, Answer, Shift, Device, Outcome, Told}
 
 abbrev pub doneActed : Acted → Done
 doneActed x = record {
@@ -28,23 +23,23 @@ pub record Alone (d : Device) (x : Plan) (y : Done) : Type 0 where
   pub is : y ≡ performed memories prices bill (d .registers) (d .bank) (d .pending) x
 
 -- the answer and the shift in what is said
-abbrev pub answerOf : Said → Answer
-answerOf (Said.Answered r) = r
-answerOf (Said.Reported s) = Answer.Done
+abbrev pub answerIn : Said → Answer
+answerIn (Said.Answered r) = r
+answerIn (Said.Reported s) = Answer.Done
 
 abbrev pub shiftIn : Said → Shift
 shiftIn (Said.Answered r) = Shift.Fault
 shiftIn (Said.Reported s) = s
 
 abbrev pub toldOf : Done → Told
-toldOf x = record { device = record { registers = x .registers; bank = x .bank; pending = x .pending }; answer = answerOf (x .said) }
+toldOf x = record { device = record { registers = x .registers; bank = x .bank; pending = x .pending }; answer = answerIn (x .said) }
 
 abbrev pub outcomeOf : Done → Outcome
 outcomeOf x = record {
   device = record { registers = x .registers; bank = x .bank; pending = x .pending };
   bill = x .bill;
   tally = x .tally;
-  answer = answerOf (x .said);
+  answer = answerIn (x .said);
 }
 
 -- and back

@@ -1,19 +1,9 @@
 -- Each call: its refusals in the paper's order, then what it does (01, "Registers", "When the unit says no").
-use Rattle.page.specs.Ground.{ℕ, _/_, _%_, _^_, Bool, true, false, not, List, [], _∷_, eqb, leb}
-use Rattle.page.specs.Pick.{pick, _and_, _or_}
-use Rattle.memory.specs.Reads.{wordCount}
-use Rattle.walk.specs.Distances.{isMissing}
-use Rattle.bank.specs.Changes.{loaded, copied}
-use Rattle.bill.specs.Bill.{moneyOk}
-use Rattle.lanes.specs.Lanes.{slots, lookedUp}
-use Rattle.registers.specs.Answers.{idle, isPrefetch}
-use Rattle.page.specs.Words.{limit}
-use Rattle.registers.specs.Fields.{isOn, isWalking, setting, withPrefetch, withCopied, wordsOf, entryOf}
-use Rattle.registers.specs.Table.{noRegister, commandOf, valueAt, tended}
-use Rattle.registers.specs.declared.Answer.{Answer}
-use Rattle.decision.specs.Decisions.{billed}
-use Rattle.decision.specs.Prefetches.{pageAt, prefetchDecided, prefetchKept, shiftBy}
-use Rattle.unit.specs.Types.{Access, VirtualAddress, Lent, lentOk, Bill, Prices, Matched, Fault, Pending, Decision, Shift, Command, Device, Outcome, Told}
+use Rattle.unit.specs.Names.{ℕ, _/_, _%_, _^_, Bool, true, false, not, List, [], _∷_, eqb, leb, pick, _and_, _or_, wordCount, isMissing, loaded}
+use Rattle.unit.specs.Names.{copied, moneyOk, slots, lookedUp, idle, isPrefetch, limit, isOn, isWalking, setting, withPrefetch, withCopied}
+use Rattle.unit.specs.Names.{wordsOf, entryOf, noRegister, commandOf, valueAt, tended, Answer, billed, pageAt, prefetchDecided, prefetchKept}
+use Rattle.unit.specs.Names.{shiftBy, Access, VirtualAddress, Lent, lentOk, Bill, Prices, Matched, Fault, Pending, Decision, Shift, Command}
+use Rattle.unit.specs.Names.{Device, Outcome, Told}
 use Rattle.unit.specs.Refusals.{Refusals, refuses}
 use Rattle.unit.specs.Offsets.{prefetchAt, acknowledgeAt, lockAt, loadAt}
 use Rattle.unit.specs.Device.{freshDevice, inRange, setRegisters, setBank, cleared, told, toldRefused, doneWith, refusedWith, look, applied, attemptOf}

@@ -1,15 +1,7 @@
 -- The device: fresh, in range, with parts set, and after an attempt (01, "The unit", "The walk").
-use Rattle.page.specs.Ground.{ℕ, Bool}
-use Rattle.page.specs.Pick.{_and_}
-use Rattle.memory.specs.Reads.{wordCount}
-use Rattle.walk.specs.Walk.{walkIn}
-use Rattle.meters.specs.Posted.{noTally}
-use Rattle.bank.specs.Slots.{freshBank, bankOk}
-use Rattle.bank.specs.Changes.{entryFilled}
-use Rattle.registers.specs.Fields.{freshRegisters, registersOk, pendingOk}
-use Rattle.registers.specs.declared.Pending.{Pending}
-use Rattle.decision.specs.Decisions.{decided, settled, tallyOf, billed}
-use Rattle.unit.specs.Types.{Access, VirtualAddress, Lent, Walked, Bill, Prices, Bank, Fill, Answer, Decision, Shift, Registers, Device, Outcome, Told, Reported}
+use Rattle.unit.specs.Names.{ℕ, Bool, _and_, wordCount, walkIn, noTally, freshBank, bankOk, entryFilled, freshRegisters, registersOk, pendingOk}
+use Rattle.unit.specs.Names.{Pending, decided, settled, tallyOf, billed, Access, VirtualAddress, Lent, Walked, Bill, Prices, Bank, Fill, Answer}
+use Rattle.unit.specs.Names.{Decision, Shift, Registers, Device, Outcome, Told, Reported}
 
 -- a fresh device is all zero
 abbrev pub freshDevice : Device

@@ -1,7 +1,7 @@
-pub mod Types
 pub mod Refusals
 pub mod Device
 pub mod Offsets
 pub mod Calls
 pub mod Machine
 pub mod Acts
+pub mod Names

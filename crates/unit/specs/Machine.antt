@@ -1,10 +1,6 @@
 -- The whole machine: any calls in any order, with the bill and the meters that they are posted to (01, demands 2 and 3).
-use Rattle.page.specs.Ground.{ℕ, List, [], _∷_}
-use Rattle.meters.specs.Posted.{noTally, posted}
-use Rattle.meters.specs.declared.Meters.{Meters}
-use Rattle.registers.specs.Answers.{number}
-use Rattle.decision.specs.Prefetches.{shiftNumber}
-use Rattle.unit.specs.Types.{Access, VirtualAddress, Lent, Bill, Prices, Tally, Answer, Shift, Device, Outcome, Told}
+use Rattle.unit.specs.Names.{ℕ, List, [], _∷_, noTally, posted, Meters, answerNumber, shiftNumber, Access, VirtualAddress, Lent, Bill, Prices, Tally}
+use Rattle.unit.specs.Names.{Answer, Shift, Device, Outcome, Told}
 use Rattle.unit.specs.Calls.{requestOf, writeOf, readOf, dropOf, shiftOf}
 
 -- a call; prices are given with each that may walk, save the shift report
@@ -22,7 +18,7 @@ pub data Said : Type 0 where
 
 -- the paper's number of what is said
 abbrev pub saidNumber : Said → ℕ
-saidNumber (answered r) = number r
+saidNumber (answered r) = answerNumber r
 saidNumber (reported s) = shiftNumber s
 
 -- what a call leaves and says

@@ -1,8 +1,6 @@
 -- The refusals of a call are one list of conditions and what each answers, in the paper's order: the first that holds is answered
 -- (01, "When the unit says no"). A call of the unit answers a number alone, the builder its number with an index or a count.
-use Rattle.page.specs.Ground.{ℕ, _≡_, Bool, true, false, List, [], _∷_}
-use Rattle.page.specs.Pick.{pick}
-use mathlib.Core.Logic.{_⊎_}
+use Rattle.unit.specs.Names.{ℕ, _≡_, Bool, true, false, List, [], _∷_, pick, _⊎_}
 
 abbrev pub Refusing : Type 0 → Type 0
 Refusing K = List (Bool × K)

@@ -5,6 +5,7 @@ use decision::Said;
 use decision::Shift;
 use meters::Tally;
 use page::Access;
+use page::PhysicalAddress;
 use page::VirtualAddress;
 use plan::Plan;
 use prices::Price;
@@ -12,11 +13,9 @@ use prices::Prices;
 use registers::Answer;
 use registers::Pending;
 use registers::Registers;
-ghost use mathlib.Core.Path.{_≡_};
-ghost use Rattle.memory.specs.Memory.{lent};
-ghost use Rattle.perform.specs.Performed.{performed};
+ghost use Rattle.unit.specs.Names.{_≡_, lent, performed};
 ghost use Rattle.unit.specs.Device.{freshDevice, inRange, reported};
-ghost use Rattle.unit.specs.Acts.{doneActed, answerOf, shiftIn, outcomeOf, toldOf, Fitted, Alone};
+ghost use Rattle.unit.specs.Acts.{doneActed, answerIn, shiftIn, outcomeOf, toldOf, Fitted, Alone};
 ghost use Rattle.unit.specs.Calls.{requestOf, writeOf, readOf, dropOf, shiftOf};
 
 // The registers, the slots, and perhaps one pending fault.
@@ -59,13 +58,13 @@ fn act<'a>(
     d: Device,
     plan: Plan,
     on: &'a [u8],
-    onbase: u32,
+    onbase: PhysicalAddress,
     ext: &'a [u8],
-    extbase: u32,
+    extbase: PhysicalAddress,
     prices: Prices,
     bill: Bill,
 ) -> Acted
-    ensures { λ r. ⌜ (Fitted d plan → doneActed r ≡ performed (lent (now (on .entry)) onbase (now (ext .entry)) extbase) prices bill (d .registers) (d .bank) (d .pending) plan) ⌝ }
+    ensures { λ r. ⌜ (Fitted d plan → doneActed r ≡ performed (lent (now (on .entry)) (onbase .0) (now (ext .entry)) (extbase .0)) prices bill (d .registers) (d .bank) (d .pending) plan) ⌝ }
 {
     let r = d.registers;
     let b = d.bank;
@@ -122,12 +121,21 @@ fn act_alone(d: Device, plan: Plan) -> Acted
         onchip: Price::Flat(0.0),
         external: Price::Flat(0.0),
     };
-    act(d, plan, &none, 0, &none, 0, free, Bill::fresh())
+    act(
+        d,
+        plan,
+        &none,
+        PhysicalAddress(0),
+        &none,
+        PhysicalAddress(0),
+        free,
+        Bill::fresh(),
+    )
 }
 
 // The answer in what is said.
 fn answer_of(said: Said) -> Answer
-    ensures { λ r. ⌜ r ≡ answerOf said ⌝ }
+    ensures { λ r. ⌜ r ≡ answerIn said ⌝ }
 {
     match said {
         Said::Answered(r) => r,
@@ -210,13 +218,13 @@ impl Device {
         va: VirtualAddress,
         a: Access,
         on: &'a [u8],
-        onbase: u32,
+        onbase: PhysicalAddress,
         ext: &'a [u8],
-        extbase: u32,
+        extbase: PhysicalAddress,
         prices: Prices,
         bill: Bill,
     ) -> Outcome
-        ensures { λ r. ⌜ r ≡ requestOf (lent (now (on .entry)) onbase (now (ext .entry)) extbase) prices bill self va a ⌝ }
+        ensures { λ r. ⌜ r ≡ requestOf (lent (now (on .entry)) (onbase .0) (now (ext .entry)) (extbase .0)) prices bill self va a ⌝ }
     {
         let p = self.pending;
         let ok = self.in_range();
@@ -232,13 +240,13 @@ impl Device {
         offset: u32,
         v: u16,
         on: &'a [u8],
-        onbase: u32,
+        onbase: PhysicalAddress,
         ext: &'a [u8],
-        extbase: u32,
+        extbase: PhysicalAddress,
         prices: Prices,
         bill: Bill,
     ) -> Outcome
-        ensures { λ r. ⌜ r ≡ writeOf (lent (now (on .entry)) onbase (now (ext .entry)) extbase) prices bill self offset v ⌝ }
+        ensures { λ r. ⌜ r ≡ writeOf (lent (now (on .entry)) (onbase .0) (now (ext .entry)) (extbase .0)) prices bill self offset v ⌝ }
     {
         let r = self.registers;
         let p = self.pending;
@@ -269,11 +277,11 @@ impl Device {
         self,
         va: VirtualAddress,
         on: &'a [u8],
-        onbase: u32,
+        onbase: PhysicalAddress,
         ext: &'a [u8],
-        extbase: u32,
+        extbase: PhysicalAddress,
     ) -> Reported
-        ensures { λ r. ⌜ r ≡ reported self (shiftOf (lent (now (on .entry)) onbase (now (ext .entry)) extbase) self va) ⌝ }
+        ensures { λ r. ⌜ r ≡ reported self (shiftOf (lent (now (on .entry)) (onbase .0) (now (ext .entry)) (extbase .0)) self va) ⌝ }
     {
         let memories = memory::memories_ok(on, onbase, ext, extbase);
         let plan = plan::shift(self.in_range(), memories, va);

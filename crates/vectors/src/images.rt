@@ -1,6 +1,7 @@
 // What `records` and `builder` answer for values worked out by hand from the paper: its file `stdout` has them.
 use builder::Built;
 use page::Access;
+use page::PhysicalAddress;
 use page::VirtualAddress;
 use records::Meaning;
 
@@ -190,7 +191,11 @@ fn build(base: u32, from: usize, bytes: usize, room: usize) -> [u8; 12288] {
         let all = rows();
         if from <= 217 {
             if bytes <= 217 - from {
-                answered(builder::build(&all[from..from + bytes], base, &mut m[0..room]));
+                answered(builder::build(
+                    &all[from..from + bytes],
+                    PhysicalAddress(base),
+                    &mut m[0..room],
+                ));
             }
         }
     }

@@ -28,7 +28,7 @@ fn one(length: u32, base: u32) {
         b"one",
         length,
         base,
-        memory::memory_ok(base, length as usize),
+        memory::memory_ok(PhysicalAddress(base), length as usize),
     );
 }
 
@@ -51,7 +51,7 @@ fn both<'a>(on: &'a [u8], ext: &'a [u8]) {
 fn two(on: &[u8], ext: &[u8], extbase: u32) {
     show::text(b"two");
     show::numbers(ext.len() as u64, extbase as u64);
-    show::verdict(memory::memories_ok(on, 0x1000, ext, extbase));
+    show::verdict(memory::memories_ok(on, PhysicalAddress(0x1000), ext, PhysicalAddress(extbase)));
 }
 
 // Addresses over eight bytes at 1000 and twelve at 1008, then over memories that meet.
@@ -78,8 +78,10 @@ fn edges(on: &[u8], ext: &[u8]) {
 // The second memory's base and an address; the address's place, with the memories tried for refusal 4, then not tried.
 fn place(on: &[u8], onbase: u32, ext: &[u8], extbase: u32, at: u32) {
     show::words(b"place", extbase, at);
-    told(memory::locate(on, onbase, ext, extbase, PhysicalAddress(at)));
-    told(memory::locate_within(on, onbase, ext, extbase, PhysicalAddress(at)));
+    let b = PhysicalAddress(onbase);
+    let c = PhysicalAddress(extbase);
+    told(memory::locate(on, b, ext, c, PhysicalAddress(at)));
+    told(memory::locate_within(on, b, ext, c, PhysicalAddress(at)));
     show::end();
 }
 
@@ -96,8 +98,10 @@ fn told(p: Place) {
 // then not tried.
 fn part<'a>(on: &'a [u8], ext: &'a [u8], extbase: u32, at: u32) {
     show::words(b"part", extbase, at);
-    bytes(memory::fetch(on, 0x1000, ext, extbase, PhysicalAddress(at)));
-    bytes(memory::fetch_within(on, 0x1000, ext, extbase, PhysicalAddress(at)));
+    let b = PhysicalAddress(0x1000);
+    let c = PhysicalAddress(extbase);
+    bytes(memory::fetch(on, b, ext, c, PhysicalAddress(at)));
+    bytes(memory::fetch_within(on, b, ext, c, PhysicalAddress(at)));
     show::end();
 }
 

@@ -229,9 +229,9 @@ fn written(r: Registers, offset: u32, v: u16) -> Left {
         idle,
         bill,
         &none,
-        0,
+        PhysicalAddress(0),
         &none,
-        0,
+        PhysicalAddress(0),
         free,
     );
     let at = x.victim as usize % SLOTS;

@@ -3,6 +3,7 @@
 use calls::Call;
 use decision::Said;
 use page::Access;
+use page::PhysicalAddress;
 use page::VirtualAddress;
 use prices::Price;
 use prices::Prices;
@@ -296,5 +297,12 @@ fn asked(b: Bench, ext: &[u8], what: u32, x: u32, v: u16) -> Bench {
 // A call made.
 fn stepped(b: Bench, ext: &[u8], what: u32, call: Call) -> Stepped {
     let on = [0u8; 16];
-    b.step(call, &on, base(what), ext, BASE, prices(what))
+    b.step(
+        call,
+        &on,
+        PhysicalAddress(base(what)),
+        ext,
+        PhysicalAddress(BASE),
+        prices(what),
+    )
 }

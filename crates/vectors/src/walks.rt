@@ -90,8 +90,10 @@ fn walked<'a>(on: &'a [u8], onbase: u32, ext: &'a [u8], extbase: u32, base: u32,
     let from = PhysicalAddress(base);
     let at = VirtualAddress(va);
     show::words(b"walk", base, va);
-    told(walk::walk(on, onbase, ext, extbase, from, at), va);
-    told(walk::walk_within(on, onbase, ext, extbase, from, at), va);
+    let b = PhysicalAddress(onbase);
+    let c = PhysicalAddress(extbase);
+    told(walk::walk(on, b, ext, c, from, at), va);
+    told(walk::walk_within(on, b, ext, c, from, at), va);
 }
 
 // The words that a walk read and what it found.

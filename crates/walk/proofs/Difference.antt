@@ -1,18 +1,16 @@
 -- The difference of two addresses fits 64 bits and is exact. Assumes nothing.
-use mathlib.Core.Path.{_≡_, refl, _∙_}
-use mathlib.Core.Bool.{Bool, true, false, cond}
-use Prim.Native.Nat.{ℕ, zero, suc, _^_, _<_}
-use native.Mathlib.Omega.{arith}
+use Rattle.walk.specs.Names.{_≡_, Bool, true, false, ℕ, _^_, _<_, pos, _-ℤ_, upper, joined, Kind}
+use Rattle.walk.proofs.Names.{refl, _∙_, arith, pageOf, physicalOf}
+use mathlib.Core.Bool.{cond}
+use Prim.Native.Nat.{zero, suc}
 use lib.Dec.{ltb}
-use lib.IntN.{pos, negsuc, _-ℤ_}
+use lib.IntN.{negsuc}
 use lib.Signed.{mag}
 use mir.Syntax.{w64}
 use mir.Val.{SFits, toZ, ofZ}
 use mir.Facts.{toZ-pos, toZ-ofZ}
-use Rattle.page.specs.Low.{upper, joined}
 use Rattle.page.specs.Words.{virtual}
-use Rattle.page.specs.declared.Kind.{Kind}
-use Rattle.walk.specs.Descriptors.{pageOf, physicalOf, distanceOf}
+use Rattle.walk.specs.Descriptors.{distanceOf}
 
 -- a difference of two naturals has a magnitude below any bound of both
 mag-cond : (t : Bool) (a b H : ℕ) → a < H → b < H → mag (cond t (negsuc a) (pos b)) < H

@@ -1,11 +1,7 @@
 -- Where the first word stands. Assumes nothing.
-use Rattle.page.specs.Words.{megabytes}
-use mathlib.Core.Path.{_≡_, ap₂}
-use Prim.Native.Nat.{ℕ, _+_, _*_, _/_, _%_, _^_, _<_}
+use Rattle.walk.specs.Names.{megabytes, _≡_, ℕ, _+_, _*_, _/_, _%_, _^_, _<_, upper}
+use Rattle.walk.proofs.Names.{ap₂, arith, baseBits, firstAt}
 use native.Mathlib.Nat.{mod-eq-of-lt}
-use native.Mathlib.Omega.{arith}
-use Rattle.page.specs.Low.{upper}
-use Rattle.walk.specs.Walk.{baseBits, firstAt}
 
 -- rounding the base and the index does nothing where the base is aligned and the index in the table
 pub first-at : (j n base va : ℕ) → upper j base ≡ base → va / 2 ^ 20 < n → firstAt j n base va ≡ base + 4 * (va / 2 ^ 20)

@@ -1,22 +1,12 @@
 -- What the descriptors give. Assumes nothing.
-use mathlib.Core.Path.{_≡_, refl, sym, _∙_}
-use mathlib.Core.Bool.{false}
-use Prim.Native.Nat.{ℕ, _/_, _%_, _^_, _<_}
-use native.Mathlib.Omega.{arith}
+use Rattle.walk.specs.Names.{_≡_, false, ℕ, _/_, _%_, _^_, _<_, upper, physical, lowBits, Kind, VirtualAddress, Page, First, Found, Table}
+use Rattle.walk.proofs.Names.{refl, sym, _∙_, arith, eq-eqb, ne-eqb, pick-yes, pick-no, firstOf, pageOf, secondOf, physicalOf, Room}
+use Rattle.walk.proofs.Names.{ProperFirst, Proper, isMissing}
 use lib.Dec.{lit<}
-use Rattle.page.specs.Low.{upper}
-use Rattle.page.specs.Words.{physical, lowBits}
-use Rattle.page.specs.declared.Kind.{Kind}
-use Rattle.page.specs.declared.VirtualAddress.{VirtualAddress}
-use borrow.Author.Tests.{eq-eqb, ne-eqb}
-use Rattle.page.proofs.Picks.{pick-yes, pick-no, pick-by}
+use Rattle.page.proofs.Picks.{pick-by}
 use Rattle.page.proofs.Lower.{upper-lt, upper-upper, joined-low, joined-high}
-use Rattle.walk.specs.declared.Page.{Page}
-use Rattle.walk.specs.declared.First.{First}
-use Rattle.walk.specs.declared.Found.{Found}
-use Rattle.walk.specs.declared.Table.{Table}
-use Rattle.walk.specs.Descriptors.{sectionOf, firstOf, pageOf, secondOf, physicalOf, Room}
-use Rattle.walk.specs.Distances.{ProperPage, ProperFirst, Proper, isMissing}
+use Rattle.walk.specs.Descriptors.{sectionOf}
+use Rattle.walk.specs.Distances.{ProperPage}
 
 -- a word that the code tells by its two lowest bits, where the definition asks for others first
 module _ (w : ℕ) where

@@ -1,3 +1,4 @@
+pub mod Names
 pub mod Indices
 pub mod Walks
 pub mod Words

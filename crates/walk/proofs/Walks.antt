@@ -1,18 +1,10 @@
 -- The plain walk over readings that agree, and over lent memories. Assumes nothing.
-use mathlib.Core.Path.{_≡_, refl, sym, _∙_, ap}
-use mathlib.Core.Bool.{true, false}
-use Prim.Native.Nat.{ℕ}
-use Rattle.memory.specs.Memory.{Lent, lentOk, partAt}
-use Rattle.wire.specs.Words.{wordOf}
-use Rattle.memory.specs.declared.Place.{Place}
-use Rattle.memory.specs.declared.Source.{Source}
+use Rattle.walk.specs.Names.{_≡_, true, false, ℕ, Lent, wordOf, Place, Source, First, Read, Table}
+use Rattle.walk.proofs.Names.{refl, sym, _∙_, ap, firstOf, coarseAt, fineAt, readAt, readIn, readWithin, sourceAt, afterSecond, byFirst}
+use Rattle.walk.proofs.Names.{afterFirst, walkFrom, walkIn, walkWithin, ProperFirst, Proper}
+use Rattle.memory.specs.Memory.{lentOk, partAt}
 use Rattle.memory.proofs.Places.{place-ok, place-refused}
-use Rattle.walk.specs.declared.First.{First}
-use Rattle.walk.specs.declared.Read.{Read}
-use Rattle.walk.specs.declared.Table.{Table}
-use Rattle.walk.specs.Descriptors.{firstOf}
-use Rattle.walk.specs.Walk.{coarseAt, fineAt, readAt, readIn, readWithin, sourceAt, missing, afterSecond, byFirst, afterFirst, walkFrom, walkOf, walkIn, walkWithin}
-use Rattle.walk.specs.Distances.{ProperFirst, Proper}
+use Rattle.walk.specs.Walk.{missing, walkOf}
 use Rattle.walk.specs.Statements.{bare, AgreeBelow, AgreeAfter}
 use Rattle.walk.proofs.Laws.{first-proper, second-proper}
 

@@ -1,37 +1,28 @@
 -- The words that a walk read. Assumes nothing.
-use mathlib.Core.Path.{_≡_, refl}
-use Prim.Native.Nat.{ℕ}
-use lib.Dec.{eqb}
-use Rattle.memory.specs.Memory.{Lent, placeIn, placeWithin}
+use Rattle.walk.specs.Names.{_≡_, ℕ, eqb, Lent, placeIn, placeWithin, Place, Source, First, Read, Table}
+use Rattle.walk.proofs.Names.{refl, firstOf, coarseAt, fineAt, readAt, readIn, readWithin, sourceAt, afterSecond, byFirst, afterFirst}
+use Rattle.walk.proofs.Names.{walkFrom, walkIn, walkWithin, isMissing}
 use Rattle.memory.specs.Reads.{wordCount}
-use Rattle.memory.specs.declared.Place.{Place}
-use Rattle.memory.specs.declared.Source.{Source}
 use Rattle.walk.proofs.Laws.{second-there}
-use Rattle.walk.specs.declared.First.{First}
-use Rattle.walk.specs.declared.Read.{Read}
-use Rattle.walk.specs.declared.Table.{Table}
-use Rattle.walk.specs.Descriptors.{firstOf}
-use Rattle.walk.specs.Walk.{coarseAt, fineAt, readAt, readIn, readWithin, sourceAt, afterSecond, byFirst, afterFirst, walkFrom, walkIn, walkWithin}
-use Rattle.walk.specs.Distances.{isMissing}
-use Rattle.walk.specs.Statements.{PlacedRead, PlacedAt, Placed}
+use Rattle.walk.specs.Statements.{PlacedRead, PlacedAt, ReadsPlaced}
 
 -- a word lies where the reading found it
 module _ (place : ℕ → Place) (rd : ℕ → Read) (h : (x : ℕ) → PlacedRead place x (rd x)) (va : ℕ) where
-  placed-second : (t : Table) (s : Source) (b : ℕ) (r : Read) → PlacedAt place s → PlacedRead place b r → Placed place (afterSecond t s b r .reads)
+  placed-second : (t : Table) (s : Source) (b : ℕ) (r : Read) → PlacedAt place s → PlacedRead place b r → ReadsPlaced place (afterSecond t s b r .reads)
   placed-second t s b Read.Missing e f = tt
   placed-second t s b (Read.Word w p) e f = (e, f)
 
-  placed-first : (s : Source) (d : First) → PlacedAt place s → Placed place (byFirst rd va s d .reads)
+  placed-first : (s : Source) (d : First) → PlacedAt place s → ReadsPlaced place (byFirst rd va s d .reads)
   placed-first s First.Fault e = e
   placed-first s (First.Whole p) e = e
   placed-first s (First.Coarse t) e = placed-second Table.Coarse s (coarseAt t va) (rd (coarseAt t va)) e (h (coarseAt t va))
   placed-first s (First.Fine t) e = placed-second Table.Fine s (fineAt t va) (rd (fineAt t va)) e (h (fineAt t va))
 
-  placed-after : (dec : ℕ → First) (a : ℕ) (r : Read) → PlacedRead place a r → Placed place (afterFirst rd dec va a r .reads)
+  placed-after : (dec : ℕ → First) (a : ℕ) (r : Read) → PlacedRead place a r → ReadsPlaced place (afterFirst rd dec va a r .reads)
   placed-after dec a Read.Missing e = tt
   placed-after dec a (Read.Word w p) e = placed-first (sourceAt a p) (dec w) e
 
-  pub placed : (dec : ℕ → First) (a : ℕ) → Placed place (walkFrom rd dec va a .reads)
+  pub placed : (dec : ℕ → First) (a : ℕ) → ReadsPlaced place (walkFrom rd dec va a .reads)
   unfolding walkFrom
   placed dec a = placed-after dec a (rd a) (h a)
 
@@ -44,14 +35,14 @@ read-in-placed : (m : Lent) (x : ℕ) → PlacedRead (placeIn m) x (readIn m x)
 unfolding readIn
 read-in-placed m x = read-placed (placeIn m) x _ (placeIn m x) refl
 
-pub walk-placed : (m : Lent) (base va : ℕ) → Placed (placeIn m) (walkIn m base va .reads)
+pub walk-placed : (m : Lent) (base va : ℕ) → ReadsPlaced (placeIn m) (walkIn m base va .reads)
 walk-placed m base va = placed (placeIn m) (readIn m) (read-in-placed m) va firstOf _
 
 read-within-placed : (m : Lent) (x : ℕ) → PlacedRead (placeWithin m) x (readWithin m x)
 unfolding readWithin
 read-within-placed m x = read-placed (placeWithin m) x _ (placeWithin m x) refl
 
-pub walk-within-placed : (m : Lent) (base va : ℕ) → Placed (placeWithin m) (walkWithin m base va .reads)
+pub walk-within-placed : (m : Lent) (base va : ℕ) → ReadsPlaced (placeWithin m) (walkWithin m base va .reads)
 walk-within-placed m base va = placed (placeWithin m) (readWithin m) (read-within-placed m) va firstOf _
 
 -- no word counts as read exactly where one is missing

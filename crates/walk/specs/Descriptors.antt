@@ -1,16 +1,6 @@
 -- What the words of the tables say (01, "The walk"), and the distance (01, "Meters and the walk bill").
-use Rattle.page.specs.Ground.{ℕ, _+_, _/_, _%_, _^_, _<_, eqb}
-use Rattle.page.specs.Pick.{pick}
-use Rattle.page.specs.Low.{upper, joined}
-use Rattle.page.specs.Words.{physical, lowBits}
-use Rattle.page.specs.declared.Kind.{Kind}
-use Rattle.page.specs.declared.VirtualAddress.{VirtualAddress}
-use Rattle.page.specs.declared.PhysicalAddress.{PhysicalAddress}
-use Rattle.walk.specs.declared.Page.{Page}
-use Rattle.walk.specs.declared.First.{First}
-use Rattle.walk.specs.declared.Table.{Table}
-use Rattle.walk.specs.declared.Found.{Found}
-use lib.IntN.{ℤ, pos, _-ℤ_}
+use Rattle.walk.specs.Names.{ℕ, _+_, _/_, _%_, _^_, _<_, eqb, pick, upper, joined, physical, lowBits, Kind, VirtualAddress, PhysicalAddress}
+use Rattle.walk.specs.Names.{Page, First, Table, Found, ℤ, pos, _-ℤ_}
 
 -- a section's word: base in bits 31:20, access in 11:10
 abbrev pub sectionOf : ℕ → Page

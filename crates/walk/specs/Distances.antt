@@ -1,10 +1,5 @@
 -- What the laws of the descriptors speak of (01, "The walk").
-use Rattle.page.specs.Ground.{_<_, _≡_, Bool, true, false}
-use Rattle.page.specs.Low.{upper}
-use Rattle.page.specs.Words.{lowBits}
-use Rattle.walk.specs.declared.Page.{Page}
-use Rattle.walk.specs.declared.First.{First}
-use Rattle.walk.specs.declared.Found.{Found}
+use Rattle.walk.specs.Names.{_<_, _≡_, Bool, true, false, upper, lowBits, Page, First, Found}
 
 -- a page starts at its frame and has two bits of access
 abbrev pub ProperPage : Page → Type 0

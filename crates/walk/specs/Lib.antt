@@ -1,3 +1,4 @@
+pub mod Names
 pub mod Walk
 pub mod Statements
 pub mod Uniform

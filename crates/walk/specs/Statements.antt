@@ -1,10 +1,5 @@
 -- What the laws of the plain walk speak of (01, "The walk").
-use Rattle.page.specs.Ground.{ℕ, _≡_}
-use Rattle.memory.specs.declared.Place.{Place}
-use Rattle.memory.specs.declared.Source.{Source}
-use Rattle.memory.specs.declared.Reads.{Reads}
-use Rattle.walk.specs.declared.First.{First}
-use Rattle.walk.specs.declared.Read.{Read}
+use Rattle.walk.specs.Names.{ℕ, _≡_, Place, Source, Reads, First, Read}
 use Rattle.walk.specs.Walk.{coarseAt, fineAt}
 
 -- a word without the place that holds it
@@ -34,7 +29,7 @@ abbrev pub PlacedAt : (ℕ → Place) → Source → Type 0
 PlacedAt place s = s .place ≡ place (s .at .0)
 
 -- all the words of a walk do
-abbrev pub Placed : (ℕ → Place) → Reads → Type 0
-Placed place Reads.Nothing = Unit
-Placed place (Reads.One s) = PlacedAt place s
-Placed place (Reads.Two s t) = PlacedAt place s × PlacedAt place t
+abbrev pub ReadsPlaced : (ℕ → Place) → Reads → Type 0
+ReadsPlaced place Reads.Nothing = Unit
+ReadsPlaced place (Reads.One s) = PlacedAt place s
+ReadsPlaced place (Reads.Two s t) = PlacedAt place s × PlacedAt place t

@@ -1,19 +1,7 @@
 -- The plain walk (01, "The walk").
-use Rattle.page.specs.Ground.{ℕ, _+_, _*_, _/_, _%_, _^_}
-use Rattle.page.specs.Low.{upper}
-use Rattle.page.specs.Words.{physical, megabytes}
-use Rattle.page.specs.declared.PhysicalAddress.{PhysicalAddress}
-use Rattle.memory.specs.Memory.{Lent, placeWithin, placeIn, fetchedWithin, fetchedIn}
-use Rattle.wire.specs.Words.{wordOf}
-use Rattle.memory.specs.declared.Place.{Place}
-use Rattle.memory.specs.declared.Source.{Source}
-use Rattle.memory.specs.declared.Reads.{Reads}
+use Rattle.walk.specs.Names.{ℕ, _+_, _*_, _/_, _%_, _^_, upper, physical, megabytes, PhysicalAddress, Lent, placeWithin, placeIn, fetchedWithin}
+use Rattle.walk.specs.Names.{fetchedIn, wordOf, Place, Source, Reads, First, Table, Found, Read, Walked}
 use Rattle.walk.specs.Descriptors.{firstOf, secondOf}
-use Rattle.walk.specs.declared.First.{First}
-use Rattle.walk.specs.declared.Table.{Table}
-use Rattle.walk.specs.declared.Found.{Found}
-use Rattle.walk.specs.declared.Read.{Read}
-use Rattle.walk.specs.declared.Walked.{Walked}
 
 -- the first-level table starts at a multiple of 2^7, and has a word for each megabyte
 abbrev pub baseBits : ℕ

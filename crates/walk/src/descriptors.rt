@@ -6,7 +6,7 @@ use crate::Table;
 use page::Kind;
 use page::PhysicalAddress;
 use page::VirtualAddress;
-ghost use mathlib.Core.Path.{_≡_};
+ghost use Rattle.walk.specs.Names.{_≡_};
 ghost use Rattle.walk.specs.Descriptors.{sectionOf, firstOf, pageOf, secondOf, physicalOf, distanceOf};
 
 // A page's upper bits and an address's lower ones.
@@ -15,7 +15,7 @@ pub fn physical(p: Page, va: VirtualAddress) -> PhysicalAddress
 {
     let kind = p.kind;
     let frame = p.frame;
-    PhysicalAddress(page::join(kind, frame.0, va.0))
+    page::join(kind, frame, va)
 }
 
 // Physical minus virtual.

@@ -7,8 +7,7 @@ use memory::Source;
 use page::Kind;
 use page::PhysicalAddress;
 use page::VirtualAddress;
-ghost use mathlib.Core.Path.{_≡_};
-ghost use Rattle.memory.specs.Memory.{lent};
+ghost use Rattle.walk.specs.Names.{_≡_, lent};
 ghost use Rattle.walk.specs.Descriptors.{Room};
 ghost use Rattle.walk.specs.Walk.{missing, ended, readWithin, afterSecond, byFirst, walkIn, walkWithin};
 
@@ -75,12 +74,12 @@ fn ended(found: Found, first: Source) -> Walked
 // The word at an address.
 pub fn read_word<'a>(
     on: &'a [u8],
-    onbase: u32,
+    onbase: PhysicalAddress,
     ext: &'a [u8],
-    extbase: u32,
+    extbase: PhysicalAddress,
     at: PhysicalAddress,
 ) -> Read
-    ensures { λ r. ⌜ r ≡ readWithin (lent (now (on .entry)) onbase (now (ext .entry)) extbase) (at .0) ⌝ }
+    ensures { λ r. ⌜ r ≡ readWithin (lent (now (on .entry)) (onbase .0) (now (ext .entry)) (extbase .0)) (at .0) ⌝ }
 {
     let place = memory::locate_within(on, onbase, ext, extbase, at);
     let part = memory::fetch_within(on, onbase, ext, extbase, at);
@@ -101,14 +100,14 @@ pub fn read_word<'a>(
 // The end of a walk whose second word stands at an address.
 fn second_level<'a>(
     on: &'a [u8],
-    onbase: u32,
+    onbase: PhysicalAddress,
     ext: &'a [u8],
-    extbase: u32,
+    extbase: PhysicalAddress,
     table: Table,
     first: Source,
     at: PhysicalAddress,
 ) -> Walked
-    ensures { λ r. ⌜ r ≡ afterSecond table first (at .0) (readWithin (lent (now (on .entry)) onbase (now (ext .entry)) extbase) (at .0)) ⌝ }
+    ensures { λ r. ⌜ r ≡ afterSecond table first (at .0) (readWithin (lent (now (on .entry)) (onbase .0) (now (ext .entry)) (extbase .0)) (at .0)) ⌝ }
 {
     let read = read_word(on, onbase, ext, extbase, at);
     match read {
@@ -132,15 +131,15 @@ fn second_level<'a>(
 // The rest of a walk by what its first word says.
 fn first_level<'a>(
     on: &'a [u8],
-    onbase: u32,
+    onbase: PhysicalAddress,
     ext: &'a [u8],
-    extbase: u32,
+    extbase: PhysicalAddress,
     va: VirtualAddress,
     first: Source,
     d: First,
 ) -> Walked
     requires { ⌜ Room d ⌝ }
-    ensures { λ r. ⌜ r ≡ byFirst (readWithin (lent (now (on .entry)) onbase (now (ext .entry)) extbase)) (va .0) first d ⌝ }
+    ensures { λ r. ⌜ r ≡ byFirst (readWithin (lent (now (on .entry)) (onbase .0) (now (ext .entry)) (extbase .0))) (va .0) first d ⌝ }
 {
     let v = va.0;
     match d {
@@ -164,13 +163,13 @@ fn first_level<'a>(
 // The plain walk from a base, for a caller that has tried the memories.
 pub fn walk_within<'a>(
     on: &'a [u8],
-    onbase: u32,
+    onbase: PhysicalAddress,
     ext: &'a [u8],
-    extbase: u32,
+    extbase: PhysicalAddress,
     base: PhysicalAddress,
     va: VirtualAddress,
 ) -> Walked
-    ensures { λ r. ⌜ r ≡ walkWithin (lent (now (on .entry)) onbase (now (ext .entry)) extbase) (base .0) (va .0) ⌝ }
+    ensures { λ r. ⌜ r ≡ walkWithin (lent (now (on .entry)) (onbase .0) (now (ext .entry)) (extbase .0)) (base .0) (va .0) ⌝ }
 {
     let at = PhysicalAddress(base.0 / 128 * 128 + 4 * (va.0 / 1048576 % 16));
     let read = read_word(on, onbase, ext, extbase, at);
@@ -192,13 +191,13 @@ pub fn walk_within<'a>(
 // The plain walk from a base; under refusal 4 every word is missing.
 pub fn walk<'a>(
     on: &'a [u8],
-    onbase: u32,
+    onbase: PhysicalAddress,
     ext: &'a [u8],
-    extbase: u32,
+    extbase: PhysicalAddress,
     base: PhysicalAddress,
     va: VirtualAddress,
 ) -> Walked
-    ensures { λ r. ⌜ r ≡ walkIn (lent (now (on .entry)) onbase (now (ext .entry)) extbase) (base .0) (va .0) ⌝ }
+    ensures { λ r. ⌜ r ≡ walkIn (lent (now (on .entry)) (onbase .0) (now (ext .entry)) (extbase .0)) (base .0) (va .0) ⌝ }
 {
     if !memory::memories_ok(on, onbase, ext, extbase) {
         return missing();

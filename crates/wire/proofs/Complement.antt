@@ -1,11 +1,11 @@
 -- Two's complement by arithmetic that stays in range. Assumes nothing.
-use mathlib.Core.Path.{_≡_, refl, sym, _∙_, ap, subst}
+use Rattle.wire.specs.Names.{_≡_, zero, suc, _-_, _^_, ℤ, pos, negsuc}
+use Rattle.wire.proofs.Names.{refl, sym, _∙_, ap, _<_, arith}
+use mathlib.Core.Path.{subst}
 use mathlib.Core.Bool.{Bool, true, false, cond, true≢false}
 use borrow.Author.Tests.{ltb-true, le-ltb}
-use Prim.Native.Nat.{zero, suc, _-_, _^_, _<_}
-use native.Mathlib.Omega.{arith}
 use lib.Dec.{T}
-use lib.IntN.{ℤ, pos, negsuc, natAbs, _-ℤ_}
+use lib.IntN.{natAbs, _-ℤ_}
 use lib.Signed.{ltZ, nonNeg}
 use mir.Syntax.{w64}
 use mir.Val.{Fits, SFits, toZ, ofZ}

@@ -1,3 +1,4 @@
+pub mod Names
 pub mod Placing
 pub mod Reading
 pub mod Complement

@@ -1,16 +1,8 @@
 -- Words put into a buffer one behind the other. Assumes nothing.
-use mathlib.Core.Path.{_≡_, refl, sym, _∙_, ap, ap₂}
-use mathlib.Core.List.{List, [], _∷_, _++_, append-assoc}
-use Prim.Native.Nat.{ℕ, zero, suc, _+_, _*_, _-_, _/_, _<_, _≤_}
-use native.Mathlib.Omega.{arith}
-use native.Mathlib.Numerals.{add-one}
-use native.Mathlib.Decide.{decLe}
-use lib.Dec.{leb}
-use borrow.Author.Tests.{le-leb, lt-leb}
-use Rattle.page.proofs.Picks.{pick-yes}
-use lib.ListN.{length, getD, take, drop, length-append, length-drop, take-append-drop}
-use lib.Seq.{length-take-le, take-at, drop-cons, drop-nil, drop-append-add, drop-drop}
-use Rattle.wire.specs.Words.{wordBytes, bytesOf, placed, wordsPut}
+use Rattle.wire.specs.Names.{_≡_, List, [], _∷_, _++_, ℕ, zero, suc, _+_, _*_, _-_, _/_, _≤_, leb, length, getD, take, drop}
+use Rattle.wire.proofs.Names.{refl, sym, _∙_, ap, ap₂, append-assoc, _<_, arith, add-one, decLe, le-leb, lt-leb, pick-yes, length-append}
+use Rattle.wire.proofs.Names.{length-drop, take-append-drop, length-take-le, wordBytes, bytesOf, placed, wordsPut}
+use lib.Seq.{take-at, drop-cons, drop-nil, drop-append-add, drop-drop}
 
 pub bytes-length : (ws : List ℕ) → length (bytesOf ws) ≡ 4 * length ws
 unfolding bytesOf
@@ -42,7 +34,8 @@ module _ (l : List ℕ) (at : ℕ) (ws : List ℕ) (fits : at + 4 * length ws �
       ap (λ (m : List ℕ). take (at + 4 * length ws) m ++ (bytesOf vs ++ drop (at + 4 * length ws + 4 * length vs) m)) apart
       ∙ ap₂ (λ (x y : List ℕ). x ++ (bytesOf vs ++ y)) (take-at (take at l ++ bytesOf ws) (drop (at + 4 * length ws) l) (at + 4 * length ws) front) tail
       ∙ append-assoc (take at l) (bytesOf ws) (bytesOf vs ++ drop (at + 4 * length (ws ++ vs)) l)
-      ∙ ap (λ (x : List ℕ). take at l ++ x) (sym (append-assoc (bytesOf ws) (bytesOf vs) (drop (at + 4 * length (ws ++ vs)) l)) ∙ ap (λ (x : List ℕ). x ++ drop (at + 4 * length (ws ++ vs)) l) (sym (bytes-append ws vs)))
+      ∙ ap (λ (x : List ℕ). take at l ++ x) (sym (append-assoc (bytesOf ws) (bytesOf vs) (drop (at + 4 * length (ws ++ vs)) l))
+      ∙ ap (λ (x : List ℕ). x ++ drop (at + 4 * length (ws ++ vs)) l) (sym (bytes-append ws vs)))
     where
       tail : drop (at + 4 * length ws + 4 * length vs) ((take at l ++ bytesOf ws) ++ drop (at + 4 * length ws) l) ≡ drop (at + 4 * length (ws ++ vs)) l
       tail =

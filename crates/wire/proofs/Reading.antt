@@ -1,12 +1,8 @@
 -- A word that is not there is 0. Assumes nothing.
-use mathlib.Core.Path.{_≡_}
-use mathlib.Core.List.{List}
-use Prim.Native.Nat.{ℕ, _+_, _<_}
-use native.Mathlib.Omega.{arith}
-use lib.ListN.{length, take, drop, length-take, length-drop}
-use borrow.Author.Tests.{lt-leb}
-use Rattle.page.proofs.Picks.{pick-no}
-use Rattle.wire.specs.Words.{wordOf, wordAt}
+use Rattle.wire.specs.Names.{_≡_, List, ℕ, _+_, length, take, drop}
+use Rattle.wire.proofs.Names.{_<_, arith, length-drop, lt-leb, pick-no, wordOf}
+use lib.ListN.{length-take}
+use Rattle.wire.specs.Words.{wordAt}
 
 pub word-none : (s : List ℕ) (at : ℕ) → length s < at + 4 → wordAt s at ≡ 0
 unfolding wordOf

@@ -1,14 +1,11 @@
 -- Words written into a memory, by the byte. Assumes nothing.
-use mathlib.Core.Path.{_≡_, refl, sym, ap, ap₂, _∙_}
-use mathlib.Core.List.{List, [], _∷_, _++_, append-assoc}
-use Prim.Native.Nat.{ℕ, zero, suc, _+_, _*_, _-_, _/_, _%_, _≤_, _<_}
-use native.Mathlib.Omega.{arith}
-use native.Mathlib.Decide.{decLe}
-use native.Mathlib.Numerals.{add-one, add-two, add-three}
-use lib.ListN.{length, take, drop, set, getD, length-append, length-drop, List·getD-append, take-append-drop}
-use lib.Seq.{sets-eq, getD-append-add, getD-take, getD-drop, length-take-le, ext-getD}
+use Rattle.wire.specs.Names.{_≡_, List, [], _∷_, _++_, ℕ, zero, suc, _+_, _*_, _-_, _/_, _%_, _≤_, length, take, drop, getD}
+use Rattle.wire.proofs.Names.{refl, sym, ap, ap₂, _∙_, append-assoc, _<_, arith, decLe, add-one, length-append, length-drop, take-append-drop}
+use Rattle.wire.proofs.Names.{length-take-le, wordBytes}
+use native.Mathlib.Numerals.{add-two, add-three}
+use lib.ListN.{set, List·getD-append}
+use lib.Seq.{sets-eq, getD-append-add, getD-take, getD-drop, ext-getD}
 use Rattle.wire.specs.Spliced.{bytesBy, spliced}
-use Rattle.wire.specs.Words.{wordBytes}
 
 -- byte i of the words of f
 abbrev pub byteOfWords : (ℕ → ℕ) → ℕ → ℕ

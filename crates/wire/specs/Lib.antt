@@ -1,3 +1,4 @@
+pub mod Names
 pub mod Words
 pub mod Signed
 pub mod Spliced

@@ -1,5 +1,5 @@
 -- Words given by a function of their number, as bytes and in a memory.
-use Rattle.page.specs.Ground.{ℕ, zero, suc, _+_, _*_, List, [], _++_, take, drop}
+use Rattle.wire.specs.Names.{ℕ, zero, suc, _+_, _*_, List, [], _++_, take, drop}
 use Rattle.wire.specs.Words.{wordBytes}
 
 -- the bytes of the first k words of f

@@ -1,6 +1,5 @@
 -- Words and bytes in a buffer; all numbers are little-endian.
-use Rattle.page.specs.Ground.{ℕ, _+_, _*_, _/_, _%_, _^_, List, [], _∷_, _++_, leb, length, take, drop, getD}
-use Rattle.page.specs.Pick.{pick}
+use Rattle.wire.specs.Names.{ℕ, _+_, _*_, _/_, _%_, _^_, List, [], _∷_, _++_, leb, length, take, drop, getD, pick}
 
 -- four bytes as a number, little-endian
 abbrev pub littleEndian : ℕ → ℕ → ℕ → ℕ → ℕ
@@ -48,3 +47,15 @@ lowAt l at = wordAt l at % 65536
 
 abbrev pub highAt : List ℕ → ℕ → ℕ
 highAt l at = wordAt l at / 65536
+
+-- bytes in a memory, from an index on
+unfoldable pub pasted : List ℕ → ℕ → List ℕ → List ℕ
+pasted l at s = (take at l ++ s) ++ drop (at + length s) l
+
+-- how many bytes at the front of a memory are the text, and the memory
+pub record Shown : Type 0 where
+  pub count : ℕ
+  pub memory : List ℕ
+
+abbrev pub shown : ℕ → List ℕ → Shown
+shown n l = record { count = n; memory = l }

@@ -1,9 +1,5 @@
 // Numbers as little-endian bytes: words put into a buffer and read from one.
-ghost use mathlib.Core.Path.{_≡_};
-ghost use mathlib.Core.List.{[], _∷_};
-ghost use Prim.Native.Nat.{_+_, _*_, _≤_};
-ghost use lib.Dec.{leb};
-ghost use lib.ListN.{length, getD};
+ghost use Rattle.wire.specs.Names.{_≡_, [], _∷_, _+_, _*_, _≤_, leb, length, getD};
 ghost use Rattle.wire.specs.Words.{littleEndian, wordOf, placed, wordsPut, halves, swapped, wordAt, lowAt, highAt};
 ghost use Rattle.wire.specs.Signed.{twos};
 

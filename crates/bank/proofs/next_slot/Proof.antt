@@ -1,7 +1,4 @@
-use Rattle.page.proofs.Picks.{pick-yes, pick-no}
-use Rattle.bank.specs.Victim.{nextSlot}
-use mathlib.Core.Path.{sym}
-use borrow.Author.Tests.{lt-ltb, le-ltb}
+use Rattle.bank.proofs.Names.{pick-yes, pick-no, nextSlot, sym, lt-ltb, le-ltb}
 use Rattle.bank.proofs.next_slot.Statement.{statement}
 use Rattle.bank.proofs.next_slot.Tie as tie
 

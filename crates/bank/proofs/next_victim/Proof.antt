@@ -1,8 +1,4 @@
-use Rattle.bank.specs.Victim.{nextVictim}
-use mathlib.Core.Path.{sym}
-use Rattle.page.proofs.Picks.{pick-yes, pick-no}
-use borrow.Author.Tests.{lt-ltb, le-ltb}
-use borrow.Author.Needs.{needs}
+use Rattle.bank.proofs.Names.{nextVictim, sym, pick-yes, pick-no, lt-ltb, le-ltb, needs}
 use Rattle.bank.proofs.next_victim.Statement.{statement}
 use Rattle.bank.proofs.next_victim.Tie as tie
 

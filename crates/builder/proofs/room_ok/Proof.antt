@@ -1,8 +1,4 @@
-use Rattle.builder.specs.Build.{roomOk}
-use mathlib.Core.Path.{sym, _∙_}
-use Rattle.page.proofs.Picks.{and-yes, and-no}
-use borrow.Author.Tests.{eq-eqb, ne-eqb}
-use borrow.Author.Needs.{needs}
+use Rattle.builder.proofs.Names.{roomOk, sym, _∙_, and-yes, and-no, eq-eqb, ne-eqb, needs}
 use Rattle.builder.proofs.room_ok.Statement.{statement}
 use Rattle.builder.proofs.room_ok.Tie as tie
 

@@ -1,9 +1,6 @@
-use mathlib.Core.Path.{_≡_, refl, sym, _∙_, ap}
-use Rattle.page.proofs.Picks.{and-yes, and-no}
-use borrow.Author.Tests.{eq-eqb, ne-eqb, not-true, not-false}
-use native.Mathlib.Omega.{arith}
-use Prim.Native.Nat.{_≤_, _-_}
-use Rattle.calls.specs.Records.{callsFrom, isGood, goodCalls, allGood}
+use Rattle.calls.specs.Names.{_≡_, _≤_}
+use Rattle.calls.proofs.Names.{refl, sym, _∙_, ap, and-yes, and-no, eq-eqb, ne-eqb, arith, _-_, callsFrom, isGood, goodCalls, allGood}
+use borrow.Author.Tests.{not-true, not-false}
 use Rattle.calls.proofs.Rest.{calls-none, calls-all, good-next, bad-next}
 use Rattle.calls.proofs.all_good.Statement.{statement}
 use Rattle.calls.proofs.all_good.Tie as tie
@@ -35,12 +32,19 @@ is-good-requires c κs = tt
 
 returns-2 : tie.Need-returns-2 Inv-loop μ-loop
 unfolding allGood
-returns-2 c = let l = c .before .before .before .before .before .before .before .before .args .calls .now in
+returns-2 c =
+    let s2 = c .before .before in
+    let s3 = s2 .before in
+    let s4 = s3 .before in
+    let s5 = s4 .before in
+    let s6 = s5 .before in
+    let s8 = s6 .before .before in
+    let l = s8 .args .calls .now in
     sym
-    (and-yes _ _ (eq-eqb _ _ (c .before .before .before .before .before .before .if1 .left))
-    ∙ sym (ap goodCalls (calls-all l _ _ (c .before .before .before .before .before .count .ensures)))
-    ∙ c .before .before .before .before .loop .inv .1
-    ∙ bad-next l _ (c .before .before .before .before .loop .i) (c .before .before .before .loop-test .taken) (sym (ap isGood (c .before .before .decode .ensures)) ∙ sym (c .before .is-good .ensures) ∙ not-true _ (c .if2 .taken)))
+    (and-yes _ _ (eq-eqb _ _ (s6 .if1 .left))
+    ∙ sym (ap goodCalls (calls-all l _ _ (s5 .count .ensures)))
+    ∙ s4 .loop .inv .1
+    ∙ bad-next l _ (s4 .loop .i) (s3 .loop-test .taken) (sym (ap isGood (s2 .decode .ensures)) ∙ sym (c .before .is-good .ensures) ∙ not-true _ (c .if2 .taken)))
 
 add-i : tie.Need-add-i Inv-loop μ-loop
 add-i c = omega arith
@@ -49,7 +53,15 @@ loop-less : tie.Need-loop-less Inv-loop μ-loop
 loop-less c = omega arith
 
 loop-again : tie.Need-loop-again Inv-loop μ-loop
-loop-again c = (omega arith, c .before .before .before .before .loop .inv .1 ∙ good-next (c .before .before .before .before .before .before .before .before .args .calls .now) _ (c .before .before .before .before .loop .i) (c .before .before .before .loop-test .taken) (sym (ap isGood (c .before .before .decode .ensures)) ∙ sym (c .before .is-good .ensures) ∙ not-false _ (c .if2 .left)))
+loop-again c =
+    let s2 = c .before .before in
+    let s3 = s2 .before in
+    let s4 = s3 .before in
+    let s8 = s4 .before .before .before .before in (
+      omega arith,
+      s4 .loop .inv .1 ∙ good-next (s8 .args .calls .now) _ (s4 .loop .i) (s3 .loop-test .taken)
+          (sym (ap isGood (s2 .decode .ensures)) ∙ sym (c .before .is-good .ensures) ∙ not-false _ (c .if2 .left)),
+    )
 
 returns-3 : tie.Need-returns-3 Inv-loop μ-loop
 unfolding allGood

@@ -1,7 +1,4 @@
-use Rattle.calls.specs.Records.{callOf}
-use Rattle.calls.specs.Kinds.{callFrom}
-use mathlib.Core.Path.{ap₂, _∙_}
-use borrow.Author.Needs.{needs}
+use Rattle.calls.proofs.Names.{callOf, callFrom, ap₂, _∙_, needs}
 use Rattle.calls.proofs.call_of.Statement.{statement}
 use Rattle.calls.proofs.call_of.Tie as tie
 

@@ -1,12 +1,5 @@
-use Rattle.calls.specs.Records.{callOf, callAt}
-use Prim.Native.Nat.{_-_, ℕ, _+_, _<_, _≤_}
-use lib.ListN.{length, take, drop}
-use mathlib.Core.Path.{_≡_, sym, _∙_, ap}
-use Rattle.page.proofs.Picks.{pick-yes, pick-no}
-use borrow.Author.Tests.{le-leb, lt-leb}
-use denote.Ref.{now}
-use native.Mathlib.Omega.{arith}
-use borrow.Author.Needs.{needs}
+use Rattle.calls.specs.Names.{ℕ, _+_, _≤_, length, take, drop, _≡_}
+use Rattle.calls.proofs.Names.{callOf, callAt, _-_, _<_, sym, _∙_, ap, pick-yes, pick-no, le-leb, lt-leb, now, arith, needs}
 use Rattle.calls.proofs.decode.Statement.{statement}
 use Rattle.calls.proofs.decode.Tie as tie
 
@@ -35,7 +28,10 @@ call-of-requires c κs = search needs
 
 returns-3 : tie.Need-returns-3
 unfolding callAt
-returns-3 c = c .call-of .ensures ∙ ap (λ (n : ℕ). callOf (take n (drop (c .before .before .before .before .before .args .at) (now (c .before .before .before .before .before .args .bytes))))) (let e : c .before .before .before .before .before .args .at + 12 - c .before .before .before .before .before .args .at ≡ 12 = omega arith in e) ∙ sym (pick-yes _ _ _ (le-leb _ _ (let e : c .before .before .before .before .before .args .at + 12 ≤ length (c .before .before .before .before .before .args .bytes .now) = omega arith in e)))
+returns-3 c =
+    let s5 = c .before .before .before .before .before in
+    c .call-of .ensures ∙ ap (λ (n : ℕ). callOf (take n (drop (s5 .args .at) (now (s5 .args .bytes))))) (let e : s5 .args .at + 12 - s5 .args .at ≡ 12 = omega arith in e)
+    ∙ sym (pick-yes _ _ _ (le-leb _ _ (let e : s5 .args .at + 12 ≤ length (s5 .args .bytes .now) = omega arith in e)))
 
 pub decode-spec : {M : Type 1} → statement M
 decode-spec =

@@ -1,13 +1,6 @@
-use mathlib.Core.Path.{_≡_, sym, _∙_, ap}
-use Rattle.page.proofs.Picks.{pick-yes, pick-no}
-use borrow.Author.Tests.{le-leb, lt-leb}
-use denote.Ref.{now}
-use native.Mathlib.Omega.{arith}
-use lib.ListN.{length, take, drop}
-use Prim.Native.Nat.{ℕ, _+_, _<_, _≤_, _-_}
-use Rattle.calls.specs.Records.{callOf, callAt}
+use Rattle.calls.specs.Names.{_≡_, length, take, drop, ℕ, _+_, _≤_}
+use Rattle.calls.proofs.Names.{sym, _∙_, ap, pick-yes, pick-no, le-leb, lt-leb, now, arith, _<_, _-_, callOf, callAt, needs}
 use Rattle.calls.proofs.Good.{alike}
-use borrow.Author.Needs.{needs}
 use Rattle.calls.proofs.decode_known.Statement.{statement}
 use Rattle.calls.proofs.decode_known.Tie as tie
 

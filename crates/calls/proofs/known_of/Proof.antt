@@ -1,10 +1,6 @@
-use mathlib.Core.Path.{sym, _∙_, ap₂}
-use denote.Ref.{now}
-use Rattle.calls.specs.Records.{callOf}
-use Rattle.calls.specs.Kinds.{callBy}
-use lib.ListN.{getD}
+use Rattle.calls.specs.Names.{getD}
+use Rattle.calls.proofs.Names.{sym, _∙_, ap₂, now, callOf, callBy, needs}
 use Rattle.calls.proofs.Good.{alike, from-known}
-use borrow.Author.Needs.{needs}
 use Rattle.calls.proofs.known_of.Statement.{statement}
 use Rattle.calls.proofs.known_of.Tie as tie
 

@@ -1,6 +1,5 @@
+use Rattle.capi.proofs.Names.{now, needs}
 use Rattle.capi.proofs.Indices.{built-ran}
-use denote.Ref.{now}
-use borrow.Author.Needs.{needs}
 use Rattle.capi.proofs.nx_build.Statement.{statement}
 use Rattle.capi.proofs.nx_build.Tie as tie
 

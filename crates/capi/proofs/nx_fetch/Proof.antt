@@ -1,9 +1,6 @@
+use Rattle.capi.specs.Names.{lent, wordOf}
+use Rattle.capi.proofs.Names.{_∙_, ap, now, needs}
 use Rattle.capi.proofs.Offsets.{fetched-number}
-use Rattle.memory.specs.Memory.{lent}
-use Rattle.wire.specs.Words.{wordOf}
-use mathlib.Core.Path.{_∙_, ap}
-use denote.Ref.{now}
-use borrow.Author.Needs.{needs}
 use Rattle.capi.proofs.nx_fetch.Statement.{statement}
 use Rattle.capi.proofs.nx_fetch.Tie as tie
 
@@ -20,8 +17,13 @@ place-number-requires : tie.Need-place-number-requires
 place-number-requires c κs = search needs
 
 returns : tie.Need-returns
-returns c = let x = c .before .before .before .before .before .before .args in
-    fetched-number (lent (now (x .on)) (x .onbase) (now (x .ext)) (x .extbase)) (x .address) _ _ _ (c .place-number .ensures) (c .before .before .locate .ensures) (c .before .word-of .ensures ∙ ap wordOf (c .before .before .before .fetch .ensures .0))
+returns c =
+    let s2 = c .before .before in
+    let s3 = s2 .before in
+    let s6 = s3 .before .before .before in
+    let x = s6 .args in
+    fetched-number (lent (now (x .on)) (x .onbase) (now (x .ext)) (x .extbase)) (x .address) _ _ _ (c .place-number .ensures) (s2 .locate .ensures)
+    (c .before .word-of .ensures ∙ ap wordOf (s3 .fetch .ensures .0))
 
 pub nx-fetch-spec : {M : Type 1} → statement M
 nx-fetch-spec =

@@ -1,8 +1,7 @@
+use Rattle.commands.proofs.Names.{sym, _∙_, needs}
 use Rattle.registers.proofs.Offsets.{command-at, command-elsewhere, none-is-no-register}
 use Rattle.registers.specs.Table.{listed, commandOf}
 use Rattle.page.specs.Pick.{pick}
-use mathlib.Core.Path.{sym, _∙_}
-use borrow.Author.Needs.{needs}
 use Rattle.commands.proofs.command_at.Statement.{statement}
 use Rattle.commands.proofs.command_at.Tie as tie
 

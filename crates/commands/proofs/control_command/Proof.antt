@@ -1,8 +1,5 @@
+use Rattle.commands.proofs.Names.{sym, pick-yes, pick-no, eq-eqb, ne-eqb, needs}
 use Rattle.registers.specs.Table.{controlCommand}
-use mathlib.Core.Path.{sym}
-use Rattle.page.proofs.Picks.{pick-yes, pick-no}
-use borrow.Author.Tests.{eq-eqb, ne-eqb}
-use borrow.Author.Needs.{needs}
 use Rattle.commands.proofs.control_command.Statement.{statement}
 use Rattle.commands.proofs.control_command.Tie as tie
 

@@ -1,7 +1,5 @@
+use Rattle.commands.proofs.Names.{sym, _∙_, pick-yes, pick-no, eq-eqb, ne-eqb}
 use Rattle.registers.specs.Table.{loadCommand}
-use mathlib.Core.Path.{sym, _∙_}
-use Rattle.page.proofs.Picks.{pick-yes, pick-no}
-use borrow.Author.Tests.{eq-eqb, ne-eqb}
 use Rattle.commands.proofs.load_command.Statement.{statement}
 use Rattle.commands.proofs.load_command.Tie as tie
 

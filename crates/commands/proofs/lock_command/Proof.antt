@@ -1,8 +1,7 @@
+use Rattle.commands.proofs.Names.{sym, _∙_, pick-yes, pick-no, needs}
 use Rattle.registers.specs.Table.{lockCommand}
-use mathlib.Core.Path.{sym, _∙_}
-use Rattle.page.proofs.Picks.{pick-yes, pick-no, and-yes, and-no}
+use Rattle.page.proofs.Picks.{and-yes, and-no}
 use borrow.Author.Tests.{lt-ltb, le-ltb}
-use borrow.Author.Needs.{needs}
 use Rattle.commands.proofs.lock_command.Statement.{statement}
 use Rattle.commands.proofs.lock_command.Tie as tie
 

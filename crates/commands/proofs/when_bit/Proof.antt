@@ -1,7 +1,5 @@
+use Rattle.commands.proofs.Names.{sym, pick-yes, pick-no, eq-eqb, ne-eqb}
 use Rattle.registers.specs.Table.{whenBit}
-use mathlib.Core.Path.{sym}
-use Rattle.page.proofs.Picks.{pick-yes, pick-no}
-use borrow.Author.Tests.{eq-eqb, ne-eqb}
 use Rattle.commands.proofs.when_bit.Statement.{statement}
 use Rattle.commands.proofs.when_bit.Tie as tie
 

@@ -1,7 +1,4 @@
-use Rattle.decision.specs.Decisions.{byAccess}
-use mathlib.Core.Path.{sym, _∙_}
-use Rattle.page.proofs.Picks.{pick-yes, pick-no}
-use borrow.Author.Needs.{needs}
+use Rattle.decision.proofs.Names.{byAccess, sym, _∙_, pick-yes, pick-no, needs}
 use Rattle.decision.proofs.by_access.Statement.{statement}
 use Rattle.decision.proofs.by_access.Tie as tie
 

@@ -1,10 +1,6 @@
-use Rattle.decision.specs.Decisions.{byAccess, plainly}
-use Rattle.bill.specs.declared.Seen.{Seen}
-use Rattle.registers.specs.declared.Answer.{Answer}
-use Rattle.page.specs.declared.PhysicalAddress.{PhysicalAddress}
-use mathlib.Core.Path.{ap₂, _∙_, ap}
-use Prim.Native.Nat.{ℕ}
-use borrow.Author.Needs.{needs}
+use Rattle.decision.specs.Names.{Seen, Answer, PhysicalAddress, ℕ}
+use Rattle.decision.proofs.Names.{byAccess, plainly, _∙_, ap, needs}
+use mathlib.Core.Path.{ap₂}
 use Rattle.decision.proofs.by_match.Statement.{statement}
 use Rattle.decision.proofs.by_match.Tie as tie
 
@@ -21,7 +17,12 @@ plain-requires : tie.Need-plain-requires
 plain-requires c κs = search needs
 
 returns : tie.Need-returns
-returns c = c .plain .ensures ∙ ap (λ (x : Answer). plainly x Seen.Match) (c .before .by-access .ensures ∙ ap₂ (λ (n : ℕ) (x : PhysicalAddress). byAccess n x (c .before .before .before .before .args .a)) (c .before .before .access-of .ensures) (c .before .before .before .translated .ensures))
+returns c =
+    let s2 = c .before .before in
+    let s3 = s2 .before in
+    let s4 = s3 .before in
+    c .plain .ensures
+    ∙ ap (λ (x : Answer). plainly x Seen.Match) (c .before .by-access .ensures ∙ ap₂ (λ (n : ℕ) (x : PhysicalAddress). byAccess n x (s4 .args .a)) (s2 .access-of .ensures) (s3 .translated .ensures))
 
 pub by-match-spec : {M : Type 1} → statement M
 by-match-spec =

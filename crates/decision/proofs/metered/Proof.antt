@@ -1,6 +1,6 @@
+use Rattle.decision.specs.Names.{Bool}
+use Rattle.decision.proofs.Names.{sym, ap}
 use Rattle.decision.specs.Decisions.{meteredOnce}
-use mathlib.Core.Path.{sym, ap}
-use mathlib.Core.Bool.{Bool}
 use Rattle.decision.proofs.metered.Statement.{statement}
 use Rattle.decision.proofs.metered.Tie as tie
 

@@ -1,6 +1,5 @@
+use Rattle.decision.proofs.Names.{sym, ap, needs}
 use Rattle.decision.specs.Decisions.{settled}
-use mathlib.Core.Path.{sym, ap}
-use borrow.Author.Needs.{needs}
 use Rattle.decision.proofs.settle.Statement.{statement}
 use Rattle.decision.proofs.settle.Tie as tie
 

@@ -1,10 +1,7 @@
+use Rattle.decision.specs.Names.{distanceOf, Shift, PhysicalAddress}
+use Rattle.decision.proofs.Names.{sym, _∙_, ap, needs}
 use mir.Facts.{toZ-ofZ}
-use Rattle.walk.specs.Descriptors.{distanceOf}
 use Rattle.decision.specs.Prefetches.{shiftBy}
-use Rattle.decision.specs.declared.Shift.{Shift}
-use Rattle.page.specs.declared.PhysicalAddress.{PhysicalAddress}
-use mathlib.Core.Path.{sym, _∙_, ap}
-use borrow.Author.Needs.{needs}
 use Rattle.decision.proofs.shift_by.Statement.{statement}
 use Rattle.decision.proofs.shift_by.Tie as tie
 

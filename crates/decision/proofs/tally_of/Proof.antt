@@ -1,6 +1,5 @@
+use Rattle.decision.proofs.Names.{sym, _∙_, ap, needs}
 use Rattle.decision.specs.Decisions.{tallyOf}
-use mathlib.Core.Path.{sym, _∙_, ap}
-use borrow.Author.Needs.{needs}
 use Rattle.decision.proofs.tally_of.Statement.{statement}
 use Rattle.decision.proofs.tally_of.Tie as tie
 

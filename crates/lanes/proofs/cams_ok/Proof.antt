@@ -1,12 +1,8 @@
-use Rattle.page.specs.Pick.{_and_}
+use Rattle.lanes.specs.Names.{_and_, getD, true, ℕ}
+use Rattle.lanes.proofs.Names.{camOk, _&&_, sym, _∙_, needs, _-_}
 use Rattle.lanes.proofs.Loops.{Scanning, scanning-starts, scanning-turns, scanning-ends}
 use Rattle.lanes.proofs.Ranges.{okWith, ok-turns, ok-ends}
-use Rattle.lanes.specs.Lanes.{camOk, camsOk}
-use lib.ListN.{getD}
-use mathlib.Core.Bool.{true, _&&_}
-use mathlib.Core.Path.{sym, _∙_}
-use borrow.Author.Needs.{needs}
-use Prim.Native.Nat.{ℕ, _-_}
+use Rattle.lanes.specs.Lanes.{camsOk}
 use Rattle.lanes.proofs.cams_ok.Statement.{statement}
 use Rattle.lanes.proofs.cams_ok.Tie as tie
 
@@ -34,10 +30,12 @@ loop-less c = search needs
 
 loop-again : tie.Need-loop-again Inv-loop μ-loop
 loop-again c =
-    let a = c .before .before in
+    let s2 = c .before .before in
+    let a = s2 in
     let l = a .before .args .cam .now in
     let p = camOk (a .before .args .limit) in
-    scanning-turns (okWith p l (a .loop .ok)) (okWith p l (a .loop .ok && p (getD l (a .loop .i) 0))) 32 (a .loop .i) _ (c .before .loop-test .taken) (a .loop .inv) (λ (m : ℕ). ok-turns p l (a .loop .ok) (a .loop .i) m)
+    scanning-turns (okWith p l (a .loop .ok)) (okWith p l (a .loop .ok && p (getD l (a .loop .i) 0))) 32 (a .loop .i) _ (c .before .loop-test .taken) (a .loop .inv)
+    (λ (m : ℕ). ok-turns p l (a .loop .ok) (a .loop .i) m)
 
 returns : tie.Need-returns Inv-loop μ-loop
 returns c =

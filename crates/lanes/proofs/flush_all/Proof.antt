@@ -1,8 +1,5 @@
-use Rattle.page.specs.Words.{wordFlushed}
-use Rattle.lanes.specs.Lanes.{flushedAll}
+use Rattle.lanes.proofs.Names.{wordFlushed, flushedAll, needs, _-_}
 use Rattle.lanes.proofs.Loops.{Mapping, mapping-starts, mapping-turns, mapping-ends}
-use borrow.Author.Needs.{needs}
-use Prim.Native.Nat.{_-_}
 use Rattle.lanes.proofs.flush_all.Statement.{statement}
 use Rattle.lanes.proofs.flush_all.Tie as tie
 

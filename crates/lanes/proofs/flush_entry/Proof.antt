@@ -1,8 +1,5 @@
-use Rattle.page.specs.Words.{wordFlushedAt}
-use Rattle.lanes.specs.Lanes.{flushedEntry}
+use Rattle.lanes.proofs.Names.{wordFlushedAt, flushedEntry, needs, _-_}
 use Rattle.lanes.proofs.Loops.{Mapping, mapping-starts, mapping-turns, mapping-ends}
-use borrow.Author.Needs.{needs}
-use Prim.Native.Nat.{_-_}
 use Rattle.lanes.proofs.flush_entry.Statement.{statement}
 use Rattle.lanes.proofs.flush_entry.Tie as tie
 

@@ -1,6 +1,4 @@
-use Rattle.page.proofs.Picks.{and-yes}
-use borrow.Author.Tests.{lt-ltb}
-use mathlib.Core.Path.{sym}
+use Rattle.lanes.proofs.Names.{and-yes, lt-ltb, sym}
 use Rattle.lanes.proofs.ram_ok.Statement.{statement}
 use Rattle.lanes.proofs.ram_ok.Tie as tie
 

@@ -1,11 +1,8 @@
-use Rattle.page.specs.Pick.{_and_}
+use Rattle.lanes.specs.Names.{_and_, Bool, true, ℕ, _+_}
+use Rattle.lanes.proofs.Names.{ramOk, _&&_, sym, ap, _∙_, needs, _-_}
 use Rattle.lanes.proofs.Loops.{Scanning, scanning-starts, scanning-turns, scanning-ends}
 use Rattle.lanes.proofs.Ranges.{okWith, ok-turns, ok-ends}
-use Rattle.lanes.specs.Lanes.{ramOk, ramsOk}
-use mathlib.Core.Bool.{Bool, true, _&&_}
-use mathlib.Core.Path.{sym, ap, _∙_}
-use borrow.Author.Needs.{needs}
-use Prim.Native.Nat.{ℕ, _+_, _-_}
+use Rattle.lanes.specs.Lanes.{ramsOk}
 use Rattle.lanes.proofs.rams_ok.Statement.{statement}
 use Rattle.lanes.proofs.rams_ok.Tie as tie
 

@@ -1,8 +1,4 @@
-use Rattle.listing.specs.Texts.{readText}
-use mathlib.Core.Path.{sym, _∙_}
-use Rattle.page.proofs.Picks.{pick-yes, pick-no, or-yes, or-no}
-use borrow.Author.Tests.{lt-ltb, le-ltb}
-use borrow.Author.Needs.{needs}
+use Rattle.listing.proofs.Names.{readText, sym, _∙_, pick-yes, pick-no, or-yes, or-no, lt-ltb, le-ltb, needs}
 use Rattle.listing.proofs.read.Statement.{statement}
 use Rattle.listing.proofs.read.Tie as tie
 
@@ -32,7 +28,12 @@ same-length-2 c = search needs
 
 returns-4 : tie.Need-returns-4
 unfolding readText
-returns-4 c = c .before .before .before .before .read-lines .ensures ∙ sym (pick-no _ _ _ (or-no _ _ (le-ltb _ _ (c .before .before .before .before .before .before .before .before .before .if1 .left)) ∙ le-ltb _ _ (c .before .before .before .before .before .before .before .before .if2 .left)) ∙ pick-no _ _ _ (le-ltb _ _ (c .before .before .before .before .before .before .before .if3 .left)))
+returns-4 c =
+    let s4 = c .before .before .before .before in
+    let s7 = s4 .before .before .before in
+    let s8 = s7 .before in
+    let s9 = s8 .before in
+    s4 .read-lines .ensures ∙ sym (pick-no _ _ _ (or-no _ _ (le-ltb _ _ (s9 .if1 .left)) ∙ le-ltb _ _ (s8 .if2 .left)) ∙ pick-no _ _ _ (le-ltb _ _ (s7 .if3 .left)))
 
 pub read-spec : {M : Type 1} → statement M
 read-spec =

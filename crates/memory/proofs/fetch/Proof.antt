@@ -1,9 +1,5 @@
+use Rattle.memory.proofs.Names.{lent, partAt, sourceOf, sym, _∙_, ap, not-true, not-false, now, needs}
 use Rattle.memory.proofs.Places.{place-ok, place-refused, at-start}
-use Rattle.memory.specs.Memory.{lent, partAt, sourceOf}
-use mathlib.Core.Path.{sym, _∙_, ap}
-use borrow.Author.Tests.{not-true, not-false}
-use denote.Ref.{now}
-use borrow.Author.Needs.{needs}
 use Rattle.memory.proofs.fetch.Statement.{statement}
 use Rattle.memory.proofs.fetch.Tie as tie
 
@@ -22,7 +18,7 @@ part-result-end c = search needs
 returns : tie.Need-returns
 returns c = let a = c .before .before .before .before .before .args in
     let e = sym (place-refused _ _ (sym (c .before .before .memories-ok .ensures) ∙ not-true _ (c .before .if1 .taken))) in (
-      ap (partAt (lent (now (a .on)) (a .onbase) (now (a .ext)) (a .extbase))) e,
+      ap (partAt (lent (now (a .on)) (a .onbase .0) (now (a .ext)) (a .extbase .0))) e,
       at-start (a .on .ptr) ∙ ap (sourceOf (a .on) (a .ext)) e,
     )
 
@@ -32,7 +28,7 @@ fetch-within-requires c κs = search needs
 returns-2 : tie.Need-returns-2
 returns-2 c = let a = c .before .before .before .before .before .args in
     let e = sym (place-ok _ _ (sym (c .before .before .memories-ok .ensures) ∙ not-false _ (c .before .if1 .left))) in (
-      c .fetch-within .ensures .0 ∙ ap (partAt (lent (now (a .on)) (a .onbase) (now (a .ext)) (a .extbase))) e,
+      c .fetch-within .ensures .0 ∙ ap (partAt (lent (now (a .on)) (a .onbase .0) (now (a .ext)) (a .extbase .0))) e,
       c .fetch-within .ensures .1 ∙ ap (sourceOf (a .on) (a .ext)) e,
     )
 

@@ -1,8 +1,5 @@
+use Rattle.memory.proofs.Names.{lent, partAt, sourceOf, Inside, sym, _∙_, ap, subst, now, needs}
 use Rattle.memory.proofs.Places.{inside-within, at-start}
-use Rattle.memory.specs.Memory.{lent, partAt, sourceOf, Inside}
-use mathlib.Core.Path.{sym, _∙_, ap, subst}
-use denote.Ref.{now}
-use borrow.Author.Needs.{needs}
 use Rattle.memory.proofs.fetch_within.Statement.{statement}
 use Rattle.memory.proofs.fetch_within.Tie as tie
 
@@ -36,21 +33,21 @@ part-result-end c = search needs
 returns : tie.Need-returns
 returns c = let a = c .before .before .before .before .before .before .before .args in
     let e = sym (c .before .before .p .given .1) ∙ c .before .before .before .before .locate-within .ensures in (
-      c .four .ensures .0 ∙ ap (partAt (lent (now (a .on)) (a .onbase) (now (a .ext)) (a .extbase))) e,
+      c .four .ensures .0 ∙ ap (partAt (lent (now (a .on)) (a .onbase .0) (now (a .ext)) (a .extbase .0))) e,
       c .four .ensures .1 ∙ ap (sourceOf (a .on) (a .ext)) e,
     )
 
 returns-2 : tie.Need-returns-2
 returns-2 c = let a = c .before .before .before .before .before .before .before .args in
     let e = sym (c .before .before .p2 .given .1) ∙ c .before .before .before .before .locate-within .ensures in (
-      c .four2 .ensures .0 ∙ ap (partAt (lent (now (a .on)) (a .onbase) (now (a .ext)) (a .extbase))) e,
+      c .four2 .ensures .0 ∙ ap (partAt (lent (now (a .on)) (a .onbase .0) (now (a .ext)) (a .extbase .0))) e,
       c .four2 .ensures .1 ∙ ap (sourceOf (a .on) (a .ext)) e,
     )
 
 returns-3 : tie.Need-returns-3
 returns-3 c = let a = c .before .before .before .before .before .before .args in
     let e = sym (c .before .enum-told .given .1) ∙ c .before .before .before .locate-within .ensures in (
-      ap (partAt (lent (now (a .on)) (a .onbase) (now (a .ext)) (a .extbase))) e,
+      ap (partAt (lent (now (a .on)) (a .onbase .0) (now (a .ext)) (a .extbase .0))) e,
       at-start (a .on .ptr) ∙ ap (sourceOf (a .on) (a .ext)) e,
     )
 

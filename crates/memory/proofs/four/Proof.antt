@@ -1,9 +1,6 @@
-use lib.ListN.{take, drop}
+use Rattle.memory.specs.Names.{take, drop, ℕ}
+use Rattle.memory.proofs.Names.{refl, ap, now, needs}
 use native.Mathlib.Nat.{add-sub-cancel-left}
-use mathlib.Core.Path.{refl, ap}
-use denote.Ref.{now}
-use Prim.Native.Nat.{ℕ}
-use borrow.Author.Needs.{needs}
 use Rattle.memory.proofs.four.Statement.{statement}
 use Rattle.memory.proofs.four.Tie as tie
 

@@ -1,7 +1,5 @@
+use Rattle.memory.proofs.Names.{sym, _∙_, not-true, not-false, needs}
 use Rattle.memory.proofs.Places.{place-ok, place-refused}
-use mathlib.Core.Path.{sym, _∙_}
-use borrow.Author.Tests.{not-true, not-false}
-use borrow.Author.Needs.{needs}
 use Rattle.memory.proofs.locate.Statement.{statement}
 use Rattle.memory.proofs.locate.Tie as tie
 

@@ -1,5 +1,4 @@
-use Rattle.memory.specs.Memory.{placeWithin}
-use borrow.Author.Needs.{needs}
+use Rattle.memory.proofs.Names.{placeWithin, needs}
 use Rattle.memory.proofs.locate_within.Statement.{statement}
 use Rattle.memory.proofs.locate_within.Tie as tie
 

@@ -1,7 +1,5 @@
+use Rattle.memory.proofs.Names.{sym, _∙_, pick-yes, pick-no, needs}
 use Rattle.memory.proofs.Apart.{held-from}
-use mathlib.Core.Path.{sym, _∙_}
-use Rattle.page.proofs.Picks.{pick-yes, pick-no}
-use borrow.Author.Needs.{needs}
 use Rattle.memory.proofs.place_of.Statement.{statement}
 use Rattle.memory.proofs.place_of.Tie as tie
 

@@ -1,7 +1,6 @@
+use Rattle.mkimage.proofs.Names.{sym, needs}
 use Rattle.mkimage.proofs.Texts.{shown-fits}
 use lib.Seq.{length-take-le}
-use mathlib.Core.Path.{sym}
-use borrow.Author.Needs.{needs}
 use Rattle.mkimage.proofs.main.Statement.{statement}
 use Rattle.mkimage.proofs.main.Tie as tie
 

@@ -28,7 +28,9 @@ mul-ram : tie.Need-mul-ram
 mul-ram c = search needs
 
 add-ram : tie.Need-add-ram
-add-ram c = record { fits = omega (arith, c .page-start2 .ensures, start-1024 (c .before .before .before .args .k) (c .before .before .before .args .frame .0), upper-le (lowBits (c .before .before .before .args .k)) (c .before .before .before .args .frame .0)) }
+add-ram c =
+    let s3 = c .before .before .before in
+    record { fits = omega (arith, c .page-start2 .ensures, start-1024 (s3 .args .k) (s3 .args .frame .0), upper-le (lowBits (s3 .args .k)) (s3 .args .frame .0)) }
 
 abbrev words : ℕ → ℕ → Words
 words x y = record { cam = x; ram = y }

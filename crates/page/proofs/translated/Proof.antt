@@ -14,7 +14,7 @@ join-requires c κs = search needs
 
 returns : tie.Need-returns
 unfolding wordAddress
-returns c = ap physical (c .join .ensures ∙ ap (λ (k : Kind). joined (lowBits k) (c .before .before .args .ram) (c .before .before .args .va .0)) (c .before .kind-of .ensures))
+returns c = c .join .ensures ∙ ap (λ (k : Kind). physical (joined (lowBits k) (c .before .before .args .ram) (c .before .before .args .va .0))) (c .before .kind-of .ensures)
 
 pub translated-spec : {M : Type 1} → statement M
 translated-spec = tie.close (tie.spec kind-of-requires join-requires returns)

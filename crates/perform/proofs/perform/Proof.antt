@@ -1,23 +1,9 @@
+use Rattle.perform.specs.Names.{lent, bankOf, _≡_, ℕ, _%_, _<_, Bank, Walked, withCopied, entryOf, shiftBy, Shift, Answer, Said}
+use Rattle.perform.proofs.Names.{doneOf, quietPerformed, quietly, Fit, refl, _∙_, ap, subst, now, arith, getD, needs}
 use Rattle.perform.proofs.Doing.{plan-performs, attempt-performs, reset-performs}
-use Rattle.perform.specs.Performed.{doneOf, quietPerformed, quietly, Fit}
-use Rattle.memory.specs.Memory.{lent}
-use Rattle.bank.specs.InPlace.{bankOf}
-use mathlib.Core.Path.{_≡_, refl, _∙_, ap, subst}
-use denote.Ref.{now}
-use native.Mathlib.Omega.{arith}
-use Prim.Native.Nat.{ℕ, _%_, _<_}
-use lib.ListN.{getD}
-use Rattle.bank.specs.declared.Bank.{Bank}
 use Rattle.bank.specs.Changes.{storedAt}
-use Rattle.walk.specs.declared.Walked.{Walked}
-use Rattle.registers.specs.Fields.{withCopied, entryOf}
 use Rattle.registers.specs.declared.Entry.{Entry}
-use Rattle.decision.specs.Prefetches.{shiftBy}
-use Rattle.decision.specs.declared.Shift.{Shift}
 use Rattle.lanes.specs.Lanes.{flushedEntry}
-use Rattle.registers.specs.declared.Answer.{Answer}
-use Rattle.decision.specs.declared.Said.{Said}
-use borrow.Author.Needs.{needs}
 use Rattle.perform.proofs.perform.Statement.{statement}
 use Rattle.perform.proofs.perform.Tie as tie
 
@@ -39,7 +25,7 @@ returns c = λ sp fit.
     let s14 = s8 .before .before .before .before .before .before in
     let s20 = s14 .before .before .before .before .before .before in
     let x = s20 .args in
-    let m = lent (now (x .on)) (x .onbase) (now (x .ext)) (x .extbase) in
+    let m = lent (now (x .on)) (x .onbase .0) (now (x .ext)) (x .extbase .0) in
     attempt-performs m (x .prices) (x .bill) (x .r) (now (x .cam)) (now (x .ram)) (now (x .lows)) (now (x .highs)) (x .lock) (x .victim) (x .p) (x .plan) _ _ _
     (s14 .plan .given .1) sp fit _ (s8 .attempt .ensures) _ _ _ _ _ (c .before .take .ensures) _ (c .registers-after .ensures)
 
@@ -54,7 +40,7 @@ returns-2 c = λ sp fit.
     let s2 = c .before .before in
     let s8 = s2 .before .before .before .before .before .before in
     let x = s8 .args in
-    let m = lent (now (x .on)) (x .onbase) (now (x .ext)) (x .extbase) in
+    let m = lent (now (x .on)) (x .onbase .0) (now (x .ext)) (x .extbase .0) in
     plan-performs m (x .prices) (x .bill) (x .r) (now (x .cam)) (now (x .ram)) (now (x .lows)) (now (x .highs)) (x .lock) (x .victim) (x .p) (x .plan) _ (s2 .plan2 .given .1) _ _
     (c .quietly .ensures) _ _ _ _ (refl) (sp)
 
@@ -68,7 +54,7 @@ returns-3 : tie.Need-returns-3
 returns-3 c = λ sp fit.
     let s7 = c .before .before .before .before .before .before .before in
     let x = s7 .args in
-    let m = lent (now (x .on)) (x .onbase) (now (x .ext)) (x .extbase) in
+    let m = lent (now (x .on)) (x .onbase .0) (now (x .ext)) (x .extbase .0) in
     plan-performs m (x .prices) (x .bill) (x .r) (now (x .cam)) (now (x .ram)) (now (x .lows)) (now (x .highs)) (x .lock) (x .victim) (x .p) (x .plan) _
     (c .before .enum-told .given .1) _ _ (c .quietly2 .ensures) _ _ _ _ (refl) (sp)
 
@@ -86,7 +72,7 @@ returns-4 c = λ sp fit.
     let s3 = c .before .before .before in
     let s9 = s3 .before .before .before .before .before .before in
     let x = s9 .args in
-    let m = lent (now (x .on)) (x .onbase) (now (x .ext)) (x .extbase) in
+    let m = lent (now (x .on)) (x .onbase .0) (now (x .ext)) (x .extbase .0) in
     plan-performs m (x .prices) (x .bill) (x .r) (now (x .cam)) (now (x .ram)) (now (x .lows)) (now (x .highs)) (x .lock) (x .victim) (x .p) (x .plan) _ (s3 .plan3 .given .1) _ _
     (c .quietly3 .ensures) _ _ _ _
     (ap (λ y. doneOf (quietPerformed (x .r) (x .lock) (x .victim) (x .p) (x .bill) (Said.Answered y)) (now (x .cam)) (now (x .ram))) (c .before .value-at .ensures)) (sp)
@@ -105,7 +91,7 @@ returns-5 c = λ sp fit.
     let s3 = c .before .before .before in
     let s9 = s3 .before .before .before .before .before .before in
     let x = s9 .args in
-    let m = lent (now (x .on)) (x .onbase) (now (x .ext)) (x .extbase) in
+    let m = lent (now (x .on)) (x .onbase .0) (now (x .ext)) (x .extbase .0) in
     plan-performs m (x .prices) (x .bill) (x .r) (now (x .cam)) (now (x .ram)) (now (x .lows)) (now (x .highs)) (x .lock) (x .victim) (x .p) (x .plan) _ (s3 .plan4 .given .1) _ _
     (c .quietly4 .ensures) _ _ _ _
     (ap (λ y. doneOf (quietPerformed y (x .lock) (x .victim) (x .p) (x .bill) (Said.Answered Answer.Done)) (now (x .cam)) (now (x .ram))) (c .before .set .ensures)) (sp)
@@ -121,7 +107,7 @@ returns-6 c = λ sp fit.
     let s2 = c .before .before in
     let s8 = s2 .before .before .before .before .before .before in
     let x = s8 .args in
-    let m = lent (now (x .on)) (x .onbase) (now (x .ext)) (x .extbase) in
+    let m = lent (now (x .on)) (x .onbase .0) (now (x .ext)) (x .extbase .0) in
     plan-performs m (x .prices) (x .bill) (x .r) (now (x .cam)) (now (x .ram)) (now (x .lows)) (now (x .highs)) (x .lock) (x .victim) (x .p) (x .plan) _ (s2 .plan5 .given .1) _ _
     (c .quietly5 .ensures) _ _ _ _ (refl) (sp)
 
@@ -139,7 +125,7 @@ returns-7 c = λ sp fit.
     let s5 = c .before .before .before .before .before in
     let s11 = s5 .before .before .before .before .before .before in
     let x = s11 .args in
-    let m = lent (now (x .on)) (x .onbase) (now (x .ext)) (x .extbase) in
+    let m = lent (now (x .on)) (x .onbase .0) (now (x .ext)) (x .extbase .0) in
     plan-performs m (x .prices) (x .bill) (x .r) (now (x .cam)) (now (x .ram)) (now (x .lows)) (now (x .highs)) (x .lock) (x .victim) (x .p) (x .plan) _ (s5 .enum-told2 .given .1)
     _ _ (c .quietly6 .ensures) _ _ _ _
     (ap (λ y. doneOf (quietPerformed (x .r) (x .lock) (x .victim) (x .p) (x .bill) (Said.Answered Answer.Done)) y (now (x .ram))) (c .before .flush .ensures sp .cam-is))
@@ -163,7 +149,7 @@ returns-8 c = λ sp fit.
     let s6 = s2 .before .before .before .before in
     let s12 = s6 .before .before .before .before .before .before in
     let x = s12 .args in
-    let m = lent (now (x .on)) (x .onbase) (now (x .ext)) (x .extbase) in
+    let m = lent (now (x .on)) (x .onbase .0) (now (x .ext)) (x .extbase .0) in
     plan-performs m (x .prices) (x .bill) (x .r) (now (x .cam)) (now (x .ram)) (now (x .lows)) (now (x .highs)) (x .lock) (x .victim) (x .p) (x .plan) _ (s6 .enum-told3 .given .1)
     _ _ (c .quietly7 .ensures) _ _ _ _
     (ap (λ y. doneOf (quietPerformed (x .r) (x .lock) (x .victim) (x .p) (x .bill) (Said.Answered Answer.Done)) y (now (x .ram)))
@@ -187,7 +173,7 @@ returns-9 c = λ sp fit.
     let s7 = s6 .before in
     let s13 = s7 .before .before .before .before .before .before in
     let x = s13 .args in
-    let m = lent (now (x .on)) (x .onbase) (now (x .ext)) (x .extbase) in
+    let m = lent (now (x .on)) (x .onbase .0) (now (x .ext)) (x .extbase .0) in
     let l : x .victim < 32 = subst (Fit (x .r .control) (now (x .cam)) (x .lock) (x .victim)) (s7 .enum-told4 .given .1) fit in
     let s = c .before .store .ensures sp l in
     plan-performs m (x .prices) (x .bill) (x .r) (now (x .cam)) (now (x .ram)) (now (x .lows)) (now (x .highs)) (x .lock) (x .victim) (x .p) (x .plan) _ (s7 .enum-told4 .given .1)
@@ -221,7 +207,7 @@ returns-10 c = λ sp fit.
     let s4 = c .before .before .before .before in
     let s10 = s4 .before .before .before .before .before .before in
     let x = s10 .args in
-    let m = lent (now (x .on)) (x .onbase) (now (x .ext)) (x .extbase) in
+    let m = lent (now (x .on)) (x .onbase .0) (now (x .ext)) (x .extbase .0) in
     let l : x .victim < 32 = subst (Fit (x .r .control) (now (x .cam)) (x .lock) (x .victim)) (s4 .enum-told5 .given .1) fit in
     let e : x .victim % 32 ≡ x .victim = omega (arith, l) in
     plan-performs m (x .prices) (x .bill) (x .r) (now (x .cam)) (now (x .ram)) (now (x .lows)) (now (x .highs)) (x .lock) (x .victim) (x .p) (x .plan) _ (s4 .enum-told5 .given .1)
@@ -247,7 +233,7 @@ returns-11 c = λ sp fit.
     let s7 = s2 .before .before .before .before .before in
     let s13 = s7 .before .before .before .before .before .before in
     let x = s13 .args in
-    let m = lent (now (x .on)) (x .onbase) (now (x .ext)) (x .extbase) in
+    let m = lent (now (x .on)) (x .onbase .0) (now (x .ext)) (x .extbase .0) in
     reset-performs m (x .prices) (x .bill) (x .r) (now (x .cam)) (now (x .ram)) (now (x .lows)) (now (x .highs)) (x .lock) (x .victim) (x .p) (x .plan) (s7 .enum-told6 .given .1)
     _ _ (c .quietly10 .ensures) (c .before .fresh .ensures) _ _ _ _ (s2 .clear .ensures)
 
@@ -261,7 +247,7 @@ returns-12 : tie.Need-returns-12
 returns-12 c = λ sp fit.
     let s7 = c .before .before .before .before .before .before .before in
     let x = s7 .args in
-    let m = lent (now (x .on)) (x .onbase) (now (x .ext)) (x .extbase) in
+    let m = lent (now (x .on)) (x .onbase .0) (now (x .ext)) (x .extbase .0) in
     plan-performs m (x .prices) (x .bill) (x .r) (now (x .cam)) (now (x .ram)) (now (x .lows)) (now (x .highs)) (x .lock) (x .victim) (x .p) (x .plan) _
     (c .before .enum-told7 .given .1) _ _ (c .quietly11 .ensures) _ _ _ _ (refl) (sp)
 
@@ -283,7 +269,7 @@ returns-13 c = λ sp fit.
     let s4 = s2 .before .before in
     let s10 = s4 .before .before .before .before .before .before in
     let x = s10 .args in
-    let m = lent (now (x .on)) (x .onbase) (now (x .ext)) (x .extbase) in
+    let m = lent (now (x .on)) (x .onbase .0) (now (x .ext)) (x .extbase .0) in
     plan-performs m (x .prices) (x .bill) (x .r) (now (x .cam)) (now (x .ram)) (now (x .lows)) (now (x .highs)) (x .lock) (x .victim) (x .p) (x .plan) _ (s4 .plan6 .given .1) _ _
     (c .quietly12 .ensures) _ _ _ _
     (ap (λ (y : Shift). quietly (x .r) (bankOf (now (x .cam)) (now (x .ram)) (x .lock) (x .victim)) (x .p) (x .bill) (Said.Reported y))
@@ -300,7 +286,7 @@ returns-14 c = λ sp fit.
     let s2 = c .before .before in
     let s8 = s2 .before .before .before .before .before .before in
     let x = s8 .args in
-    let m = lent (now (x .on)) (x .onbase) (now (x .ext)) (x .extbase) in
+    let m = lent (now (x .on)) (x .onbase .0) (now (x .ext)) (x .extbase .0) in
     plan-performs m (x .prices) (x .bill) (x .r) (now (x .cam)) (now (x .ram)) (now (x .lows)) (now (x .highs)) (x .lock) (x .victim) (x .p) (x .plan) _ (s2 .plan7 .given .1) _ _
     (c .quietly13 .ensures) _ _ _ _ (refl) (sp)
 

@@ -1,11 +1,6 @@
-use Rattle.plan.specs.Plans.{settingAt}
-use Rattle.registers.specs.Fields.{setting}
-use Rattle.page.specs.Pick.{pick}
-use Rattle.page.proofs.Picks.{pick-no}
+use Rattle.perform.specs.Names.{settingAt, setting, pick, _≡_, ℕ}
+use Rattle.perform.proofs.Names.{pick-no, sym, _∙_, ap, needs}
 use borrow.Author.Tests.{ne-eqb}
-use mathlib.Core.Path.{_≡_, sym, _∙_, ap}
-use Prim.Native.Nat.{ℕ}
-use borrow.Author.Needs.{needs}
 use Rattle.perform.proofs.set.Statement.{statement}
 use Rattle.perform.proofs.set.Tie as tie
 

@@ -1,9 +1,7 @@
-use mathlib.Core.Path.{sym, _∙_, ap}
-use Rattle.page.specs.Pick.{_and_}
-use Prim.Native.Nat.{ℕ}
+use Rattle.plan.specs.Names.{_and_, ℕ}
+use Rattle.plan.proofs.Names.{sym, _∙_, ap, commandPlan, needs}
 use Rattle.bill.specs.Bill.{billOk}
-use Rattle.plan.specs.Plans.{commandPlan, prefetchPlan, acknowledgePlan}
-use borrow.Author.Needs.{needs}
+use Rattle.plan.specs.Plans.{prefetchPlan, acknowledgePlan}
 use Rattle.plan.proofs.command.Statement.{statement}
 use Rattle.plan.proofs.command.Tie as tie
 

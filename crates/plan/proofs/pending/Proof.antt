@@ -1,6 +1,5 @@
-use mathlib.Core.Path.{sym, _∙_, ap}
+use Rattle.plan.proofs.Names.{sym, _∙_, ap, needs}
 use Rattle.plan.specs.Plans.{pendingPlan}
-use borrow.Author.Needs.{needs}
 use Rattle.plan.proofs.pending.Statement.{statement}
 use Rattle.plan.proofs.pending.Tie as tie
 

@@ -1,6 +1,4 @@
-use mathlib.Core.Path.{sym}
-use Rattle.page.proofs.Picks.{pick-yes, pick-no}
-use borrow.Author.Tests.{not-true, not-false}
+use Rattle.plan.proofs.Names.{sym, pick-yes, pick-no, not-true, not-false}
 use Rattle.plan.proofs.read.Statement.{statement}
 use Rattle.plan.proofs.read.Tie as tie
 

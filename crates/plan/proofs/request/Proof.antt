@@ -1,10 +1,9 @@
-use mathlib.Core.Path.{sym, _∙_, ap, ap₂}
-use mathlib.Core.Bool.{_&&_, Bool}
-use borrow.Author.Tests.{ltb-true, ltb-false, le-leb, lt-leb}
-use Rattle.plan.specs.declared.Plan.{Plan}
+use Rattle.plan.specs.Names.{Bool, leb}
+use Rattle.plan.proofs.Names.{sym, _∙_, ap, _&&_, le-leb, lt-leb, Plan, needs}
+use mathlib.Core.Path.{ap₂}
+use borrow.Author.Tests.{ltb-true, ltb-false}
 use Rattle.plan.proofs.AtOnce.{attempted, refused}
-use lib.Dec.{ltb, leb}
-use borrow.Author.Needs.{needs}
+use lib.Dec.{ltb}
 use Rattle.plan.proofs.request.Statement.{statement}
 use Rattle.plan.proofs.request.Tie as tie
 

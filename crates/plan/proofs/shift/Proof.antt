@@ -1,6 +1,4 @@
-use mathlib.Core.Path.{sym, _∙_}
-use Rattle.page.proofs.Picks.{pick-yes, pick-no}
-use borrow.Author.Tests.{le-leb, lt-leb, not-true, not-false}
+use Rattle.plan.proofs.Names.{sym, _∙_, pick-yes, pick-no, le-leb, lt-leb, not-true, not-false}
 use Rattle.plan.proofs.shift.Statement.{statement}
 use Rattle.plan.proofs.shift.Tie as tie
 

@@ -1,8 +1,4 @@
-use mathlib.Core.Path.{sym, _∙_, ap}
-use Rattle.page.proofs.Picks.{pick-yes, pick-no}
-use borrow.Author.Tests.{not-true, not-false}
-use Rattle.plan.specs.Plans.{commandPlan}
-use borrow.Author.Needs.{needs}
+use Rattle.plan.proofs.Names.{sym, _∙_, ap, pick-yes, pick-no, not-true, not-false, commandPlan, needs}
 use Rattle.plan.proofs.write.Statement.{statement}
 use Rattle.plan.proofs.write.Tie as tie
 

@@ -1,5 +1,4 @@
-use Rattle.prices.specs.Prices.{figureOk}
-use Rattle.page.proofs.Picks.{and-is}
+use Rattle.prices.proofs.Names.{figureOk, and-is}
 use Rattle.prices.proofs.figure_ok.Statement.{statement}
 use Rattle.prices.proofs.figure_ok.Tie as tie
 

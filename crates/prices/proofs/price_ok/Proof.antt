@@ -1,8 +1,5 @@
-use Rattle.prices.specs.Prices.{every, priceOk}
-use mathlib.Core.Path.{sym, _∙_, ap, ap₂}
-use mathlib.Core.Bool.{_&&_}
-use Rattle.page.proofs.Picks.{and-is}
-use borrow.Author.Needs.{needs}
+use Rattle.prices.proofs.Names.{every, sym, _∙_, ap, ap₂, _&&_, and-is, needs}
+use Rattle.prices.specs.Prices.{priceOk}
 use Rattle.prices.proofs.price_ok.Statement.{statement}
 use Rattle.prices.proofs.price_ok.Tie as tie
 

@@ -1,7 +1,4 @@
-use mathlib.Core.Path.{_∙_, ap₂}
-use mathlib.Core.Bool.{_&&_}
-use Rattle.page.proofs.Picks.{and-is}
-use borrow.Author.Needs.{needs}
+use Rattle.prices.proofs.Names.{_∙_, ap₂, _&&_, and-is, needs}
 use Rattle.prices.proofs.prices_ok.Statement.{statement}
 use Rattle.prices.proofs.prices_ok.Tie as tie
 

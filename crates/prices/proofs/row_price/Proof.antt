@@ -1,8 +1,4 @@
-use Rattle.prices.specs.Prices.{rowPrice}
-use mathlib.Core.Path.{sym}
-use Rattle.page.proofs.Picks.{pick-yes, pick-no}
-use borrow.Author.Tests.{eq-eqb, ne-eqb}
-use borrow.Author.Needs.{needs}
+use Rattle.prices.proofs.Names.{rowPrice, sym, pick-yes, pick-no, eq-eqb, ne-eqb, needs}
 use Rattle.prices.proofs.row_price.Statement.{statement}
 use Rattle.prices.proofs.row_price.Tie as tie
 

@@ -1,5 +1,4 @@
-use Rattle.prices.specs.Prices.{wordPrice}
-use borrow.Author.Needs.{needs}
+use Rattle.prices.proofs.Names.{wordPrice, needs}
 use Rattle.prices.proofs.word_price.Statement.{statement}
 use Rattle.prices.proofs.word_price.Tie as tie
 

@@ -1,5 +1,5 @@
+use Rattle.records.proofs.Names.{sym}
 use Rattle.records.proofs.Listed.{mappings-length}
-use mathlib.Core.Path.{sym}
 use Rattle.records.proofs.count.Statement.{statement}
 use Rattle.records.proofs.count.Tie as tie
 

@@ -1,10 +1,5 @@
-use lib.Dec.{eqb}
-use Rattle.records.specs.Mappings.{holds}
-use Rattle.page.proofs.Slot.{lowBits-le}
-use mathlib.Core.Path.{ap}
-use native.Mathlib.Omega.{arith}
-use Prim.Native.Nat.{ℕ, _/_, _^_}
-use borrow.Author.Needs.{needs}
+use Rattle.records.specs.Names.{eqb, ℕ, _/_, _^_}
+use Rattle.records.proofs.Names.{holds, lowBits-le, ap, arith, needs}
 use Rattle.records.proofs.holds.Statement.{statement}
 use Rattle.records.proofs.holds.Tie as tie
 

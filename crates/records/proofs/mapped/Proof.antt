@@ -1,10 +1,5 @@
-use lib.ListN.{take, drop}
-use Prim.Native.Nat.{_-_, ℕ, _+_, _*_}
-use Rattle.records.specs.Mappings.{mappingOf}
-use mathlib.Core.Path.{_≡_, _∙_, ap}
-use denote.Ref.{now}
-use native.Mathlib.Omega.{arith}
-use borrow.Author.Needs.{needs}
+use Rattle.records.specs.Names.{take, drop, ℕ, _+_, _*_, _≡_}
+use Rattle.records.proofs.Names.{_-_, mappingOf, _∙_, ap, now, arith, needs}
 use Rattle.records.proofs.mapped.Statement.{statement}
 use Rattle.records.proofs.mapped.Tie as tie
 
@@ -27,7 +22,9 @@ mapping-of-requires : tie.Need-mapping-of-requires
 mapping-of-requires c κs = search needs
 
 returns : tie.Need-returns
-returns c = c .mapping-of .ensures ∙ ap (λ (n : ℕ). mappingOf (take n (drop (12 * c .before .before .before .args .i) (now (c .before .before .before .args .records))))) (let e : 12 * c .before .before .before .args .i + 12 - 12 * c .before .before .before .args .i ≡ 12 = omega arith in e)
+returns c =
+    let s3 = c .before .before .before in
+    c .mapping-of .ensures ∙ ap (λ (n : ℕ). mappingOf (take n (drop (12 * s3 .args .i) (now (s3 .args .records))))) (let e : 12 * s3 .args .i + 12 - 12 * s3 .args .i ≡ 12 = omega arith in e)
 
 pub mapped-spec : {M : Type 1} → statement M
 mapped-spec =

@@ -1,6 +1,5 @@
+use Rattle.records.proofs.Names.{sym, _∙_, needs}
 use Rattle.records.proofs.Listed.{mappings-at, mappings-past}
-use mathlib.Core.Path.{sym, _∙_}
-use borrow.Author.Needs.{needs}
 use Rattle.records.proofs.mapping_at.Statement.{statement}
 use Rattle.records.proofs.mapping_at.Tie as tie
 

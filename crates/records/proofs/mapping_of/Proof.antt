@@ -1,5 +1,4 @@
-use Rattle.records.specs.Mappings.{mappingOf}
-use borrow.Author.Needs.{needs}
+use Rattle.records.proofs.Names.{mappingOf, needs}
 use Rattle.records.proofs.mapping_of.Statement.{statement}
 use Rattle.records.proofs.mapping_of.Tie as tie
 
@@ -26,7 +25,12 @@ wide-requires-2 c κs = search needs
 
 returns : tie.Need-returns
 unfolding mappingOf
-returns c = rw (c .wide2 .ensures, c .before .before .kind-of .ensures, c .before .before .before .wide .ensures, c .before .before .before .before .before .word-at2 .ensures, c .before .before .before .before .before .before .word-at .ensures)
+returns c =
+    let s2 = c .before .before in
+    let s3 = s2 .before in
+    let s5 = s3 .before .before in
+    let s6 = s5 .before in
+    rw (c .wide2 .ensures, s2 .kind-of .ensures, s3 .wide .ensures, s5 .word-at2 .ensures, s6 .word-at .ensures)
 
 pub mapping-of-spec : {M : Type 1} → statement M
 mapping-of-spec =

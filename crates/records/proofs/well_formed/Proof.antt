@@ -1,17 +1,6 @@
-use mathlib.Core.Path.{sym, ap, ap₂, _∙_}
-use native.Mathlib.Omega.{arith}
-use Prim.Native.Nat.{ℕ, _%_, _^_}
-use lib.Dec.{eqb}
-use lib.Bits.{bitOr}
-use lib.Pow.{pow-pos}
-use Rattle.page.specs.Words.{lowBits}
-use Rattle.page.specs.declared.Kind.{Kind}
-use Rattle.page.proofs.Picks.{and-no}
-use Rattle.page.proofs.Slot.{lowBits-le}
-use Rattle.records.specs.Checks.{wellFormed}
-use borrow.Author.Tests.{lt-leb}
+use Rattle.records.specs.Names.{ℕ, _%_, _^_, eqb, lowBits, Kind}
+use Rattle.records.proofs.Names.{sym, ap, ap₂, _∙_, arith, bitOr, pow-pos, and-no, lowBits-le, wellFormed, lt-leb, needs}
 use Rattle.records.proofs.Rest.{rest-wrong, type-wrong, rest-past, rest-proper, one-shifted}
-use borrow.Author.Needs.{needs}
 use Rattle.records.proofs.well_formed.Statement.{statement}
 use Rattle.records.proofs.well_formed.Tie as tie
 
@@ -24,13 +13,20 @@ word-at-requires c κs = search needs
 
 returns-2 : tie.Need-returns-2
 returns-2 c =
+    let s2 = c .before .before in
+    let s3 = s2 .before in
+    let s4 = s3 .before in
     let w = c .before .word-at in
-    rest-wrong (c .before .before .before .before .args .r .now) (c .before .before .if1 .left) (λ i. c .before .before .before .shared-slice-known .given i .fits) (w .result) (w .ensures) (c .if2 .taken)
+    rest-wrong (s4 .args .r .now) (s2 .if1 .left) (λ i. s3 .shared-slice-known .given i .fits) (w .result) (w .ensures) (c .if2 .taken)
 
 returns-3 : tie.Need-returns-3
 returns-3 c =
-    let w = c .before .before .word-at in
-    type-wrong (c .before .before .before .before .before .args .r .now) (c .before .before .before .if1 .left) (λ i. c .before .before .before .before .shared-slice-known .given i .fits) (w .result) (w .ensures) (c .if3 .taken)
+    let s2 = c .before .before in
+    let s3 = s2 .before in
+    let s4 = s3 .before in
+    let s5 = s4 .before in
+    let w = s2 .word-at in
+    type-wrong (s5 .args .r .now) (s3 .if1 .left) (λ i. s4 .shared-slice-known .given i .fits) (w .result) (w .ensures) (c .if3 .taken)
 
 word-at-requires-2 : tie.Need-word-at-requires-2
 word-at-requires-2 c κs = search needs
@@ -40,9 +36,16 @@ word-at-requires-3 c κs = search needs
 
 returns-4 : tie.Need-returns-4
 returns-4 c =
-    let w = c .before .before .before .before .before .word-at in
-    rest-past (c .before .before .before .before .before .before .before .before .args .r .now) (c .before .before .before .before .before .before .if1 .left) (λ i. c .before .before .before .before .before .before .before .shared-slice-known .given i .fits) (w .result) (w .ensures) (c .before .before .before .before .if2 .left) (c .before .before .before .if3 .left)
-    (omega (arith, c .if4 .taken, c .before .before .word-at2 .ensures))
+    let s2 = c .before .before in
+    let s3 = s2 .before in
+    let s4 = s3 .before in
+    let s5 = s4 .before in
+    let s6 = s5 .before in
+    let s7 = s6 .before in
+    let s8 = s7 .before in
+    let w = s5 .word-at in
+    rest-past (s8 .args .r .now) (s6 .if1 .left) (λ i. s7 .shared-slice-known .given i .fits) (w .result) (w .ensures) (s4 .if2 .left) (s3 .if3 .left)
+    (omega (arith, c .if4 .taken, s2 .word-at2 .ensures))
 
 kind-of-requires : tie.Need-kind-of-requires
 kind-of-requires c κs = search needs
@@ -60,14 +63,23 @@ rem-result c =
 
 returns-5 : tie.Need-returns-5
 returns-5 c =
-    let w = c .before .before .before .before .before .before .before .word-at in
-    let at = c .before .before .before .before .word-at2 in
-    let to = c .before .before .before .word-at3 in
+    let s2 = c .before .before in
+    let s3 = s2 .before in
+    let s4 = s3 .before in
+    let s5 = s4 .before in
+    let s6 = s5 .before in
+    let s7 = s6 .before in
+    let s8 = s7 .before in
+    let s9 = s8 .before in
+    let s10 = s9 .before in
+    let w = s7 .word-at in
+    let at = s4 .word-at2 in
+    let to = s3 .word-at3 in
     let k = c .before .kind-of in
     ap₂ (λ (x y : ℕ). eqb (x % y) 0) (ap₂ bitOr (at .ensures) (to .ensures))
     (one-shifted (c .low-bits .result) (lowBits (k .result)) (c .low-bits .ensures) (lowBits-le (k .result)) ∙ ap (λ (x : Kind). 2 ^ lowBits x) (k .ensures))
-    ∙ rest-proper (c .before .before .before .before .before .before .before .before .before .before .args .r .now) (c .before .before .before .before .before .before .before .before .if1 .left) (λ i. c .before .before .before .before .before .before .before .before .before .shared-slice-known .given i .fits) (w .result) (w .ensures) (c .before .before .before .before .before .before .if2 .left) (c .before .before .before .before .before .if3 .left)
-    (omega (arith, c .before .before .if4 .left, at .ensures))
+    ∙ rest-proper (s10 .args .r .now) (s8 .if1 .left) (λ i. s9 .shared-slice-known .given i .fits) (w .result) (w .ensures) (s6 .if2 .left) (s5 .if3 .left)
+    (omega (arith, s2 .if4 .left, at .ensures))
 
 pub well-formed-spec : {M : Type 1} → statement M
 well-formed-spec =

@@ -1,10 +1,5 @@
-use lib.ListN.{take, drop}
-use Prim.Native.Nat.{ℕ, _+_, _-_}
-use mathlib.Core.Path.{_≡_, _∙_, ap}
-use denote.Ref.{now}
-use native.Mathlib.Omega.{arith}
-use Rattle.wire.specs.Words.{wordOf}
-use borrow.Author.Needs.{needs}
+use Rattle.records.specs.Names.{take, drop, ℕ, _+_, _≡_, wordOf}
+use Rattle.records.proofs.Names.{_-_, _∙_, ap, now, arith, needs}
 use Rattle.records.proofs.word_at.Statement.{statement}
 use Rattle.records.proofs.word_at.Tie as tie
 
@@ -24,7 +19,9 @@ word-of-requires : tie.Need-word-of-requires
 word-of-requires c κs = search needs
 
 returns : tie.Need-returns
-returns c = c .word-of .ensures ∙ ap (λ (n : ℕ). wordOf (take n (drop (c .before .before .before .args .i) (now (c .before .before .before .args .r))))) (let e : c .before .before .before .args .i + 4 - c .before .before .before .args .i ≡ 4 = omega arith in e)
+returns c =
+    let s3 = c .before .before .before in
+    c .word-of .ensures ∙ ap (λ (n : ℕ). wordOf (take n (drop (s3 .args .i) (now (s3 .args .r))))) (let e : s3 .args .i + 4 - s3 .args .i ≡ 4 = omega arith in e)
 
 pub word-at-spec : {M : Type 1} → statement M
 word-at-spec =

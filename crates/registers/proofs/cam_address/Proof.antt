@@ -1,9 +1,5 @@
-use Rattle.page.specs.declared.Words.{Words}
-use Rattle.page.specs.Words.{virtual}
-use Rattle.registers.specs.Fields.{camAddress}
-use mathlib.Core.Path.{ap}
-use Prim.Native.Nat.{_*_, _/_, _%_, _^_}
-use borrow.Author.Needs.{needs}
+use Rattle.registers.specs.Names.{Words, virtual, _*_, _/_, _%_, _^_}
+use Rattle.registers.proofs.Names.{camAddress, ap, needs}
 use Rattle.registers.proofs.cam_address.Statement.{statement}
 use Rattle.registers.proofs.cam_address.Tie as tie
 

@@ -1,6 +1,5 @@
+use Rattle.registers.proofs.Names.{sym, ap, needs}
 use Rattle.registers.specs.Fields.{pendingOk}
-use mathlib.Core.Path.{sym, ap}
-use borrow.Author.Needs.{needs}
 use Rattle.registers.proofs.pending_ok.Statement.{statement}
 use Rattle.registers.proofs.pending_ok.Tie as tie
 

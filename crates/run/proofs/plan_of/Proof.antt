@@ -1,8 +1,5 @@
-use Rattle.page.specs.Pick.{_and_}
-use Rattle.bill.specs.Bill.{billOk}
-use Rattle.run.specs.Planned.{planOf}
-use mathlib.Core.Path.{sym, _∙_, ap}
-use borrow.Author.Needs.{needs}
+use Rattle.run.specs.Names.{_and_, billOk}
+use Rattle.run.proofs.Names.{planOf, sym, _∙_, ap, needs}
 use Rattle.run.proofs.plan_of.Statement.{statement}
 use Rattle.run.proofs.plan_of.Tie as tie
 

@@ -1,26 +1,15 @@
-use Rattle.run.specs.Planned.{benchOf}
-use Rattle.run.specs.Run.{sessionWords, ran}
+use Rattle.run.specs.Names.{Call, lent, placed, ℕ, _+_, _*_, _≤_, length, List}
+use Rattle.run.proofs.Names.{benchOf, sessionWords, isGood, bankOf, _-_, refl, sym, _∙_, ap, ap₂, now, arith, needs}
+use Rattle.run.specs.Run.{ran}
 use Rattle.run.proofs.Going.{Going, going-fits, going-on}
 use Rattle.run.proofs.Turns.{run-end}
 use Rattle.calls.proofs.Rest.{calls-all, all-good-at}
-use Rattle.calls.specs.declared.Call.{Call}
-use Rattle.calls.specs.Records.{isGood}
-use Rattle.memory.specs.Memory.{lent}
-use Rattle.bank.specs.InPlace.{bankOf}
-use Rattle.wire.specs.Words.{placed}
-use Prim.Native.Nat.{ℕ, _+_, _*_, _-_, _≤_}
-use lib.ListN.{length}
-use mathlib.Core.List.{List}
-use mathlib.Core.Path.{refl, sym, _∙_, ap, ap₂}
-use denote.Ref.{now}
-use native.Mathlib.Omega.{arith}
-use borrow.Author.Needs.{needs}
 use Rattle.run.proofs.run_all.Statement.{statement}
 use Rattle.run.proofs.run_all.Tie as tie
 
 abbrev Inv-loop : tie.InvT-loop
 Inv-loop handed calls on onbase ext extbase prices out₀ n memories money ok r₀ cam₀ ram₀ lock₀ victim₀ p₀ bill₀ meters₀ lows₀ highs₀ i₀ out r cam ram lock victim p bill meters lows highs i =
-    Going (lent on onbase ext extbase) prices handed calls n (benchOf r₀ (bankOf cam₀ ram₀ lock₀ victim₀) p₀ bill₀ meters₀) out₀ out r cam ram lock victim p bill meters lows highs ok i
+    Going (lent on (onbase .0) ext (extbase .0)) prices handed calls n (benchOf r₀ (bankOf cam₀ ram₀ lock₀ victim₀) p₀ bill₀ meters₀) out₀ out r cam ram lock victim p bill meters lows highs ok i
 
 abbrev μ-loop : tie.MeasureT-loop
 μ-loop handed calls on onbase ext extbase prices out₀ n memories money ok r₀ cam₀ ram₀ lock₀ victim₀ p₀ bill₀ meters₀ lows₀ highs₀ i₀ out r cam ram lock victim p bill meters lows highs i =
@@ -114,7 +103,7 @@ loop-again c =
     let s34 = s33 .before in
     let s36 = s34 .before .before in
     let x = s36 .args in
-    let m = lent (now (x .on)) (x .onbase) (now (x .ext)) (x .extbase) in
+    let m = lent (now (x .on)) (x .onbase .0) (now (x .ext)) (x .extbase .0) in
     let l = s16 .loop in
     let n = s31 .count .result in
     let h = s15 .loop-test .taken in
@@ -162,7 +151,7 @@ returns c =
     let s20 = s5 .before .before .before .before .before .before .before .before .before .before .before .before .before .before .before in
     let s25 = s20 .before .before .before .before .before in
     let x = s25 .args in
-    let m = lent (now (x .on)) (x .onbase) (now (x .ext)) (x .extbase) in
+    let m = lent (now (x .on)) (x .onbase .0) (now (x .ext)) (x .extbase .0) in
     let l = s5 .loop in
     let n = s20 .count .result in
     let end = benchOf (l .r) (bankOf (l .cam) (l .ram) (l .lock) (l .victim)) (l .p) (l .bill) (l .meters) in

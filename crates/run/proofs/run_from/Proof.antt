@@ -1,10 +1,7 @@
+use Rattle.run.proofs.Names.{sym, _∙_, not-true, not-false, now, needs}
 use Rattle.run.proofs.Room.{run-good, run-fits}
 use Rattle.run.specs.Run.{runWith}
-use mathlib.Core.Path.{sym, _∙_}
 use Rattle.page.proofs.Picks.{pick-yes, pick-no}
-use borrow.Author.Tests.{not-true, not-false}
-use denote.Ref.{now}
-use borrow.Author.Needs.{needs}
 use Rattle.run.proofs.run_from.Statement.{statement}
 use Rattle.run.proofs.run_from.Tie as tie
 

@@ -1,9 +1,5 @@
-use Rattle.unit.specs.Machine.{stepOut}
-use Rattle.session.specs.declared.Stepped.{Stepped}
-use Rattle.session.specs.Bench.{made}
+use Rattle.session.proofs.Names.{stepOut, Stepped, made, _∙_, ap, needs}
 use Rattle.meters.specs.declared.Tally.{Tally}
-use mathlib.Core.Path.{_∙_, ap}
-use borrow.Author.Needs.{needs}
 use Rattle.session.proofs.kept.Statement.{statement}
 use Rattle.session.proofs.kept.Tie as tie
 

@@ -1,8 +1,4 @@
-use Rattle.decision.specs.declared.Said.{Said}
-use Rattle.session.specs.declared.Stepped.{Stepped}
-use Rattle.meters.specs.declared.Meters.{Meters}
-use mathlib.Core.Path.{ap}
-use borrow.Author.Needs.{needs}
+use Rattle.session.proofs.Names.{Said, Stepped, Meters, ap, needs}
 use Rattle.session.proofs.posted.Statement.{statement}
 use Rattle.session.proofs.posted.Tie as tie
 

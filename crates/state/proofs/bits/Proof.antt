@@ -1,5 +1,5 @@
+use Rattle.state.proofs.Names.{refl}
 use Rattle.state.proofs.Figures.{nan-bits, self-equal}
-use mathlib.Core.Path.{refl}
 use Rattle.state.proofs.bits.Statement.{statement}
 use Rattle.state.proofs.bits.Tie as tie
 

@@ -1,7 +1,5 @@
-use mathlib.Core.List.{[], _∷_}
-use mathlib.Core.Path.{ap₂}
-use Prim.Native.Nat.{ℕ}
-use borrow.Author.Needs.{needs}
+use Rattle.state.specs.Names.{[], _∷_, ℕ}
+use Rattle.state.proofs.Names.{ap₂, needs}
 use Rattle.state.proofs.entry_words.Statement.{statement}
 use Rattle.state.proofs.entry_words.Tie as tie
 

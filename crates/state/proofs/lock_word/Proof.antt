@@ -1,8 +1,4 @@
-use Rattle.state.specs.Parts.{lockWord}
-use mathlib.Core.Path.{sym, _∙_}
-use Rattle.page.proofs.Picks.{pick-yes, pick-no, and-yes, and-no}
-use borrow.Author.Tests.{lt-ltb, le-ltb}
-use borrow.Author.Needs.{needs}
+use Rattle.state.proofs.Names.{lockWord, sym, _∙_, pick-yes, pick-no, and-yes, and-no, lt-ltb, le-ltb, needs}
 use Rattle.state.proofs.lock_word.Statement.{statement}
 use Rattle.state.proofs.lock_word.Tie as tie
 

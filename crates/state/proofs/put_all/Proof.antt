@@ -1,13 +1,7 @@
-use mathlib.Core.List.{List, _++_}
-use Rattle.wire.specs.Words.{wordsPut}
-use Rattle.state.specs.State.{deviceWords}
-use Rattle.state.specs.Parts.{meterWords, billWords}
+use Rattle.state.specs.Names.{List, _++_, wordsPut, ℕ, _+_}
+use Rattle.state.proofs.Names.{deviceWords, meterWords, billWords, refl, _∙_, ap, now, needs}
 use Rattle.state.proofs.Lengths.{device-length}
 use Rattle.state.proofs.Parts.{two}
-use mathlib.Core.Path.{refl, _∙_, ap}
-use denote.Ref.{now}
-use Prim.Native.Nat.{ℕ, _+_}
-use borrow.Author.Needs.{needs}
 use Rattle.state.proofs.put_all.Statement.{statement}
 use Rattle.state.proofs.put_all.Tie as tie
 
@@ -30,10 +24,15 @@ same-length : tie.Need-same-length
 same-length c = search needs
 
 returns : tie.Need-returns
-returns c = let x = c .before .before .before .before .before .before .before .before .before .before .before .before .before .before .args in let b = x .b in
-    two (now (x .out)) (c .before .before .before .before .before .before .before .put-device .last .0) _ (deviceWords (x .handed) (b .device)) (meterWords (b .meters) ++ billWords (b .bill)) (x .at)
-    (device-length (x .handed) (b .device)) refl (c .before .before .before .before .before .before .before .before .before .before .before .before .before .before .pre) (c .before .before .before .before .before .before .before .put-device .kept .0) (c .before .before .before .before .before .before .before .put-device .ensures)
-    (c .before .before .put .ensures ∙ ap (λ (ws : List ℕ). wordsPut (c .before .before .before .before .before .before .before .put-device .last .0) (x .at + 292) ws) (c .before .before .before .before .before .before .before .before .before .rest-words .ensures))
+returns c =
+    let s2 = c .before .before in
+    let s7 = s2 .before .before .before .before .before in
+    let s9 = s7 .before .before in
+    let s14 = s9 .before .before .before .before .before in
+    let x = s14 .args in let b = x .b in
+    two (now (x .out)) (s7 .put-device .last .0) _ (deviceWords (x .handed) (b .device)) (meterWords (b .meters) ++ billWords (b .bill)) (x .at)
+    (device-length (x .handed) (b .device)) refl (s14 .pre) (s7 .put-device .kept .0) (s7 .put-device .ensures)
+    (s2 .put .ensures ∙ ap (λ (ws : List ℕ). wordsPut (s7 .put-device .last .0) (x .at + 292) ws) (s9 .rest-words .ensures))
 
 pub put-all-spec : {M : Type 1} → statement M
 put-all-spec =

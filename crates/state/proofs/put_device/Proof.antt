@@ -1,13 +1,8 @@
-use mathlib.Core.List.{List}
-use Rattle.wire.specs.Words.{wordsPut}
-use Rattle.state.specs.State.{registerWords, slotWords, pendingWords}
-use Rattle.state.specs.Parts.{lockWord}
+use Rattle.state.specs.Names.{List, wordsPut, ℕ, _+_}
+use Rattle.state.proofs.Names.{slotWords, pendingWords, lockWord, refl, _∙_, ap, now, needs}
+use Rattle.state.specs.State.{registerWords}
 use Rattle.state.proofs.Lengths.{slots-length, pending-length}
 use Rattle.state.proofs.Parts.{three}
-use mathlib.Core.Path.{refl, _∙_, ap}
-use denote.Ref.{now}
-use Prim.Native.Nat.{ℕ, _+_}
-use borrow.Author.Needs.{needs}
 use Rattle.state.proofs.put_device.Statement.{statement}
 use Rattle.state.proofs.put_device.Tie as tie
 
@@ -45,12 +40,21 @@ same-length : tie.Need-same-length
 same-length c = search needs
 
 returns : tie.Need-returns
-returns c = let x = c .before .before .before .before .before .before .before .before .before .before .before .before .before .before .before .before .before .before .before .before .before .before .args in let d = x .t3 in let l = now (x .out) in
-    three l (c .before .before .before .before .before .before .before .before .before .before .before .before .before .before .put .last .0) (c .before .before .before .before .before .before .before .put-slots .last .0) _ (registerWords (d .registers) (lockWord (x .handed) (d .bank .lock) (d .bank .victim))) (slotWords (d .bank .cam) (d .bank .ram) 0 32) (pendingWords (d .pending)) (x .at)
-    refl (slots-length (d .bank .cam) (d .bank .ram) 0 32) (pending-length (d .pending)) (c .before .before .before .before .before .before .before .before .before .before .before .before .before .before .before .before .before .before .before .before .before .before .pre) (c .before .before .before .before .before .before .before .before .before .before .before .before .before .before .put .kept .0) (c .before .before .before .before .before .before .before .put-slots .kept .0)
-    (c .before .before .before .before .before .before .before .before .before .before .before .before .before .before .put .ensures ∙ ap (λ (ws : List ℕ). wordsPut l (x .at) ws) (c .before .before .before .before .before .before .before .before .before .before .before .before .before .before .before .before .before .before .register-words .ensures ∙ ap (λ (w : ℕ). registerWords (d .registers) w) (c .before .before .before .before .before .before .before .before .before .before .before .before .before .before .before .before .before .before .before .lock-word .ensures)))
-    (c .before .before .before .before .before .before .before .put-slots .ensures)
-    (c .before .before .put2 .ensures ∙ ap (λ (ws : List ℕ). wordsPut (c .before .before .before .before .before .before .before .put-slots .last .0) (x .at + 284) ws) (c .before .before .before .before .before .before .before .before .before .before .before .before .before .before .before .before .before .pending-words .ensures))
+returns c =
+    let s2 = c .before .before in
+    let s7 = s2 .before .before .before .before .before in
+    let s14 = s7 .before .before .before .before .before .before .before in
+    let s17 = s14 .before .before .before in
+    let s18 = s17 .before in
+    let s19 = s18 .before in
+    let s22 = s19 .before .before .before in
+    let x = s22 .args in let d = x .t3 in let l = now (x .out) in
+    three l (s14 .put .last .0) (s7 .put-slots .last .0) _ (registerWords (d .registers) (lockWord (x .handed) (d .bank .lock) (d .bank .victim)))
+    (slotWords (d .bank .cam) (d .bank .ram) 0 32) (pendingWords (d .pending)) (x .at)
+    refl (slots-length (d .bank .cam) (d .bank .ram) 0 32) (pending-length (d .pending)) (s22 .pre) (s14 .put .kept .0) (s7 .put-slots .kept .0)
+    (s14 .put .ensures ∙ ap (λ (ws : List ℕ). wordsPut l (x .at) ws) (s18 .register-words .ensures ∙ ap (λ (w : ℕ). registerWords (d .registers) w) (s19 .lock-word .ensures)))
+    (s7 .put-slots .ensures)
+    (s2 .put2 .ensures ∙ ap (λ (ws : List ℕ). wordsPut (s7 .put-slots .last .0) (x .at + 284) ws) (s17 .pending-words .ensures))
 
 pub put-device-spec : {M : Type 1} → statement M
 put-device-spec =

@@ -1,13 +1,6 @@
-use lib.ListN.{length}
-use borrow.Author.Needs.{needs}
-use Prim.Native.Nat.{_-_, _+_, _*_, _≤_}
-use Rattle.lanes.specs.Lanes.{slots}
-use Rattle.wire.specs.Words.{placed}
-use Rattle.state.specs.State.{slotWords}
+use Rattle.state.specs.Names.{length, _+_, _*_, _≤_, slots, placed, _≡_}
+use Rattle.state.proofs.Names.{needs, _-_, slotWords, refl, sym, _∙_, now, arith}
 use Rattle.state.proofs.Turns.{slotsLeft, slots-first, slots-turn, slots-end}
-use mathlib.Core.Path.{_≡_, refl, sym, _∙_}
-use denote.Ref.{now}
-use native.Mathlib.Omega.{arith}
 use Rattle.state.proofs.put_slots.Statement.{statement}
 use Rattle.state.proofs.put_slots.Tie as tie
 
@@ -57,7 +50,19 @@ loop-less : tie.Need-loop-less Inv-loop μ-loop
 loop-less c = omega arith
 
 loop-again : tie.Need-loop-again Inv-loop μ-loop
-loop-again c = (omega arith, c .before .before .put .kept .0 ∙ c .before .before .before .before .before .before .before .before .before .before .loop .inv .1, c .before .before .before .before .before .before .before .before .before .before .loop .inv .2 ∙ slots-turn (now (c .before .before .before .before .before .before .before .before .before .before .before .before .args .cam)) (now (c .before .before .before .before .before .before .before .before .before .before .before .before .args .ram)) (c .before .before .before .before .before .before .before .before .before .before .loop .out) (c .before .before .put .last .0) (c .before .before .before .before .before .before .before .before .before .before .before .before .args .at) (c .before .before .before .before .before .before .before .before .before .before .loop .i) _ _ (c .before .before .before .before .before .before .before .before .before .loop-test .taken) (omega (arith, c .before .before .before .before .before .before .before .before .before .before .before .before .pre, c .before .before .before .before .before .before .before .before .before .before .loop .inv .1)) (c .before .before .before .before .before .before .before .swapped .ensures) (c .before .before .before .before .before .swapped2 .ensures) (c .before .before .put .ensures))
+loop-again c =
+    let s2 = c .before .before in
+    let s5 = s2 .before .before .before in
+    let s7 = s5 .before .before in
+    let s9 = s7 .before .before in
+    let s10 = s9 .before in
+    let s12 = s10 .before .before in (
+      omega arith,
+      s2 .put .kept .0 ∙ s10 .loop .inv .1,
+      s10 .loop .inv .2
+          ∙ slots-turn (now (s12 .args .cam)) (now (s12 .args .ram)) (s10 .loop .out) (s2 .put .last .0) (s12 .args .at) (s10 .loop .i) _ _ (s9 .loop-test .taken)
+          (omega (arith, s12 .pre, s10 .loop .inv .1)) (s7 .swapped .ensures) (s5 .swapped2 .ensures) (s2 .put .ensures),
+    )
 
 same-length : tie.Need-same-length Inv-loop μ-loop
 same-length c = search needs

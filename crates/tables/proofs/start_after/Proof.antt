@@ -1,6 +1,4 @@
-use Rattle.tables.specs.Tables.{startAfter}
-use mathlib.Core.Path.{sym, ap}
-use borrow.Author.Needs.{needs}
+use Rattle.tables.proofs.Names.{startAfter, sym, ap, needs}
 use Rattle.tables.proofs.start_after.Statement.{statement}
 use Rattle.tables.proofs.start_after.Tie as tie
 

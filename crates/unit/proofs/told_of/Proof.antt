@@ -1,4 +1,4 @@
-use borrow.Author.Needs.{needs}
+use Rattle.unit.proofs.Names.{needs}
 use Rattle.unit.proofs.told_of.Statement.{statement}
 use Rattle.unit.proofs.told_of.Tie as tie
 

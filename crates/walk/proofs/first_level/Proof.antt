@@ -1,10 +1,5 @@
-use Rattle.walk.specs.Walk.{readWithin, byFirst, coarseAt, fineAt}
-use Rattle.walk.specs.Descriptors.{Room}
-use Rattle.memory.specs.Memory.{lent}
-use mathlib.Core.Path.{sym, _∙_, ap, subst}
-use denote.Ref.{now}
-use native.Mathlib.Omega.{arith}
-use borrow.Author.Needs.{needs}
+use Rattle.walk.specs.Names.{lent}
+use Rattle.walk.proofs.Names.{readWithin, byFirst, coarseAt, fineAt, Room, sym, _∙_, ap, subst, now, arith, needs}
 use Rattle.walk.proofs.first_level.Statement.{statement}
 use Rattle.walk.proofs.first_level.Tie as tie
 
@@ -16,7 +11,7 @@ ended-requires c κs = search needs
 
 returns : tie.Need-returns
 returns c = let a = c .before .before .before .before .before .args in
-    c .ended .ensures ∙ ap (byFirst (readWithin (lent (now (a .on)) (a .onbase) (now (a .ext)) (a .extbase))) (a .va .0) (a .first)) (sym (c .before .enum-told .given .1))
+    c .ended .ensures ∙ ap (byFirst (readWithin (lent (now (a .on)) (a .onbase .0) (now (a .ext)) (a .extbase .0))) (a .va .0) (a .first)) (sym (c .before .enum-told .given .1))
 
 enum-known-d : tie.Need-enum-known-d
 enum-known-d c = search needs
@@ -26,7 +21,7 @@ ended-requires-2 c κs = search needs
 
 returns-2 : tie.Need-returns-2
 returns-2 c = let a = c .before .before .before .before .before .before .args in
-    c .ended2 .ensures ∙ ap (byFirst (readWithin (lent (now (a .on)) (a .onbase) (now (a .ext)) (a .extbase))) (a .va .0) (a .first)) (sym (c .before .before .d .given .1))
+    c .ended2 .ensures ∙ ap (byFirst (readWithin (lent (now (a .on)) (a .onbase .0) (now (a .ext)) (a .extbase .0))) (a .va .0) (a .first)) (sym (c .before .before .d .given .1))
 
 enum-known-d-2 : tie.Need-enum-known-d-2
 enum-known-d-2 c = search needs
@@ -43,7 +38,7 @@ second-level-requires c κs = search needs
 returns-3 : tie.Need-returns-3
 unfolding coarseAt
 returns-3 c = let a = c .before .before .before .before .before .before .before .args in
-    c .second-level .ensures ∙ ap (byFirst (readWithin (lent (now (a .on)) (a .onbase) (now (a .ext)) (a .extbase))) (a .va .0) (a .first)) (sym (c .before .before .before .d2 .given .1))
+    c .second-level .ensures ∙ ap (byFirst (readWithin (lent (now (a .on)) (a .onbase .0) (now (a .ext)) (a .extbase .0))) (a .va .0) (a .first)) (sym (c .before .before .before .d2 .given .1))
 
 enum-known-d-3 : tie.Need-enum-known-d-3
 enum-known-d-3 c = search needs
@@ -60,7 +55,7 @@ second-level-requires-2 c κs = search needs
 returns-4 : tie.Need-returns-4
 unfolding fineAt
 returns-4 c = let a = c .before .before .before .before .before .before .before .args in
-    c .second-level2 .ensures ∙ ap (byFirst (readWithin (lent (now (a .on)) (a .onbase) (now (a .ext)) (a .extbase))) (a .va .0) (a .first)) (sym (c .before .before .before .d3 .given .1))
+    c .second-level2 .ensures ∙ ap (byFirst (readWithin (lent (now (a .on)) (a .onbase .0) (now (a .ext)) (a .extbase .0))) (a .va .0) (a .first)) (sym (c .before .before .before .d3 .given .1))
 
 pub first-level-spec : {M : Type 1} → statement M
 first-level-spec =

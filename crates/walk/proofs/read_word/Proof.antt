@@ -1,7 +1,5 @@
-use Rattle.wire.specs.Words.{wordOf}
-use Rattle.walk.specs.Walk.{readAt, readWithin}
-use mathlib.Core.Path.{ap₂, sym, _∙_, ap}
-use borrow.Author.Needs.{needs}
+use Rattle.walk.specs.Names.{wordOf}
+use Rattle.walk.proofs.Names.{readAt, readWithin, ap₂, sym, _∙_, ap, needs}
 use Rattle.walk.proofs.read_word.Statement.{statement}
 use Rattle.walk.proofs.read_word.Tie as tie
 
@@ -25,11 +23,19 @@ enum-told c = search needs
 
 returns : tie.Need-returns
 unfolding readWithin
-returns c = ap₂ readAt (c .before .before .before .word-of .ensures ∙ ap wordOf (c .before .before .before .before .fetch-within .ensures .0)) (sym (c .before .place .given .1) ∙ c .before .before .before .before .before .locate-within .ensures)
+returns c =
+    let s3 = c .before .before .before in
+    let s4 = s3 .before in
+    let s5 = s4 .before in
+    ap₂ readAt (s3 .word-of .ensures ∙ ap wordOf (s4 .fetch-within .ensures .0)) (sym (c .before .place .given .1) ∙ s5 .locate-within .ensures)
 
 returns-2 : tie.Need-returns-2
 unfolding readWithin
-returns-2 c = ap₂ readAt (c .before .before .before .word-of .ensures ∙ ap wordOf (c .before .before .before .before .fetch-within .ensures .0)) (sym (c .before .place2 .given .1) ∙ c .before .before .before .before .before .locate-within .ensures)
+returns-2 c =
+    let s3 = c .before .before .before in
+    let s4 = s3 .before in
+    let s5 = s4 .before in
+    ap₂ readAt (s3 .word-of .ensures ∙ ap wordOf (s4 .fetch-within .ensures .0)) (sym (c .before .place2 .given .1) ∙ s5 .locate-within .ensures)
 
 returns-3 : tie.Need-returns-3
 unfolding readWithin

@@ -1,8 +1,5 @@
-use Rattle.memory.specs.declared.Reads.{Reads}
-use Rattle.walk.specs.declared.Found.{Found}
-use Rattle.walk.specs.Walk.{afterSecond, sourceAt}
-use mathlib.Core.Path.{sym, _∙_, ap}
-use borrow.Author.Needs.{needs}
+use Rattle.walk.specs.Names.{Reads, Found}
+use Rattle.walk.proofs.Names.{afterSecond, sourceAt, sym, _∙_, ap, needs}
 use Rattle.walk.proofs.second_level.Statement.{statement}
 use Rattle.walk.proofs.second_level.Tie as tie
 

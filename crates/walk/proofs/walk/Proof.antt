@@ -1,7 +1,6 @@
+use Rattle.walk.proofs.Names.{sym, _∙_, needs}
 use Rattle.walk.proofs.Walks.{walk-ok, walk-refused}
-use mathlib.Core.Path.{sym, _∙_}
 use borrow.Author.Tests.{not-true, not-false}
-use borrow.Author.Needs.{needs}
 use Rattle.walk.proofs.walk.Statement.{statement}
 use Rattle.walk.proofs.walk.Tie as tie
 

@@ -1,13 +1,7 @@
-use Rattle.page.specs.Words.{megabytes}
-use Rattle.walk.specs.Descriptors.{Room, firstOf}
-use Rattle.walk.specs.Walk.{baseBits, firstAt, readWithin, sourceAt, byFirst, afterFirst, walkFrom}
+use Rattle.walk.specs.Names.{megabytes, lent, upper}
+use Rattle.walk.proofs.Names.{Room, firstOf, baseBits, firstAt, readWithin, sourceAt, byFirst, afterFirst, walkFrom, sym, _∙_, ap, subst, now}
+use Rattle.walk.proofs.Names.{arith, needs}
 use Rattle.walk.proofs.Laws.{room}
-use Rattle.memory.specs.Memory.{lent}
-use Rattle.page.specs.Low.{upper}
-use mathlib.Core.Path.{sym, _∙_, ap, subst}
-use denote.Ref.{now}
-use native.Mathlib.Omega.{arith}
-use borrow.Author.Needs.{needs}
 use Rattle.walk.proofs.walk_within.Statement.{statement}
 use Rattle.walk.proofs.walk_within.Tie as tie
 
@@ -40,13 +34,18 @@ first-level-requires c κs = subst Room (sym (c .decode-first .ensures)) (room (
 
 returns : tie.Need-returns
 unfolding walkFrom firstAt upper
-returns c = let a = c .before .before .before .before .before .before .before .before .args in
-    c .missing .ensures ∙ ap (afterFirst (readWithin (lent (now (a .on)) (a .onbase) (now (a .ext)) (a .extbase))) firstOf (a .va .0) (firstAt baseBits megabytes (a .base .0) (a .va .0))) (sym (c .before .enum-told .given .1) ∙ c .before .before .before .read-word .ensures)
+returns c =
+    let s3 = c .before .before .before in
+    let s8 = s3 .before .before .before .before .before in
+    let a = s8 .args in
+    c .missing .ensures
+    ∙ ap (afterFirst (readWithin (lent (now (a .on)) (a .onbase .0) (now (a .ext)) (a .extbase .0))) firstOf (a .va .0) (firstAt baseBits megabytes (a .base .0) (a .va .0)))
+    (sym (c .before .enum-told .given .1) ∙ s3 .read-word .ensures)
 
 returns-2 : tie.Need-returns-2
 unfolding walkFrom firstAt upper
 returns-2 c = let a = c .before .before .before .before .before .before .before .before .before .before .args in
-    let rd = readWithin (lent (now (a .on)) (a .onbase) (now (a .ext)) (a .extbase)) in
+    let rd = readWithin (lent (now (a .on)) (a .onbase .0) (now (a .ext)) (a .extbase .0)) in
     let at = firstAt baseBits megabytes (a .base .0) (a .va .0) in
     c .first-level .ensures
     ∙ ap (byFirst rd (a .va .0) (sourceAt at (c .before .before .before .read .given .0 .1 .0))) (c .before .decode-first .ensures)

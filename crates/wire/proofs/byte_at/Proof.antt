@@ -1,7 +1,5 @@
+use Rattle.wire.proofs.Names.{sym, now, needs}
 use lib.ListN.{List·getD-eq-default}
-use mathlib.Core.Path.{sym}
-use denote.Ref.{now}
-use borrow.Author.Needs.{needs}
 use Rattle.wire.proofs.byte_at.Statement.{statement}
 use Rattle.wire.proofs.byte_at.Tie as tie
 

@@ -1,11 +1,5 @@
-use borrow.Author.Tests.{leb-true}
-use lib.ListN.{length}
-use Rattle.wire.specs.Words.{wordsPut}
-use mathlib.Core.Path.{sym, _∙_}
-use Rattle.page.proofs.Picks.{pick-yes, pick-no}
-use denote.Ref.{now}
-use Prim.Native.Nat.{_+_, _*_}
-use borrow.Author.Needs.{needs}
+use Rattle.wire.specs.Names.{length, _+_, _*_}
+use Rattle.wire.proofs.Names.{leb-true, wordsPut, sym, _∙_, pick-yes, pick-no, now, needs}
 use Rattle.wire.proofs.put.Statement.{statement}
 use Rattle.wire.proofs.put.Tie as tie
 
@@ -13,7 +7,10 @@ room-requires : tie.Need-room-requires
 room-requires c κs = search needs
 
 put-all-requires : tie.Need-put-all-requires
-put-all-requires c κs = let x = c .before .before .before .before .before .args in leb-true (x .at + 4 * length (now (x .words))) (length (now (x .out))) (sym (c .before .before .room .ensures) ∙ c .before .if1 .taken)
+put-all-requires c κs =
+    let s2 = c .before .before in
+    let s5 = s2 .before .before .before in
+    let x = s5 .args in leb-true (x .at + 4 * length (now (x .words))) (length (now (x .out))) (sym (s2 .room .ensures) ∙ c .before .if1 .taken)
 
 same-length : tie.Need-same-length
 same-length c = search needs

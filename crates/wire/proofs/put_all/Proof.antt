@@ -1,11 +1,6 @@
-use borrow.Author.Needs.{needs}
-use Prim.Native.Nat.{_-_, _+_, _*_, _≤_}
-use lib.ListN.{length, drop}
-use Rattle.wire.specs.Words.{placed}
+use Rattle.wire.specs.Names.{_-_, _+_, _*_, _≤_, length, drop, _≡_}
+use Rattle.wire.proofs.Names.{needs, placed, refl, sym, _∙_, now, arith}
 use Rattle.wire.proofs.Placing.{words-turn, words-first, words-end}
-use mathlib.Core.Path.{_≡_, refl, sym, _∙_}
-use denote.Ref.{now}
-use native.Mathlib.Omega.{arith}
 use Rattle.wire.proofs.put_all.Statement.{statement}
 use Rattle.wire.proofs.put_all.Tie as tie
 
@@ -40,7 +35,17 @@ loop-less : tie.Need-loop-less Inv-loop μ-loop
 loop-less c = omega arith
 
 loop-again : tie.Need-loop-again Inv-loop μ-loop
-loop-again c = (omega arith, c .before .before .put-word .kept .0 ∙ c .before .before .before .before .before .before .loop .inv .1, c .before .before .before .before .before .before .loop .inv .2 ∙ words-turn (now (c .before .before .before .before .before .before .before .before .before .args .words)) (c .before .before .before .before .before .before .loop .out) (c .before .before .put-word .last .0) (c .before .before .before .before .before .before .before .before .before .args .at) (c .before .before .before .before .before .before .loop .i) (c .before .before .before .before .before .loop-test .taken) (omega (arith, c .before .before .before .before .before .before .before .before .before .pre, c .before .before .before .before .before .before .loop .inv .1)) (c .before .before .put-word .ensures))
+loop-again c =
+    let s2 = c .before .before in
+    let s5 = s2 .before .before .before in
+    let s6 = s5 .before in
+    let s9 = s6 .before .before .before in (
+      omega arith,
+      s2 .put-word .kept .0 ∙ s6 .loop .inv .1,
+      s6 .loop .inv .2
+          ∙ words-turn (now (s9 .args .words)) (s6 .loop .out) (s2 .put-word .last .0) (s9 .args .at) (s6 .loop .i) (s5 .loop-test .taken) (omega (arith, s9 .pre, s6 .loop .inv .1))
+          (s2 .put-word .ensures),
+    )
 
 same-length : tie.Need-same-length Inv-loop μ-loop
 same-length c = search needs

@@ -1,8 +1,6 @@
-use Rattle.wire.specs.Words.{bytesOf, placed}
+use Rattle.wire.proofs.Names.{bytesOf, placed, arith, needs}
 use Rattle.wire.proofs.Splices.{put-four}
-use native.Mathlib.Omega.{arith}
 use lib.ListN.{length-set}
-use borrow.Author.Needs.{needs}
 use Rattle.wire.proofs.put_word.Statement.{statement}
 use Rattle.wire.proofs.put_word.Tie as tie
 

@@ -1,8 +1,6 @@
+use Rattle.wire.specs.Names.{_+_, _*_}
+use Rattle.wire.proofs.Names.{sym, lt-leb, arith, _<_}
 use Rattle.wire.proofs.Placing.{room-for}
-use mathlib.Core.Path.{sym}
-use borrow.Author.Tests.{lt-leb}
-use native.Mathlib.Omega.{arith}
-use Prim.Native.Nat.{_+_, _*_, _<_}
 use Rattle.wire.proofs.room.Statement.{statement}
 use Rattle.wire.proofs.room.Tie as tie
 

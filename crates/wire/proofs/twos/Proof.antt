@@ -1,5 +1,5 @@
+use Rattle.wire.proofs.Names.{arith}
 use Rattle.wire.proofs.Complement.{rest-twos, same-twos, rest-fits, rest-half, rest-casts, casts}
-use native.Mathlib.Omega.{arith}
 use Rattle.wire.proofs.twos.Statement.{statement}
 use Rattle.wire.proofs.twos.Tie as tie
 

@@ -1,8 +1,4 @@
-use Rattle.wire.specs.Words.{wordOf}
-use mathlib.Core.Path.{sym, _∙_}
-use Rattle.page.proofs.Picks.{pick-yes, pick-no}
-use borrow.Author.Tests.{le-leb, lt-leb}
-use borrow.Author.Needs.{needs}
+use Rattle.wire.proofs.Names.{wordOf, sym, _∙_, pick-yes, pick-no, le-leb, lt-leb, needs}
 use Rattle.wire.proofs.word_of.Statement.{statement}
 use Rattle.wire.proofs.word_of.Tie as tie
 

@@ -1,5 +1,5 @@
+use Rattle.bank.proofs.Names.{needs}
 use Rattle.bank.proofs.Ranges.{ok-is}
-use borrow.Author.Needs.{needs}
 use Rattle.bank.proofs.Bank.in_range.Statement.{statement}
 use Rattle.bank.proofs.Bank.in_range.Tie as tie
 

@@ -1,6 +1,5 @@
-use denote.Ref.{now}
+use Rattle.bank.proofs.Names.{now, needs}
 use Rattle.bank.proofs.Changed.{flushed-all}
-use borrow.Author.Needs.{needs}
 use Rattle.bank.proofs.slots.flush.Statement.{statement}
 use Rattle.bank.proofs.slots.flush.Tie as tie
 

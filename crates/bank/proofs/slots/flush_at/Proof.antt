@@ -1,6 +1,5 @@
-use denote.Ref.{now}
+use Rattle.bank.proofs.Names.{now, needs}
 use Rattle.bank.proofs.Changed.{flushed-entry}
-use borrow.Author.Needs.{needs}
 use Rattle.bank.proofs.slots.flush_at.Statement.{statement}
 use Rattle.bank.proofs.slots.flush_at.Tie as tie
 

@@ -1,6 +1,4 @@
-use borrow.Author.Needs.{needs}
-use Prim.Native.Nat.{_-_}
-use Rattle.bank.specs.Spans.{highKept}
+use Rattle.bank.proofs.Names.{needs, _-_, highKept}
 use Rattle.bank.proofs.Ends.{Keeping, keeping-starts, keeping-turns, keeping-ends}
 use Rattle.bank.proofs.slots.highs_kept.Statement.{statement}
 use Rattle.bank.proofs.slots.highs_kept.Tie as tie

@@ -1,6 +1,4 @@
-use mathlib.Core.Path.{sym}
-use borrow.Author.Tests.{lt-ltb, le-ltb}
-use Rattle.page.proofs.Picks.{pick-yes, pick-no}
+use Rattle.bank.proofs.Names.{sym, lt-ltb, le-ltb, pick-yes, pick-no}
 use Rattle.bank.proofs.slots.least.Statement.{statement}
 use Rattle.bank.proofs.slots.least.Tie as tie
 

@@ -1,6 +1,4 @@
-use mathlib.Core.Path.{sym}
-use borrow.Author.Tests.{eq-eqb, ne-eqb}
-use Rattle.page.proofs.Picks.{pick-yes, pick-no}
+use Rattle.bank.proofs.Names.{sym, eq-eqb, ne-eqb, pick-yes, pick-no}
 use Rattle.bank.proofs.slots.low_kept.Statement.{statement}
 use Rattle.bank.proofs.slots.low_kept.Tie as tie
 

@@ -1,5 +1,4 @@
-use borrow.Author.Needs.{needs}
-use Prim.Native.Nat.{_-_}
+use Rattle.bank.proofs.Names.{needs, _-_}
 use Rattle.bank.proofs.Seeking.{Seeking, seeking-starts, seeking-turns, seeking-finds, seeking-misses}
 use Rattle.bank.proofs.slots.search.Statement.{statement}
 use Rattle.bank.proofs.slots.search.Tie as tie

@@ -1,5 +1,5 @@
-use mathlib.Core.Path.{sym, _∙_}
-use Rattle.page.proofs.Picks.{pick-yes, pick-no, and-is}
+use Rattle.bank.proofs.Names.{sym, _∙_, pick-yes, pick-no}
+use Rattle.page.proofs.Picks.{and-is}
 use Rattle.bank.proofs.slots.seen.Statement.{statement}
 use Rattle.bank.proofs.slots.seen.Tie as tie
 

@@ -1,7 +1,5 @@
-use mathlib.Core.Path.{refl}
-use denote.Ref.{now}
+use Rattle.bank.proofs.Names.{refl, now, needs}
 use Rattle.bank.proofs.Changed.{stored}
-use borrow.Author.Needs.{needs}
 use Rattle.bank.proofs.slots.store.Statement.{statement}
 use Rattle.bank.proofs.slots.store.Tie as tie
 

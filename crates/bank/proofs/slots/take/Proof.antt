@@ -1,7 +1,5 @@
-use mathlib.Core.Path.{refl}
-use denote.Ref.{now}
+use Rattle.bank.proofs.Names.{refl, now, needs}
 use Rattle.bank.proofs.Changed.{filled-none, filled-slot}
-use borrow.Author.Needs.{needs}
 use Rattle.bank.proofs.slots.take.Statement.{statement}
 use Rattle.bank.proofs.slots.take.Tie as tie
 
@@ -55,10 +53,14 @@ next-victim-requires c κs = search needs
 
 returns-2 : tie.Need-returns-2
 returns-2 c =
-    let x = c .before .before .before .before .before .before .before .args in
-    let g = c .before .before .before .before .before .fill .given in
-    filled-slot (now (x .cam)) (now (x .ram)) (now (x .lows)) (now (x .highs)) (x .lock) (x .victim) _ _ (g .0 .0) (x .fill) _ _ _ (g .1) (c .before .before .before .next-slot .ensures) (c .next-victim .ensures)
-    refl (c .before .before .low-of .ensures) (c .before .high-of .ensures)
+    let s2 = c .before .before in
+    let s3 = s2 .before in
+    let s5 = s3 .before .before in
+    let s7 = s5 .before .before in
+    let x = s7 .args in
+    let g = s5 .fill .given in
+    filled-slot (now (x .cam)) (now (x .ram)) (now (x .lows)) (now (x .highs)) (x .lock) (x .victim) _ _ (g .0 .0) (x .fill) _ _ _ (g .1) (s3 .next-slot .ensures) (c .next-victim .ensures)
+    refl (s2 .low-of .ensures) (c .before .high-of .ensures)
 
 pub take-spec : {M : Type 1} → statement M
 take-spec =

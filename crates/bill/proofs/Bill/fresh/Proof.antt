@@ -1,4 +1,4 @@
-use borrow.Author.Needs.{needs}
+use Rattle.bill.proofs.Names.{needs}
 use Rattle.bill.proofs.Bill.fresh.Statement.{statement}
 use Rattle.bill.proofs.Bill.fresh.Tie as tie
 

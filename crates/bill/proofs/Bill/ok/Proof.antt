@@ -1,7 +1,6 @@
-use mathlib.Core.Path.{_∙_, ap₂}
-use mathlib.Core.Bool.{_&&_}
+use Rattle.bill.proofs.Names.{_∙_, _&&_, needs}
+use mathlib.Core.Path.{ap₂}
 use Rattle.page.proofs.Picks.{and-is}
-use borrow.Author.Needs.{needs}
 use Rattle.bill.proofs.Bill.ok.Statement.{statement}
 use Rattle.bill.proofs.Bill.ok.Tie as tie
 

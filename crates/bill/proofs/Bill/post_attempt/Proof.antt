@@ -1,5 +1,4 @@
-use Rattle.bill.specs.Bill.{attemptPosted}
-use borrow.Author.Needs.{needs}
+use Rattle.bill.proofs.Names.{attemptPosted, needs}
 use Rattle.bill.proofs.Bill.post_attempt.Statement.{statement}
 use Rattle.bill.proofs.Bill.post_attempt.Tie as tie
 

@@ -1,6 +1,4 @@
-use Rattle.bill.specs.Bill.{seenPosted}
-use mathlib.Core.Path.{sym, _∙_, ap}
-use borrow.Author.Needs.{needs}
+use Rattle.bill.proofs.Names.{seenPosted, sym, _∙_, ap, needs}
 use Rattle.bill.proofs.Bill.post_seen.Statement.{statement}
 use Rattle.bill.proofs.Bill.post_seen.Tie as tie
 

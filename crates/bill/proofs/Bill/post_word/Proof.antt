@@ -1,5 +1,4 @@
-use Rattle.bill.specs.Bill.{placePosted}
-use borrow.Author.Needs.{needs}
+use Rattle.bill.proofs.Names.{placePosted, needs}
 use Rattle.bill.proofs.Bill.post_word.Statement.{statement}
 use Rattle.bill.proofs.Bill.post_word.Tie as tie
 
@@ -33,7 +32,11 @@ returns c = rw (c .before .before .before .before .enum-told .given .1, c .read 
 
 returns-2 : tie.Need-returns-2
 unfolding placePosted
-returns-2 c = rw (c .before .before .before .before .enum-told2 .given .1, c .read2 .ensures, c .before .before .word-price2 .ensures, c .before .before .before .before .before .before .row-of .ensures)
+returns-2 c =
+    let s2 = c .before .before in
+    let s4 = s2 .before .before in
+    let s6 = s4 .before .before in
+    rw (s4 .enum-told2 .given .1, c .read2 .ensures, s2 .word-price2 .ensures, s6 .row-of .ensures)
 
 returns-3 : tie.Need-returns-3
 unfolding placePosted

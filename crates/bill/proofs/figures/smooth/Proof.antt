@@ -1,5 +1,4 @@
-use Rattle.bill.specs.Figures.{smoothed}
-use borrow.Author.Needs.{needs}
+use Rattle.bill.proofs.Names.{smoothed, needs}
 use Rattle.bill.proofs.figures.smooth.Statement.{statement}
 use Rattle.bill.proofs.figures.smooth.Tie as tie
 

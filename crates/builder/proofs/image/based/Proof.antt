@@ -1,8 +1,4 @@
-use mathlib.Core.Path.{sym}
-use borrow.Author.Tests.{eq-eqb, ne-eqb}
-use borrow.Author.Needs.{needs}
-use Rattle.page.proofs.Picks.{pick-yes, pick-no}
-use Rattle.builder.specs.Places.{based}
+use Rattle.builder.proofs.Names.{sym, eq-eqb, ne-eqb, needs, pick-yes, pick-no, based}
 use Rattle.builder.proofs.image.based.Statement.{statement}
 use Rattle.builder.proofs.image.based.Tie as tie
 

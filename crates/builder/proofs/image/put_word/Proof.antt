@@ -1,8 +1,6 @@
+use Rattle.builder.specs.Names.{spliced, bytesBy}
+use Rattle.builder.proofs.Names.{length-set, arith, needs}
 use Rattle.wire.proofs.Splices.{put-four}
-use Rattle.wire.specs.Spliced.{spliced, bytesBy}
-use lib.ListN.{length-set}
-use native.Mathlib.Omega.{arith}
-use borrow.Author.Needs.{needs}
 use Rattle.builder.proofs.image.put_word.Statement.{statement}
 use Rattle.builder.proofs.image.put_word.Tie as tie
 

@@ -1,14 +1,5 @@
-use mathlib.Core.Path.{sym, ap, _∙_}
-use native.Mathlib.Omega.{arith}
-use Prim.Native.Nat.{ℕ, _/_, _≤_}
-use lib.ListN.{length}
-use borrow.Author.Needs.{needs}
-use Rattle.page.specs.Words.{megabytes}
-use Rattle.records.specs.Mappings.{mappings}
-use Rattle.tables.specs.Tables.{imageLength}
-use Rattle.builder.specs.Image.{written}
-use Rattle.wire.specs.Spliced.{spliced}
-use Rattle.wire.proofs.Splices.{spliced-same}
+use Rattle.builder.specs.Names.{ℕ, _/_, _≤_, length, megabytes, mappings, imageLength, spliced}
+use Rattle.builder.proofs.Names.{sym, ap, _∙_, arith, needs, written, spliced-same}
 use Rattle.builder.proofs.Whole.{written-short, written-image}
 use Rattle.builder.proofs.Levels.{level-more}
 use Rattle.builder.proofs.Parts.{first-none, image-begun, image-done}
@@ -62,10 +53,14 @@ slice-aggregate-write-mappings c = search needs
 
 write-mappings-requires : tie.Need-write-mappings-requires
 write-mappings-requires c κs =
-    let first = c .before .before .before .before .write-first in
-    let zeros = c .before .before .before .before .before .before .before .before .before .write-zeros in
-    let room = c .before .before .before .before .before .before .before .before .before .before .before .if2 .left in
-    level-more _ _ _ (omega (arith, zeros .kept .0, first .kept .1 .1 .0)) (c .before .before .before .before .before .before .before .before .before .before .before .before .before .place .ensures .level)
+    let s4 = c .before .before .before .before in
+    let s9 = s4 .before .before .before .before .before in
+    let s11 = s9 .before .before in
+    let s13 = s11 .before .before in
+    let first = s4 .write-first in
+    let zeros = s9 .write-zeros in
+    let room = s11 .if2 .left in
+    level-more _ _ _ (omega (arith, zeros .kept .0, first .kept .1 .1 .0)) (s13 .place .ensures .level)
 
 same-length-2 : tie.Need-same-length-2
 same-length-2 c = search needs

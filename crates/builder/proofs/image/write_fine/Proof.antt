@@ -1,10 +1,6 @@
-use mathlib.Core.Path.{refl}
-use denote.Ref.{now}
-use native.Mathlib.Omega.{arith}
-use Rattle.page.specs.declared.Kind.{Kind}
-use Rattle.tables.specs.declared.Second.{Second}
+use Rattle.builder.specs.Names.{Second}
+use Rattle.builder.proofs.Names.{refl, now, arith, Kind, needs}
 use Rattle.builder.proofs.Runs.{own-count, fine-turn}
-use borrow.Author.Needs.{needs}
 use Rattle.builder.proofs.image.write_fine.Statement.{statement}
 use Rattle.builder.proofs.image.write_fine.Tie as tie
 

@@ -1,12 +1,6 @@
-use mathlib.Core.Path.{_≡_, refl, sym, ap, _∙_}
-use mathlib.Core.List.{List}
-use native.Mathlib.Omega.{arith}
-use Prim.Native.Nat.{ℕ, _*_, _≤_, _-_}
-use lib.ListN.{length, getD}
-use Rattle.page.specs.Words.{megabytes}
-use Rattle.wire.specs.Spliced.{spliced}
-use Rattle.builder.specs.Places.{based}
-use Rattle.wire.proofs.Splices.{spliced-none, spliced-next}
+use Rattle.builder.specs.Names.{_≡_, List, ℕ, _*_, _≤_, _-_, length, getD, megabytes, spliced}
+use Rattle.builder.proofs.Names.{refl, sym, ap, _∙_, arith, based, spliced-none}
+use Rattle.wire.proofs.Splices.{spliced-next}
 use Rattle.builder.proofs.image.write_first.Statement.{statement}
 use Rattle.builder.proofs.image.write_first.Tie as tie
 
@@ -43,15 +37,19 @@ loop-less c = omega arith
 
 loop-again : tie.Need-loop-again Inv-loop μ-loop
 loop-again c =
-    let p = c .before .before .put-word in
-    let b = c .before .before .before .based in
-    let l = c .before .before .before .before .before .before .before .loop in
-    let a = c .before .before .before .before .before .before .before .before .before .before .args in (
+    let s2 = c .before .before in
+    let s3 = s2 .before in
+    let s7 = s3 .before .before .before .before in
+    let s10 = s7 .before .before .before in
+    let p = s2 .put-word in
+    let b = s3 .based in
+    let l = s7 .loop in
+    let a = s10 .args in (
       omega arith,
       p .kept .0 ∙ l .inv .1,
       p .ensures
           ∙ ap (λ (d : List ℕ). spliced d (4 * l .k) (λ (_ : ℕ). b .result) 1) (l .inv .2)
-          ∙ spliced-next (a .out .now) (l .k) (b .result) (λ (x : ℕ). based (a .base) (getD (a .firsts .now) x 0)) (omega (arith, c .before .before .before .before .before .before .before .before .before .before .pre .room)) (b .ensures),
+          ∙ spliced-next (a .out .now) (l .k) (b .result) (λ (x : ℕ). based (a .base) (getD (a .firsts .now) x 0)) (omega (arith, s10 .pre .room)) (b .ensures),
     )
 
 same-length : tie.Need-same-length Inv-loop μ-loop
@@ -59,8 +57,9 @@ same-length c = c .before .loop .inv .1
 
 returns : tie.Need-returns Inv-loop μ-loop
 returns c =
+    let s4 = c .before .before .before .before in
     let l = c .before .loop in
-    l .inv .2 ∙ ap (spliced (c .before .before .before .before .args .out .now) 0 (λ (x : ℕ). based (c .before .before .before .before .args .base) (getD (c .before .before .before .before .args .firsts .now) x 0))) (let e : l .k ≡ megabytes = omega arith in e)
+    l .inv .2 ∙ ap (spliced (s4 .args .out .now) 0 (λ (x : ℕ). based (s4 .args .base) (getD (s4 .args .firsts .now) x 0))) (let e : l .k ≡ megabytes = omega arith in e)
 
 pub write-first-spec : {M : Type 1} → statement M
 write-first-spec =

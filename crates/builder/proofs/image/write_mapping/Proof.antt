@@ -1,11 +1,5 @@
-use mathlib.Core.Path.{refl}
-use native.Mathlib.Omega.{arith}
-use Prim.Native.Nat.{_/_, _^_}
-use borrow.Author.Needs.{needs}
-use Rattle.page.specs.Words.{megabytes}
-use Rattle.records.specs.Mappings.{mappings}
-use Rattle.tables.specs.declared.Second.{Second}
-use Rattle.tables.specs.Tables.{tableOf, tableStart}
+use Rattle.builder.specs.Names.{_/_, _^_, megabytes, mappings, Second, tableOf, tableStart}
+use Rattle.builder.proofs.Names.{refl, arith, needs}
 use Rattle.builder.proofs.Levels.{start-even, names-fine, names-coarse, names-none, fine-room, coarse-room}
 use Rattle.builder.proofs.Parts.{mapping-past, mapping-section, mapping-page}
 use Rattle.builder.proofs.image.write_mapping.Statement.{statement}
@@ -59,8 +53,11 @@ sub-write-coarse c = search needs
 
 write-coarse-requires : tie.Need-write-coarse-requires
 write-coarse-requires c κs =
-    let a = c .before .before .before .before .before .before .before .before .before .before .before in
-    coarse-room _ (a .args .firsts .now) (a .pre .0) (c .before .before .before .before .before .before .before .mapping-at .result) (c .before .before .before .before .if1 .left) _ refl (c .before .if3 .taken)
+    let s4 = c .before .before .before .before in
+    let s7 = s4 .before .before .before in
+    let s11 = s7 .before .before .before .before in
+    let a = s11 in
+    coarse-room _ (a .args .firsts .now) (a .pre .0) (s7 .mapping-at .result) (s4 .if1 .left) _ refl (c .before .if3 .taken)
 
 same-length-2 : tie.Need-same-length-2
 same-length-2 c = search needs
@@ -96,14 +93,21 @@ same-length-3 c = search needs
 
 returns-4 : tie.Need-returns-4
 returns-4 c known room =
-    let a = c .before .before .before .before .before .before .before .before .before .before .before .before .before .before .before in
+    let s2 = c .before .before in
+    let s3 = s2 .before in
+    let s5 = s3 .before .before in
+    let s6 = s5 .before in
+    let s8 = s6 .before .before in
+    let s11 = s8 .before .before .before in
+    let s15 = s11 .before .before .before .before in
+    let a = s15 in
     let ms = mappings (a .args .records .now) in
-    let m = c .before .before .before .before .before .before .before .before .before .before .before .mapping-at in
-    let lt = c .before .before .before .before .before .before .before .before .if1 .left in
+    let m = s11 .mapping-at in
+    let lt = s8 .if1 .left in
     let mb = m .result .at .0 / 2 ^ 20 in
     mapping-section ms (a .args .j) (m .result) (m .ensures) (a .pre .1) (a .args .out .now) room mb lt refl Second.Absent
-    (names-none (tableOf ms mb) (tableStart megabytes ms mb) _ (start-even ms mb) (known mb lt) (c .before .before .before .before .before .before .if2 .left) (c .before .before .before .before .before .if3 .left))
-    (c .before .before .before .section-of .result) (c .before .before .put-word .last .0) (c .before .before .before .section-of .ensures) refl (c .before .before .put-word .ensures)
+    (names-none (tableOf ms mb) (tableStart megabytes ms mb) _ (start-even ms mb) (known mb lt) (s6 .if2 .left) (s5 .if3 .left))
+    (s3 .section-of .result) (s2 .put-word .last .0) (s3 .section-of .ensures) refl (s2 .put-word .ensures)
 
 pub write-mapping-spec : {M : Type 1} → statement M
 write-mapping-spec =

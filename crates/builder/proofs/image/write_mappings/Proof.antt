@@ -1,14 +1,5 @@
-use mathlib.Core.Path.{_≡_, refl, sym, ap, _∙_, subst}
-use mathlib.Core.List.{List, []}
-use native.Mathlib.Omega.{arith}
-use Prim.Native.Nat.{ℕ, _+_, _/_, _≤_, _-_}
-use lib.ListN.{length, drop}
-use Rattle.page.specs.Words.{megabytes}
-use Rattle.records.specs.Mappings.{mappings}
-use Rattle.tables.specs.Tables.{imageLength}
-use Rattle.wire.specs.Spliced.{spliced}
-use Rattle.builder.specs.Parts.{partWord}
-use Rattle.builder.specs.Places.{Firsts, Level}
+use Rattle.builder.specs.Names.{_≡_, List, [], ℕ, _+_, _/_, _≤_, _-_, length, drop, megabytes, mappings, imageLength, spliced}
+use Rattle.builder.proofs.Names.{refl, sym, ap, _∙_, subst, arith, partWord, Firsts, Level}
 use Rattle.builder.proofs.Parts.{filled-start, filled-end}
 use Rattle.builder.proofs.image.write_mappings.Statement.{statement}
 use Rattle.builder.proofs.image.write_mappings.Tie as tie
@@ -38,7 +29,9 @@ sub-j c = omega arith
 
 write-mapping-requires : tie.Need-write-mapping-requires Inv-loop μ-loop
 write-mapping-requires c κs =
-    (subst (λ (n : ℕ). Level n (c .before .before .before .before .before .before .before .args .firsts .now)) (sym (c .before .before .loop .inv .1)) (c .before .before .before .before .before .before .before .pre), omega arith)
+    let s2 = c .before .before in
+    let s7 = s2 .before .before .before .before .before in
+    (subst (λ (n : ℕ). Level n (s7 .args .firsts .now)) (sym (s2 .loop .inv .1)) (s7 .pre), omega arith)
 
 loop-less : tie.Need-loop-less Inv-loop μ-loop
 loop-less c = omega arith

@@ -1,7 +1,5 @@
-use mathlib.Core.Path.{sym}
-use denote.Ref.{now}
+use Rattle.builder.proofs.Names.{sym, now, needs}
 use Rattle.builder.proofs.Nothing.{none-length, none-short, none-written}
-use borrow.Author.Needs.{needs}
 use Rattle.builder.proofs.image.write_none.Statement.{statement}
 use Rattle.builder.proofs.image.write_none.Tie as tie
 

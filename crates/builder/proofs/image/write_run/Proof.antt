@@ -1,13 +1,6 @@
-use mathlib.Core.Path.{_≡_, refl, sym, ap, _∙_}
-use mathlib.Core.List.{List}
-use denote.Ref.{now}
-use native.Mathlib.Omega.{arith}
+use Rattle.builder.specs.Names.{_≡_, List, ℕ, _*_, _+_, _≤_, _-_, length, spliced}
+use Rattle.builder.proofs.Names.{refl, sym, ap, _∙_, now, arith, needs, spliced-none, spliced-more}
 use native.Mathlib.Nat.{mul-le-mul}
-use borrow.Author.Needs.{needs}
-use Prim.Native.Nat.{ℕ, _*_, _+_, _≤_, _-_}
-use lib.ListN.{length}
-use Rattle.wire.specs.Spliced.{spliced}
-use Rattle.wire.proofs.Splices.{spliced-none, spliced-more}
 use Rattle.builder.proofs.image.write_run.Statement.{statement}
 use Rattle.builder.proofs.image.write_run.Tie as tie
 

@@ -1,11 +1,5 @@
-use mathlib.Core.Path.{_≡_, refl, sym, _∙_, ap}
-use denote.Ref.{now}
-use native.Mathlib.Omega.{arith}
-use Prim.Native.Nat.{ℕ, _+_, _*_, _≤_, _-_}
-use Rattle.wire.specs.Spliced.{spliced}
-use Rattle.wire.proofs.Splices.{spliced-none, spliced-more}
-use borrow.Author.Needs.{needs}
-use lib.ListN.{length}
+use Rattle.builder.specs.Names.{_≡_, ℕ, _+_, _*_, _≤_, _-_, spliced, length}
+use Rattle.builder.proofs.Names.{refl, sym, _∙_, ap, now, arith, spliced-none, spliced-more, needs}
 use Rattle.builder.proofs.image.write_zeros.Statement.{statement}
 use Rattle.builder.proofs.image.write_zeros.Tie as tie
 
@@ -35,13 +29,23 @@ loop-less : tie.Need-loop-less Inv-loop μ-loop
 loop-less c = omega arith
 
 loop-again : tie.Need-loop-again Inv-loop μ-loop
-loop-again c = (omega arith, c .before .before .put-word .kept .0 ∙ c .before .before .before .before .before .loop .inv .1, c .before .before .put-word .ensures ∙ ap (λ l. spliced l (c .before .before .before .before .before .before .before .args .at + 4 * c .before .before .before .before .before .loop .k) (λ (_ : ℕ). 0) 1) (c .before .before .before .before .before .loop .inv .2) ∙ spliced-more _ _ _ _ (λ (_ : ℕ). 0) (omega arith) refl)
+loop-again c =
+    let s2 = c .before .before in
+    let s5 = s2 .before .before .before in
+    let s7 = s5 .before .before in (
+      omega arith,
+      s2 .put-word .kept .0 ∙ s5 .loop .inv .1,
+      s2 .put-word .ensures ∙ ap (λ l. spliced l (s7 .args .at + 4 * s5 .loop .k) (λ (_ : ℕ). 0) 1) (s5 .loop .inv .2)
+          ∙ spliced-more _ _ _ _ (λ (_ : ℕ). 0) (omega arith) refl,
+    )
 
 same-length : tie.Need-same-length Inv-loop μ-loop
 same-length c = search needs
 
 returns : tie.Need-returns Inv-loop μ-loop
-returns c = c .before .loop .inv .2 ∙ ap (spliced (c .before .before .before .args .out .now) (c .before .before .before .args .at) (λ (_ : ℕ). 0)) (let e : c .before .loop .k ≡ c .before .before .before .args .n = omega arith in e)
+returns c =
+    let s3 = c .before .before .before in
+    c .before .loop .inv .2 ∙ ap (spliced (s3 .args .out .now) (s3 .args .at) (λ (_ : ℕ). 0)) (let e : c .before .loop .k ≡ s3 .args .n = omega arith in e)
 
 pub write-zeros-spec : {M : Type 1} → statement M
 write-zeros-spec =

@@ -1,10 +1,5 @@
-use mathlib.Core.Path.{ap, _∙_}
-use mathlib.Core.Bool.{Bool, false}
-use Prim.Native.Nat.{_+_}
-use lib.ListN.{getD}
-use borrow.Author.Needs.{needs}
-use Rattle.page.specs.Pick.{_or_}
-use Rattle.tables.specs.Kinds.{hasTable}
+use Rattle.builder.specs.Names.{Bool, _+_, getD, hasTable}
+use Rattle.builder.proofs.Names.{ap, _∙_, false, needs, _or_}
 use Rattle.tables.proofs.Notes.{or-is}
 use Rattle.builder.proofs.places.has_table.Statement.{statement}
 use Rattle.builder.proofs.places.has_table.Tie as tie

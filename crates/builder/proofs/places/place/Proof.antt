@@ -1,11 +1,6 @@
-use mathlib.Core.Path.{_≡_, sym, _∙_}
-use native.Mathlib.Omega.{arith}
-use Prim.Native.Nat.{_≤_, _-_}
-use lib.ListN.{length, length-set}
-use borrow.Author.Tests.{not-true}
-use Rattle.page.specs.Words.{megabytes}
+use Rattle.builder.specs.Names.{_≡_, _≤_, _-_, length, megabytes}
+use Rattle.builder.proofs.Names.{sym, _∙_, arith, length-set, not-true, start-le, size-le}
 use Rattle.tables.proofs.Notes.{no-table}
-use Rattle.tables.proofs.Places.{start-le, size-le}
 use Rattle.builder.proofs.Levels.{Begun, begun-none, begun-skip, begun-more, placed}
 use Rattle.builder.proofs.places.place.Statement.{statement}
 use Rattle.builder.proofs.places.place.Tie as tie

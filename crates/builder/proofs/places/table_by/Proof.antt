@@ -1,7 +1,6 @@
-use mathlib.Core.Path.{sym, _∙_}
-use borrow.Author.Needs.{needs}
-use Rattle.page.proofs.Picks.{pick-yes, pick-no, or-yes, or-no}
-use Rattle.tables.specs.Kinds.{tableBy}
+use Rattle.builder.specs.Names.{tableBy}
+use Rattle.builder.proofs.Names.{sym, _∙_, needs, pick-yes, pick-no}
+use Rattle.page.proofs.Picks.{or-yes, or-no}
 use Rattle.builder.proofs.places.table_by.Statement.{statement}
 use Rattle.builder.proofs.places.table_by.Tie as tie
 

@@ -1,8 +1,5 @@
-use mathlib.Core.Path.{sym, ap}
-use borrow.Author.Needs.{needs}
-use Rattle.records.specs.declared.Held.{Held}
-use Rattle.tables.specs.declared.Second.{Second}
-use Rattle.tables.specs.Words.{firstBy}
+use Rattle.builder.specs.Names.{Held, Second, firstBy}
+use Rattle.builder.proofs.Names.{sym, ap, needs}
 use Rattle.builder.proofs.places.table_word.Statement.{statement}
 use Rattle.builder.proofs.places.table_word.Tie as tie
 

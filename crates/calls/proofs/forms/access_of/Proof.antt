@@ -1,7 +1,4 @@
-use Rattle.calls.specs.Forms.{accessOf}
-use mathlib.Core.Path.{sym}
-use Rattle.page.proofs.Picks.{pick-yes, pick-no}
-use borrow.Author.Tests.{eq-eqb, ne-eqb}
+use Rattle.calls.proofs.Names.{accessOf, sym, pick-yes, pick-no, eq-eqb, ne-eqb}
 use Rattle.calls.proofs.forms.access_of.Statement.{statement}
 use Rattle.calls.proofs.forms.access_of.Tie as tie
 

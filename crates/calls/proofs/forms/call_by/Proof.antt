@@ -1,10 +1,5 @@
-use Rattle.calls.specs.Kinds.{callBy}
-use Rattle.page.specs.Pick.{pick}
-use Rattle.page.proofs.Picks.{pick-no}
-use borrow.Author.Tests.{ne-eqb}
-use Prim.Native.Nat.{ℕ}
-use mathlib.Core.Path.{sym, _∙_, ap}
-use borrow.Author.Needs.{needs}
+use Rattle.calls.specs.Names.{pick, ℕ}
+use Rattle.calls.proofs.Names.{callBy, pick-no, ne-eqb, sym, _∙_, ap, needs}
 use Rattle.calls.proofs.forms.call_by.Statement.{statement}
 use Rattle.calls.proofs.forms.call_by.Tie as tie
 
@@ -45,7 +40,9 @@ returns-5 c = let x = c .before .before .args in c .shift-by .ensures ∙ sym (a
 
 returns-6 : tie.Need-returns-6
 unfolding callBy
-returns-6 c = sym (pick-no _ _ _ (ne-eqb _ _ (c .match .rest .0 .0 .0 .0 .1)) ∙ pick-no _ _ _ (ne-eqb _ _ (c .match .rest .0 .0 .0 .1)) ∙ pick-no _ _ _ (ne-eqb _ _ (c .match .rest .0 .0 .1)) ∙ pick-no _ _ _ (ne-eqb _ _ (c .match .rest .0 .1)) ∙ pick-no _ _ _ (ne-eqb _ _ (c .match .rest .1)))
+returns-6 c =
+    sym (pick-no _ _ _ (ne-eqb _ _ (c .match .rest .0 .0 .0 .0 .1)) ∙ pick-no _ _ _ (ne-eqb _ _ (c .match .rest .0 .0 .0 .1)) ∙ pick-no _ _ _ (ne-eqb _ _ (c .match .rest .0 .0 .1))
+    ∙ pick-no _ _ _ (ne-eqb _ _ (c .match .rest .0 .1)) ∙ pick-no _ _ _ (ne-eqb _ _ (c .match .rest .1)))
 
 pub call-by-spec : {M : Type 1} → statement M
 call-by-spec =

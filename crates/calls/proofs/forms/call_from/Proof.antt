@@ -1,8 +1,4 @@
-use Rattle.calls.specs.Kinds.{callFrom}
-use Rattle.page.proofs.Picks.{pick-yes, pick-no, and-yes, and-no}
-use borrow.Author.Tests.{eq-eqb, ne-eqb}
-use mathlib.Core.Path.{sym, _∙_}
-use borrow.Author.Needs.{needs}
+use Rattle.calls.proofs.Names.{callFrom, pick-yes, pick-no, and-yes, and-no, eq-eqb, ne-eqb, sym, _∙_, needs}
 use Rattle.calls.proofs.forms.call_from.Statement.{statement}
 use Rattle.calls.proofs.forms.call_from.Tie as tie
 

@@ -1,14 +1,6 @@
-use mathlib.Core.Path.{_∙_, ap}
-use Rattle.page.proofs.Picks.{pick-no}
-use Rattle.page.specs.Pick.{pick}
-use borrow.Author.Tests.{ne-eqb}
-use Prim.Native.Nat.{ℕ}
-use Rattle.calls.specs.Kinds.{callBy}
-use Rattle.page.specs.Words.{virtual}
-use Rattle.calls.specs.declared.Call.{Call}
-use Rattle.calls.specs.Forms.{writeBy, readBy, requestBy, dropBy}
+use Rattle.calls.specs.Names.{pick, ℕ, virtual, Call}
+use Rattle.calls.proofs.Names.{_∙_, ap, pick-no, ne-eqb, callBy, writeBy, readBy, requestBy, dropBy, needs}
 use Rattle.calls.proofs.Good.{write-known, read-known, request-known, drop-known, last-known, alike}
-use borrow.Author.Needs.{needs}
 use Rattle.calls.proofs.forms.known.Statement.{statement}
 use Rattle.calls.proofs.forms.known.Tie as tie
 

@@ -1,10 +1,5 @@
-use Rattle.page.specs.Words.{virtual}
-use Rattle.calls.specs.declared.Call.{Call}
-use Rattle.calls.specs.Forms.{requestBy}
-use mathlib.Core.Path.{sym, _∙_, ap}
-use Rattle.page.proofs.Picks.{pick-yes, pick-no, and-yes, and-no}
-use borrow.Author.Tests.{eq-eqb, ne-eqb, lt-ltb, le-ltb}
-use borrow.Author.Needs.{needs}
+use Rattle.calls.specs.Names.{virtual, Call}
+use Rattle.calls.proofs.Names.{requestBy, sym, _∙_, ap, pick-yes, pick-no, and-yes, and-no, eq-eqb, ne-eqb, lt-ltb, le-ltb, needs}
 use Rattle.calls.proofs.forms.request_by.Statement.{statement}
 use Rattle.calls.proofs.forms.request_by.Tie as tie
 
@@ -21,7 +16,10 @@ access-of-requires c κs = search needs
 
 returns-3 : tie.Need-returns-3
 unfolding requestBy
-returns-3 c = ap (Call.Request (virtual (c .before .before .before .args .address))) (c .access-of .ensures) ∙ sym (pick-yes _ _ _ (and-yes _ _ (lt-ltb _ _ (c .before .before .if1 .left)) ∙ eq-eqb _ _ (c .before .if2 .left)))
+returns-3 c =
+    let s2 = c .before .before in
+    let s3 = s2 .before in
+    ap (Call.Request (virtual (s3 .args .address))) (c .access-of .ensures) ∙ sym (pick-yes _ _ _ (and-yes _ _ (lt-ltb _ _ (s2 .if1 .left)) ∙ eq-eqb _ _ (c .before .if2 .left)))
 
 pub request-by-spec : {M : Type 1} → statement M
 request-by-spec = tie.close (tie.spec returns returns-2 access-of-requires returns-3)

@@ -1,8 +1,4 @@
-use Rattle.calls.specs.Forms.{writeBy}
-use mathlib.Core.Path.{sym, _∙_}
-use Rattle.page.proofs.Picks.{pick-yes, pick-no, and-yes, and-no}
-use borrow.Author.Tests.{eq-eqb, ne-eqb, lt-ltb, le-ltb}
-use borrow.Author.Needs.{needs}
+use Rattle.calls.proofs.Names.{writeBy, sym, _∙_, pick-yes, pick-no, and-yes, and-no, eq-eqb, ne-eqb, lt-ltb, le-ltb, needs}
 use Rattle.calls.proofs.forms.write_by.Statement.{statement}
 use Rattle.calls.proofs.forms.write_by.Tie as tie
 

@@ -1,7 +1,5 @@
-use Rattle.capi.specs.Numbers.{builtWord, cutBuilt}
-use Rattle.builder.specs.declared.Built.{Built}
-use mathlib.Core.Path.{sym, _∙_, ap}
-use borrow.Author.Needs.{needs}
+use Rattle.capi.specs.Names.{Built}
+use Rattle.capi.proofs.Names.{builtWord, cutBuilt, sym, _∙_, ap, needs}
 use Rattle.capi.proofs.numbers.built_number.Statement.{statement}
 use Rattle.capi.proofs.numbers.built_number.Tie as tie
 

@@ -1,7 +1,5 @@
-use Rattle.capi.specs.Numbers.{placeNumber, cutPlace}
-use Rattle.memory.specs.declared.Place.{Place}
-use mathlib.Core.Path.{sym, _∙_, ap}
-use borrow.Author.Needs.{needs}
+use Rattle.capi.specs.Names.{Place}
+use Rattle.capi.proofs.Names.{placeNumber, cutPlace, sym, _∙_, ap, needs}
 use Rattle.capi.proofs.numbers.place_number.Statement.{statement}
 use Rattle.capi.proofs.numbers.place_number.Tie as tie
 

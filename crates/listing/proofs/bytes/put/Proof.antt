@@ -1,13 +1,7 @@
+use Rattle.listing.specs.Names.{length, set, getD, List, _-_, ℕ, _+_, _≤_, _≡_}
+use Rattle.listing.proofs.Names.{length-set, needs, add-one, paste, refl, sym, _∙_, ap, now, arith}
 use Rattle.listing.proofs.Pastes.{copied}
-use lib.ListN.{length-set, length, set, getD}
-use borrow.Author.Needs.{needs}
-use mathlib.Core.List.{List}
-use Prim.Native.Nat.{_-_, ℕ, _+_, _≤_}
-use native.Mathlib.Numerals.{add-one}
-use lib.Seq.{paste, paste-zero, paste-suc}
-use mathlib.Core.Path.{_≡_, refl, sym, _∙_, ap}
-use denote.Ref.{now}
-use native.Mathlib.Omega.{arith}
+use lib.Seq.{paste-zero, paste-suc}
 use Rattle.listing.proofs.bytes.put.Statement.{statement}
 use Rattle.listing.proofs.bytes.put.Tie as tie
 
@@ -36,13 +30,24 @@ loop-less : tie.Need-loop-less Inv-loop μ-loop
 loop-less c = omega arith
 
 loop-again : tie.Need-loop-again Inv-loop μ-loop
-loop-again c = (omega arith, length-set (c .before .before .loop .out) (c .before .before .before .args .at + c .before .before .loop .i) _ ∙ c .before .before .loop .inv .1, ap (λ (l : List ℕ). set l (c .before .before .before .args .at + c .before .before .loop .i) (getD (c .before .before .before .args .s .now) (c .before .before .loop .i) 0)) (c .before .before .loop .inv .2) ∙ paste-suc (c .before .before .before .args .out .now) (c .before .before .before .args .at) (c .before .before .before .args .s .now) (c .before .before .loop .i) 0 (omega arith) (omega arith) ∙ ap (λ (k : ℕ). paste (c .before .before .before .args .out .now) (c .before .before .before .args .at) (c .before .before .before .args .s .now) k) (sym (add-one (c .before .before .loop .i))))
+loop-again c =
+    let s2 = c .before .before in
+    let s3 = s2 .before in (
+      omega arith,
+      length-set (s2 .loop .out) (s3 .args .at + s2 .loop .i) _
+          ∙ s2 .loop .inv .1,
+      ap (λ (l : List ℕ). set l (s3 .args .at + s2 .loop .i) (getD (s3 .args .s .now) (s2 .loop .i) 0)) (s2 .loop .inv .2)
+          ∙ paste-suc (s3 .args .out .now) (s3 .args .at) (s3 .args .s .now) (s2 .loop .i) 0 (omega arith) (omega arith)
+          ∙ ap (λ (k : ℕ). paste (s3 .args .out .now) (s3 .args .at) (s3 .args .s .now) k) (sym (add-one (s2 .loop .i))),
+    )
 
 same-length : tie.Need-same-length Inv-loop μ-loop
 same-length c = search needs
 
 returns : tie.Need-returns Inv-loop μ-loop
-returns c = copied (c .before .before .args .out .now) (c .before .loop .out) (c .before .before .args .s .now) (c .before .before .args .at) (c .before .loop .i) (omega arith) (c .before .loop .inv .2)
+returns c =
+    let s2 = c .before .before in
+    copied (s2 .args .out .now) (c .before .loop .out) (s2 .args .s .now) (s2 .args .at) (c .before .loop .i) (omega arith) (c .before .loop .inv .2)
 
 pub put-spec : {M : Type 1} → statement M
 put-spec =

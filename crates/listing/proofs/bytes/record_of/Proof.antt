@@ -1,5 +1,4 @@
-use Rattle.listing.specs.Texts.{recordOf}
-use borrow.Author.Needs.{needs}
+use Rattle.listing.proofs.Names.{recordOf, needs}
 use Rattle.listing.proofs.bytes.record_of.Statement.{statement}
 use Rattle.listing.proofs.bytes.record_of.Tie as tie
 

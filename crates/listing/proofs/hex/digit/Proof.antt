@@ -1,9 +1,4 @@
-use Rattle.listing.specs.Numbers.{within, digit}
-use mathlib.Core.Path.{sym, _∙_}
-use Rattle.page.proofs.Picks.{pick-yes, pick-no, and-left}
-use borrow.Author.Tests.{leb-true}
-use native.Mathlib.Omega.{arith}
-use borrow.Author.Needs.{needs}
+use Rattle.listing.proofs.Names.{within, digit, sym, _∙_, pick-yes, pick-no, and-left, leb-true, arith, needs}
 use Rattle.listing.proofs.hex.digit.Statement.{statement}
 use Rattle.listing.proofs.hex.digit.Tie as tie
 
@@ -38,11 +33,21 @@ sub-result-3 c = let h = leb-true 97 (c .before .before .before .before .before 
 
 returns-3 : tie.Need-returns-3
 unfolding digit
-returns-3 c = sym (pick-no _ _ _ (sym (c .before .before .before .before .before .within .ensures) ∙ c .before .before .before .before .if1 .left) ∙ pick-no _ _ _ (sym (c .before .before .before .within2 .ensures) ∙ c .before .before .if2 .left) ∙ pick-yes _ _ _ (sym (c .before .within3 .ensures) ∙ c .if3 .taken))
+returns-3 c =
+    let s2 = c .before .before in
+    let s3 = s2 .before in
+    let s4 = s3 .before in
+    let s5 = s4 .before in
+    sym (pick-no _ _ _ (sym (s5 .within .ensures) ∙ s4 .if1 .left) ∙ pick-no _ _ _ (sym (s3 .within2 .ensures) ∙ s2 .if2 .left) ∙ pick-yes _ _ _ (sym (c .before .within3 .ensures) ∙ c .if3 .taken))
 
 returns-4 : tie.Need-returns-4
 unfolding digit
-returns-4 c = sym (pick-no _ _ _ (sym (c .before .before .before .before .before .within .ensures) ∙ c .before .before .before .before .if1 .left) ∙ pick-no _ _ _ (sym (c .before .before .before .within2 .ensures) ∙ c .before .before .if2 .left) ∙ pick-no _ _ _ (sym (c .before .within3 .ensures) ∙ c .if3 .left))
+returns-4 c =
+    let s2 = c .before .before in
+    let s3 = s2 .before in
+    let s4 = s3 .before in
+    let s5 = s4 .before in
+    sym (pick-no _ _ _ (sym (s5 .within .ensures) ∙ s4 .if1 .left) ∙ pick-no _ _ _ (sym (s3 .within2 .ensures) ∙ s2 .if2 .left) ∙ pick-no _ _ _ (sym (c .before .within3 .ensures) ∙ c .if3 .left))
 
 pub digit-spec : {M : Type 1} → statement M
 digit-spec =

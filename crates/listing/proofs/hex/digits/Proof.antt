@@ -1,12 +1,6 @@
-use Rattle.listing.specs.Numbers.{end}
+use Rattle.listing.specs.Names.{_-_, _*_, _<_, _≤_, length}
+use Rattle.listing.proofs.Names.{end, refl, sym, _∙_, pick-yes, pick-no, lt-ltb, le-ltb, arith, needs}
 use Rattle.listing.proofs.Digits.{On, on-bad, on-more, on-end, on-small}
-use mathlib.Core.Path.{refl, sym, _∙_}
-use Rattle.page.proofs.Picks.{pick-yes, pick-no}
-use borrow.Author.Tests.{lt-ltb, le-ltb}
-use native.Mathlib.Omega.{arith}
-use Prim.Native.Nat.{_-_, _*_, _<_, _≤_}
-use borrow.Author.Needs.{needs}
-use lib.ListN.{length}
 use Rattle.listing.proofs.hex.digits.Statement.{statement}
 use Rattle.listing.proofs.hex.digits.Tie as tie
 
@@ -26,7 +20,10 @@ digit-requires : tie.Need-digit-requires Inv-loop μ-loop
 digit-requires c κs = search needs
 
 returns : tie.Need-returns Inv-loop μ-loop
-returns c = on-bad _ (c .before .before .before .before .loop .v) (c .before .before .before .before .loop .i) (c .before .before .before .loop-test .taken) (c .before .before .before .before .loop .inv .2) _ (c .before .digit .ensures) (c .if1 .taken)
+returns c =
+    let s3 = c .before .before .before in
+    let s4 = s3 .before in
+    on-bad _ (s4 .loop .v) (s4 .loop .i) (s3 .loop-test .taken) (s4 .loop .inv .2) _ (c .before .digit .ensures) (c .if1 .taken)
 
 on-requires : tie.Need-on-requires Inv-loop μ-loop
 on-requires c κs = c .if1 .left
@@ -38,7 +35,15 @@ loop-less : tie.Need-loop-less Inv-loop μ-loop
 loop-less c = omega arith
 
 loop-again : tie.Need-loop-again Inv-loop μ-loop
-loop-again c = (omega arith, on-small (c .before .before .before .before .before .loop .v) (c .before .before .digit .result) _ (c .before .if1 .left) (c .before .before .before .before .before .loop .inv .1) (c .on .ensures), on-more _ (c .before .before .before .before .before .loop .v) (c .before .before .before .before .before .loop .i) (c .before .before .before .before .loop-test .taken) (c .before .before .before .before .before .loop .inv .2) _ _ (c .before .before .digit .ensures) (c .before .if1 .left) (c .on .ensures))
+loop-again c =
+    let s2 = c .before .before in
+    let s4 = s2 .before .before in
+    let s5 = s4 .before in (
+      omega arith,
+      on-small (s5 .loop .v) (s2 .digit .result) _ (c .before .if1 .left) (s5 .loop .inv .1) (c .on .ensures),
+      on-more _ (s5 .loop .v) (s5 .loop .i)
+          (s4 .loop-test .taken) (s5 .loop .inv .2) _ _ (s2 .digit .ensures) (c .before .if1 .left) (c .on .ensures),
+    )
 
 cast-t10 : tie.Need-cast-t10 Inv-loop μ-loop
 cast-t10 c = omega arith

@@ -1,11 +1,5 @@
-use borrow.Rule.Slice.PartAt.{part-to-end}
-use Rattle.listing.specs.Numbers.{written, prefixed, number}
-use mathlib.Core.Path.{sym, _∙_, ap}
-use Rattle.page.proofs.Picks.{pick-yes, pick-no, and-left}
-use borrow.Author.Tests.{leb-true}
-use denote.Ref.{now}
-use borrow.Author.Needs.{needs}
-use lib.ListN.{length}
+use Rattle.listing.specs.Names.{length}
+use Rattle.listing.proofs.Names.{part-to-end, hexDigits, prefixed, hexNumber, sym, _∙_, ap, pick-yes, pick-no, and-left, leb-true, now, needs}
 use Rattle.listing.proofs.hex.number.Statement.{statement}
 use Rattle.listing.proofs.hex.number.Tie as tie
 
@@ -27,14 +21,18 @@ written-requires : tie.Need-written-requires
 written-requires c κs = search needs
 
 returns : tie.Need-returns
-unfolding number
-returns c = c .written .ensures ∙ ap written (part-to-end (c .before .before .before .before .before .args .w .now) 2) ∙ sym (pick-yes _ _ _ (sym (c .before .before .before .prefixed .ensures) ∙ c .before .before .if1 .taken))
+unfolding hexNumber
+returns c =
+    let s2 = c .before .before in
+    let s3 = s2 .before in
+    let s5 = s3 .before .before in
+    c .written .ensures ∙ ap hexDigits (part-to-end (s5 .args .w .now) 2) ∙ sym (pick-yes _ _ _ (sym (s3 .prefixed .ensures) ∙ s2 .if1 .taken))
 
 written-requires-2 : tie.Need-written-requires-2
 written-requires-2 c κs = search needs
 
 returns-2 : tie.Need-returns-2
-unfolding number
+unfolding hexNumber
 returns-2 c = c .written2 .ensures ∙ sym (pick-no _ _ _ (sym (c .before .before .prefixed .ensures) ∙ c .before .if1 .left))
 
 pub number-spec : {M : Type 1} → statement M

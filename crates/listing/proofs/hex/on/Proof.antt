@@ -1,7 +1,4 @@
-use mathlib.Core.Path.{sym}
-use Rattle.page.proofs.Picks.{pick-yes, pick-no}
-use borrow.Author.Tests.{lt-ltb, le-ltb}
-use borrow.Author.Needs.{needs}
+use Rattle.listing.proofs.Names.{sym, pick-yes, pick-no, lt-ltb, le-ltb, needs}
 use Rattle.listing.proofs.hex.on.Statement.{statement}
 use Rattle.listing.proofs.hex.on.Tie as tie
 

@@ -1,8 +1,4 @@
-use Rattle.listing.specs.Numbers.{prefixed}
-use mathlib.Core.Path.{sym, _∙_}
-use Rattle.page.proofs.Picks.{and-yes, and-no, or-yes, or-no}
-use borrow.Author.Tests.{eq-eqb, ne-eqb, le-leb, lt-leb}
-use borrow.Author.Needs.{needs}
+use Rattle.listing.proofs.Names.{prefixed, sym, _∙_, and-yes, and-no, or-yes, or-no, eq-eqb, ne-eqb, le-leb, lt-leb, needs}
 use Rattle.listing.proofs.hex.prefixed.Statement.{statement}
 use Rattle.listing.proofs.hex.prefixed.Tie as tie
 
@@ -29,7 +25,10 @@ shared-slice-read-result c = search needs
 
 returns-4 : tie.Need-returns-4
 unfolding prefixed
-returns-4 c = sym (and-yes _ _ (le-leb _ _ (c .before .before .before .before .before .if1 .left)) ∙ and-yes _ _ (eq-eqb _ _ (c .before .before .before .if2 .left)) ∙ or-no _ _ (ne-eqb _ _ (c .before .if3 .left)))
+returns-4 c =
+    let s3 = c .before .before .before in
+    let s5 = s3 .before .before in
+    sym (and-yes _ _ (le-leb _ _ (s5 .if1 .left)) ∙ and-yes _ _ (eq-eqb _ _ (s3 .if2 .left)) ∙ or-no _ _ (ne-eqb _ _ (c .before .if3 .left)))
 
 pub prefixed-spec : {M : Type 1} → statement M
 prefixed-spec =

@@ -1,7 +1,4 @@
-use Rattle.listing.specs.Numbers.{within}
-use mathlib.Core.Path.{sym}
-use Rattle.page.proofs.Picks.{and-yes, and-no}
-use borrow.Author.Tests.{le-leb, lt-leb}
+use Rattle.listing.proofs.Names.{within, sym, and-yes, and-no, le-leb, lt-leb}
 use Rattle.listing.proofs.hex.within.Statement.{statement}
 use Rattle.listing.proofs.hex.within.Tie as tie
 

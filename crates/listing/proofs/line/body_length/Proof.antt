@@ -1,9 +1,5 @@
-use Rattle.listing.specs.Lines.{bodyLength}
+use Rattle.listing.proofs.Names.{bodyLength, sym, pick-yes, pick-no, eq-eqb, ne-eqb, needs}
 use Rattle.listing.proofs.Says.{body-empty}
-use mathlib.Core.Path.{sym}
-use Rattle.page.proofs.Picks.{pick-yes, pick-no}
-use borrow.Author.Tests.{eq-eqb, ne-eqb}
-use borrow.Author.Needs.{needs}
 use Rattle.listing.proofs.line.body_length.Statement.{statement}
 use Rattle.listing.proofs.line.body_length.Tie as tie
 

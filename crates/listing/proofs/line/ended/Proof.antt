@@ -1,8 +1,4 @@
-use Rattle.listing.specs.Lines.{ended}
-use mathlib.Core.Path.{sym, _∙_}
-use Rattle.page.proofs.Picks.{pick-yes, pick-no}
-use borrow.Author.Tests.{eq-eqb, ne-eqb}
-use borrow.Author.Needs.{needs}
+use Rattle.listing.proofs.Names.{lineEnded, sym, _∙_, pick-yes, pick-no, eq-eqb, ne-eqb, needs}
 use Rattle.listing.proofs.line.ended.Statement.{statement}
 use Rattle.listing.proofs.line.ended.Tie as tie
 
@@ -10,11 +6,11 @@ run-requires : tie.Need-run-requires
 run-requires c κs = search needs
 
 returns : tie.Need-returns
-unfolding ended
+unfolding lineEnded
 returns c = sym (pick-yes _ _ _ (eq-eqb _ _ (sym (c .before .run .ensures) ∙ c .if1 .taken)))
 
 returns-2 : tie.Need-returns-2
-unfolding ended
+unfolding lineEnded
 returns-2 c = sym (pick-no _ _ _ (ne-eqb _ _ (λ e. c .if1 .left (c .before .run .ensures ∙ e))))
 
 pub ended-spec : {M : Type 1} → statement M

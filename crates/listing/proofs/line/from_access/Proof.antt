@@ -1,11 +1,6 @@
-use Rattle.listing.specs.Lines.{fromAccess}
+use Rattle.listing.proofs.Names.{fromAccess, sym, _∙_, pick-yes, eq-eqb, now, needs}
 use Rattle.listing.proofs.Says.{access-bad, access-on}
 use Rattle.listing.proofs.Runs.{from-to, to-fits, word-is, rest-is, word-none, word-some}
-use mathlib.Core.Path.{sym, _∙_}
-use Rattle.page.proofs.Picks.{pick-yes}
-use borrow.Author.Tests.{eq-eqb}
-use denote.Ref.{now}
-use borrow.Author.Needs.{needs}
 use Rattle.listing.proofs.line.from_access.Statement.{statement}
 use Rattle.listing.proofs.line.from_access.Tie as tie
 
@@ -29,7 +24,12 @@ access-named-requires : tie.Need-access-named-requires
 access-named-requires c κs = search needs
 
 returns-2 : tie.Need-returns-2
-returns-2 c = access-bad (c .before .before .before .before .before .before .args .line .now) _ _ (word-is _ _ (c .before .before .before .before .word .ensures)) (rest-is _ _ (c .before .before .before .before .word .ensures)) _ _ _ _ (word-some _ _ (c .before .before .before .before .word .ensures) (c .before .before .before .if1 .left)) (c .before .access-named .ensures) (c .if2 .taken)
+returns-2 c =
+    let s3 = c .before .before .before in
+    let s4 = s3 .before in
+    let s6 = s4 .before .before in
+    access-bad (s6 .args .line .now) _ _ (word-is _ _ (s4 .word .ensures)) (rest-is _ _ (s4 .word .ensures)) _ _ _ _ (word-some _ _ (s4 .word .ensures) (s3 .if1 .left))
+    (c .before .access-named .ensures) (c .if2 .taken)
 
 sub-ended : tie.Need-sub-ended
 sub-ended c = to-fits _ _ (c .before .before .before .before .word .ensures)
@@ -44,7 +44,15 @@ ended-requires : tie.Need-ended-requires
 ended-requires c κs = search needs
 
 returns-3 : tie.Need-returns-3
-returns-3 c = c .ended .ensures ∙ access-on (c .before .before .before .before .before .before .before .before .args .line .now) _ _ (word-is _ _ (c .before .before .before .before .before .before .word .ensures)) (rest-is _ _ (c .before .before .before .before .before .before .word .ensures)) _ _ _ _ (word-some _ _ (c .before .before .before .before .before .before .word .ensures) (c .before .before .before .before .before .if1 .left)) (c .before .before .before .access-named .ensures) (c .before .before .if2 .left)
+returns-3 c =
+    let s2 = c .before .before in
+    let s3 = s2 .before in
+    let s5 = s3 .before .before in
+    let s6 = s5 .before in
+    let s8 = s6 .before .before in
+    c .ended .ensures
+    ∙ access-on (s8 .args .line .now) _ _ (word-is _ _ (s6 .word .ensures)) (rest-is _ _ (s6 .word .ensures)) _ _ _ _ (word-some _ _ (s6 .word .ensures) (s5 .if1 .left))
+    (s3 .access-named .ensures) (s2 .if2 .left)
 
 pub from-access-spec : {M : Type 1} → statement M
 from-access-spec =

@@ -1,11 +1,6 @@
-use Rattle.listing.specs.Lines.{fromKind}
+use Rattle.listing.proofs.Names.{fromKind, sym, _∙_, pick-yes, eq-eqb, now, needs}
 use Rattle.listing.proofs.Says.{kind-on}
 use Rattle.listing.proofs.Runs.{from-to, to-fits, word-is, rest-is}
-use mathlib.Core.Path.{sym, _∙_}
-use Rattle.page.proofs.Picks.{pick-yes}
-use borrow.Author.Tests.{eq-eqb}
-use denote.Ref.{now}
-use borrow.Author.Needs.{needs}
 use Rattle.listing.proofs.line.from_kind.Statement.{statement}
 use Rattle.listing.proofs.line.from_kind.Tie as tie
 
@@ -47,13 +42,28 @@ from-virtual-requires : tie.Need-from-virtual-requires
 from-virtual-requires c κs = search needs
 
 returns-2 : tie.Need-returns-2
-returns-2 c = c .from-virtual .ensures ∙ kind-on (c .before .before .before .before .before .before .before .before .before .before .before .args .line .now) _ _ (word-is _ _ (c .before .before .before .before .before .before .before .word .ensures)) (rest-is _ _ (c .before .before .before .before .before .before .before .word .ensures)) _ _ (λ e. c .before .before .before .before .before .before .before .before .if1 .left (c .before .before .before .before .before .before .before .before .before .run .ensures ∙ e)) (c .before .before .before .before .before .kind-named .ensures) (c .before .before .before .n .given .1)
+returns-2 c =
+    let s3 = c .before .before .before in
+    let s5 = s3 .before .before in
+    let s7 = s5 .before .before in
+    let s8 = s7 .before in
+    let s9 = s8 .before in
+    let s11 = s9 .before .before in
+    c .from-virtual .ensures
+    ∙ kind-on (s11 .args .line .now) _ _ (word-is _ _ (s7 .word .ensures)) (rest-is _ _ (s7 .word .ensures)) _ _ (λ e. s8 .if1 .left (s9 .run .ensures ∙ e)) (s5 .kind-named .ensures) (s3 .n .given .1)
 
 enum-told : tie.Need-enum-told
 enum-told c = search needs
 
 returns-3 : tie.Need-returns-3
-returns-3 c = kind-on (c .before .before .before .before .before .before .before .before .args .line .now) _ _ (word-is _ _ (c .before .before .before .before .word .ensures)) (rest-is _ _ (c .before .before .before .before .word .ensures)) _ _ (λ e. c .before .before .before .before .before .if1 .left (c .before .before .before .before .before .before .run .ensures ∙ e)) (c .before .before .kind-named .ensures) (c .enum-told .given .1)
+returns-3 c =
+    let s2 = c .before .before in
+    let s4 = s2 .before .before in
+    let s5 = s4 .before in
+    let s6 = s5 .before in
+    let s8 = s6 .before .before in
+    kind-on (s8 .args .line .now) _ _ (word-is _ _ (s4 .word .ensures)) (rest-is _ _ (s4 .word .ensures)) _ _ (λ e. s5 .if1 .left (s6 .run .ensures ∙ e)) (s2 .kind-named .ensures)
+    (c .enum-told .given .1)
 
 pub from-kind-spec : {M : Type 1} → statement M
 from-kind-spec =

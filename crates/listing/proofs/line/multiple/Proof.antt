@@ -1,11 +1,7 @@
-use lib.Dec.{eqb}
-use Prim.Native.Nat.{_-_, ℕ}
-use Rattle.records.specs.Checks.{multiple}
+use Rattle.listing.specs.Names.{eqb, _-_, ℕ, multiple}
+use Rattle.listing.proofs.Names.{_∙_, ap, arith, needs}
 use Rattle.page.proofs.Lower.{upper-le, upper-rest}
 use Rattle.page.specs.Words.{lowBits}
-use mathlib.Core.Path.{_∙_, ap}
-use native.Mathlib.Omega.{arith}
-use borrow.Author.Needs.{needs}
 use Rattle.listing.proofs.line.multiple.Statement.{statement}
 use Rattle.listing.proofs.line.multiple.Tie as tie
 

@@ -1,12 +1,6 @@
-use Rattle.listing.specs.Lines.{said}
+use Rattle.listing.specs.Names.{ℕ, _<_}
+use Rattle.listing.proofs.Names.{parsed, sym, subst, pick-yes, lt-ltb, now, arith, needs}
 use Rattle.listing.proofs.Says.{body-fits, plain-in, said-short}
-use mathlib.Core.Path.{sym, subst}
-use Rattle.page.proofs.Picks.{pick-yes}
-use borrow.Author.Tests.{lt-ltb}
-use denote.Ref.{now}
-use native.Mathlib.Omega.{arith}
-use Prim.Native.Nat.{ℕ, _<_}
-use borrow.Author.Needs.{needs}
 use Rattle.listing.proofs.line.said.Statement.{statement}
 use Rattle.listing.proofs.line.said.Tie as tie
 
@@ -14,7 +8,7 @@ body-length-requires : tie.Need-body-length-requires
 body-length-requires c κs = search needs
 
 returns : tie.Need-returns
-unfolding said
+unfolding parsed
 returns c = sym (pick-yes _ _ _ (lt-ltb _ _ (subst (λ (n : ℕ). 200 < n) (c .before .body-length .ensures) (c .if1 .taken))))
 
 sub-run : tie.Need-sub-run
@@ -42,7 +36,12 @@ from-kind-requires : tie.Need-from-kind-requires
 from-kind-requires c κs = search needs
 
 returns-2 : tie.Need-returns-2
-returns-2 c = said-short (c .before .before .before .before .before .before .before .args .line .now) _ _ (c .before .before .before .before .before .body-length .ensures) (c .before .before .run .ensures) _ (c .before .before .before .before .if1 .left) (c .from-kind .ensures)
+returns-2 c =
+    let s2 = c .before .before in
+    let s4 = s2 .before .before in
+    let s5 = s4 .before in
+    let s7 = s5 .before .before in
+    said-short (s7 .args .line .now) _ _ (s5 .body-length .ensures) (s2 .run .ensures) _ (s4 .if1 .left) (c .from-kind .ensures)
 
 pub said-spec : {M : Type 1} → statement M
 said-spec =

@@ -1,11 +1,6 @@
+use Rattle.listing.specs.Names.{_≡_, ℕ, _-_, take}
+use Rattle.listing.proofs.Names.{commentOf, _∙_, ap, now, arith, needs}
 use Rattle.listing.proofs.Says.{body-fits}
-use Rattle.listing.specs.Purposes.{commentOf}
-use mathlib.Core.Path.{_≡_, _∙_, ap}
-use denote.Ref.{now}
-use native.Mathlib.Omega.{arith}
-use Prim.Native.Nat.{ℕ, _-_}
-use borrow.Author.Needs.{needs}
-use lib.ListN.{take}
 use Rattle.listing.proofs.notes.comment.Statement.{statement}
 use Rattle.listing.proofs.notes.comment.Tie as tie
 
@@ -25,7 +20,10 @@ words-of-requires : tie.Need-words-of-requires
 words-of-requires c κs = search needs
 
 returns : tie.Need-returns
-returns c = c .words-of .ensures ∙ ap (λ (n : ℕ). commentOf (take n (now (c .before .before .before .before .args .line)))) (let z : c .before .before .body-length .result - 0 ≡ c .before .before .body-length .result = omega arith in z ∙ c .before .before .body-length .ensures)
+returns c =
+    let s2 = c .before .before in
+    let s4 = s2 .before .before in
+    c .words-of .ensures ∙ ap (λ (n : ℕ). commentOf (take n (now (s4 .args .line)))) (let z : s2 .body-length .result - 0 ≡ s2 .body-length .result = omega arith in z ∙ s2 .body-length .ensures)
 
 pub comment-spec : {M : Type 1} → statement M
 comment-spec =

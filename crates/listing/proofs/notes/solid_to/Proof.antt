@@ -1,8 +1,5 @@
+use Rattle.listing.proofs.Names.{refl, sym, _∙_, not-true, not-false, arith, needs}
 use Rattle.listing.proofs.Comments.{Solid, solid-stop, solid-more, solid-none}
-use mathlib.Core.Path.{refl, sym, _∙_}
-use borrow.Author.Tests.{not-true, not-false}
-use native.Mathlib.Omega.{arith}
-use borrow.Author.Needs.{needs}
 use Rattle.listing.proofs.notes.solid_to.Statement.{statement}
 use Rattle.listing.proofs.notes.solid_to.Tie as tie
 
@@ -25,7 +22,10 @@ blank-requires : tie.Need-blank-requires Inv-loop μ-loop
 blank-requires c κs = search needs
 
 returns : tie.Need-returns Inv-loop μ-loop
-returns c = solid-stop _ (c .before .before .before .before .loop .n) (c .before .before .before .loop-test .taken) (c .before .before .before .before .loop .inv) (sym (c .before .blank .ensures) ∙ not-true _ (c .if1 .taken))
+returns c =
+    let s3 = c .before .before .before in
+    let s4 = s3 .before in
+    solid-stop _ (s4 .loop .n) (s3 .loop-test .taken) (s4 .loop .inv) (sym (c .before .blank .ensures) ∙ not-true _ (c .if1 .taken))
 
 sub-n : tie.Need-sub-n Inv-loop μ-loop
 sub-n c = omega arith
@@ -34,7 +34,10 @@ loop-less : tie.Need-loop-less Inv-loop μ-loop
 loop-less c = omega arith
 
 loop-again : tie.Need-loop-again Inv-loop μ-loop
-loop-again c = solid-more _ (c .before .before .before .before .loop .n) (c .before .before .before .loop-test .taken) (c .before .before .before .before .loop .inv) (sym (c .before .blank .ensures) ∙ not-false _ (c .if1 .left))
+loop-again c =
+    let s3 = c .before .before .before in
+    let s4 = s3 .before in
+    solid-more _ (s4 .loop .n) (s3 .loop-test .taken) (s4 .loop .inv) (sym (c .before .blank .ensures) ∙ not-false _ (c .if1 .left))
 
 returns-2 : tie.Need-returns-2 Inv-loop μ-loop
 returns-2 c = solid-none _ (c .before .loop .n) (c .loop-test .left) (c .before .loop .inv)

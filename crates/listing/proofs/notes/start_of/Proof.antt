@@ -1,10 +1,7 @@
+use Rattle.listing.specs.Names.{_-_, _≤_, length}
+use Rattle.listing.proofs.Names.{now, arith, needs}
 use Rattle.listing.proofs.Turns.{line-fits}
 use Rattle.listing.proofs.Comments.{Started, started-first, started-none, started-more, started-last}
-use denote.Ref.{now}
-use native.Mathlib.Omega.{arith}
-use Prim.Native.Nat.{_-_, _≤_}
-use borrow.Author.Needs.{needs}
-use lib.ListN.{length}
 use Rattle.listing.proofs.notes.start_of.Statement.{statement}
 use Rattle.listing.proofs.notes.start_of.Tie as tie
 
@@ -30,16 +27,25 @@ run-requires : tie.Need-run-requires Inv-loop μ-loop
 run-requires c κs = search needs
 
 add-if1 : tie.Need-add-if1 Inv-loop μ-loop
-add-if1 c = omega (arith, line-fits (c .before .before .before .before .before .args .text .now) (c .before .before .before .loop .at) (c .run .result) (c .before .before .before .loop .inv .0) (c .run .ensures))
+add-if1 c =
+    let s3 = c .before .before .before in
+    let s5 = s3 .before .before in
+    omega (arith, line-fits (s5 .args .text .now) (s3 .loop .at) (c .run .result) (s3 .loop .inv .0) (c .run .ensures))
 
 add-result : tie.Need-add-result Inv-loop μ-loop
 add-result c = omega (arith, c .before .before .before .before .before .before .pre)
 
 returns : tie.Need-returns Inv-loop μ-loop
-returns c = started-none _ _ (c .before .before .before .before .loop .at) (c .before .before .before .before .loop .i) _ (c .before .before .before .loop-test .taken) (c .before .before .before .before .loop .inv .0) (c .before .run .ensures) (c .before .before .before .before .loop .inv .2) (c .if1 .taken)
+returns c =
+    let s3 = c .before .before .before in
+    let s4 = s3 .before in
+    started-none _ _ (s4 .loop .at) (s4 .loop .i) _ (s3 .loop-test .taken) (s4 .loop .inv .0) (c .before .run .ensures) (s4 .loop .inv .2) (c .if1 .taken)
 
 add-at : tie.Need-add-at Inv-loop μ-loop
-add-at c = omega (arith, line-fits (c .before .before .before .before .before .before .args .text .now) (c .before .before .before .before .loop .at) (c .before .run .result) (c .before .before .before .before .loop .inv .0) (c .before .run .ensures))
+add-at c =
+    let s4 = c .before .before .before .before in
+    let s6 = s4 .before .before in
+    omega (arith, line-fits (s6 .args .text .now) (s4 .loop .at) (c .before .run .result) (s4 .loop .inv .0) (c .before .run .ensures))
 
 add-at-2 : tie.Need-add-at-2 Inv-loop μ-loop
 add-at-2 c = omega (arith, c .if1 .left, c .before .before .before .before .before .before .pre)
@@ -51,7 +57,10 @@ loop-less : tie.Need-loop-less Inv-loop μ-loop
 loop-less c = omega arith
 
 loop-again : tie.Need-loop-again Inv-loop μ-loop
-loop-again c = (omega (arith, c .if1 .left), omega arith, started-more _ _ (c .before .before .before .before .loop .at) (c .before .before .before .before .loop .i) _ (c .before .before .before .loop-test .taken) (c .before .before .before .before .loop .inv .0) (c .before .run .ensures) (c .before .before .before .before .loop .inv .2) (c .if1 .left))
+loop-again c =
+    let s3 = c .before .before .before in
+    let s4 = s3 .before in
+    (omega (arith, c .if1 .left), omega arith, started-more _ _ (s4 .loop .at) (s4 .loop .i) _ (s3 .loop-test .taken) (s4 .loop .inv .0) (c .before .run .ensures) (s4 .loop .inv .2) (c .if1 .left))
 
 returns-2 : tie.Need-returns-2 Inv-loop μ-loop
 returns-2 c = started-last _ _ (c .before .loop .at) (c .before .loop .i) (c .loop-test .left) (c .before .loop .inv .2)

@@ -1,15 +1,7 @@
+use Rattle.listing.specs.Names.{Class, _+_, _-_, length, take, drop}
+use Rattle.listing.proofs.Names.{commentOf, sym, _∙_, pick-yes, eq-eqb, now, arith, needs, length-take}
 use Rattle.listing.proofs.Comments.{hash-in, comment-none, comment-is}
 use Rattle.listing.proofs.Runs.{run-fits}
-use Rattle.listing.specs.declared.Class.{Class}
-use Rattle.listing.specs.Purposes.{commentOf}
-use mathlib.Core.Path.{sym, _∙_}
-use Rattle.page.proofs.Picks.{pick-yes}
-use borrow.Author.Tests.{eq-eqb}
-use denote.Ref.{now}
-use native.Mathlib.Omega.{arith}
-use Prim.Native.Nat.{_+_, _-_}
-use borrow.Author.Needs.{needs}
-use lib.ListN.{length, take, drop, length-take}
 use Rattle.listing.proofs.notes.words_of.Statement.{statement}
 use Rattle.listing.proofs.notes.words_of.Tie as tie
 
@@ -39,16 +31,38 @@ run-requires-2 : tie.Need-run-requires-2
 run-requires-2 c κs = search needs
 
 add-from-2 : tie.Need-add-from-2
-add-from-2 c = omega (arith, hash-in (c .before .before .before .before .before .args .s .now) _ (c .before .before .before .run .ensures) (c .before .before .if1 .left), c .run2 .ensures, run-fits Class.Blank (take (length (c .before .before .before .before .before .args .s .now) - (c .before .before .before .run .result + 1)) (drop (c .before .before .before .run .result + 1) (c .before .before .before .before .before .args .s .now))), length-take (length (c .before .before .before .before .before .args .s .now) - (c .before .before .before .run .result + 1)) (drop (c .before .before .before .run .result + 1) (c .before .before .before .before .before .args .s .now)))
+add-from-2 c =
+    let s2 = c .before .before in
+    let s3 = s2 .before in
+    let s5 = s3 .before .before in
+    omega (
+      arith,
+      hash-in (s5 .args .s .now) _ (s3 .run .ensures) (s2 .if1 .left),
+      c .run2 .ensures,
+      run-fits Class.Blank
+          (take (length (s5 .args .s .now) - (s3 .run .result + 1)) (drop (s3 .run .result + 1) (s5 .args .s .now))),
+      length-take (length (s5 .args .s .now) - (s3 .run .result + 1))
+          (drop (s3 .run .result + 1) (s5 .args .s .now)),
+    )
 
 solid-to-requires : tie.Need-solid-to-requires
 solid-to-requires c κs = search needs
 
 returns-2 : tie.Need-returns-2
-returns-2 c = comment-none (c .before .before .before .before .before .before .before .args .s .now) _ _ _ (c .before .before .before .before .before .run .ensures) (c .before .before .before .before .if1 .left) (c .before .before .run2 .ensures) (c .before .solid-to .ensures) (c .if2 .taken)
+returns-2 c =
+    let s2 = c .before .before in
+    let s4 = s2 .before .before in
+    let s5 = s4 .before in
+    let s7 = s5 .before .before in
+    comment-none (s7 .args .s .now) _ _ _ (s5 .run .ensures) (s4 .if1 .left) (s2 .run2 .ensures) (c .before .solid-to .ensures) (c .if2 .taken)
 
 returns-3 : tie.Need-returns-3
-returns-3 c = comment-is (c .before .before .before .before .before .before .before .args .s .now) _ _ _ (c .before .before .before .before .before .run .ensures) (c .before .before .before .before .if1 .left) (c .before .before .run2 .ensures) (c .before .solid-to .ensures) (c .if2 .left)
+returns-3 c =
+    let s2 = c .before .before in
+    let s4 = s2 .before .before in
+    let s5 = s4 .before in
+    let s7 = s5 .before .before in
+    comment-is (s7 .args .s .now) _ _ _ (s5 .run .ensures) (s4 .if1 .left) (s2 .run2 .ensures) (c .before .solid-to .ensures) (c .if2 .left)
 
 pub words-of-spec : {M : Type 1} → statement M
 words-of-spec =

@@ -1,9 +1,6 @@
+use Rattle.listing.specs.Names.{_-_, _≤_}
+use Rattle.listing.proofs.Names.{sym, _∙_, not-true, not-false, arith, needs}
 use Rattle.listing.proofs.Columns.{Formed, formed-first, formed-bad, formed-more, formed-last}
-use mathlib.Core.Path.{sym, _∙_}
-use borrow.Author.Tests.{not-true, not-false}
-use native.Mathlib.Omega.{arith}
-use Prim.Native.Nat.{_-_, _≤_}
-use borrow.Author.Needs.{needs}
 use Rattle.listing.proofs.printer.all_formed.Statement.{statement}
 use Rattle.listing.proofs.printer.all_formed.Tie as tie
 
@@ -35,7 +32,10 @@ well-formed-requires : tie.Need-well-formed-requires Inv-loop μ-loop
 well-formed-requires c κs = search needs
 
 returns : tie.Need-returns Inv-loop μ-loop
-returns c = formed-bad _ _ (c .before .before .before .before .loop .i) (c .before .before .before .loop-test .taken) (c .before .before .before .before .loop .inv .1) (sym (c .before .well-formed .ensures) ∙ not-true _ (c .if1 .taken))
+returns c =
+    let s3 = c .before .before .before in
+    let s4 = s3 .before in
+    formed-bad _ _ (s4 .loop .i) (s3 .loop-test .taken) (s4 .loop .inv .1) (sym (c .before .well-formed .ensures) ∙ not-true _ (c .if1 .taken))
 
 add-i : tie.Need-add-i Inv-loop μ-loop
 add-i c = omega arith
@@ -44,7 +44,10 @@ loop-less : tie.Need-loop-less Inv-loop μ-loop
 loop-less c = omega arith
 
 loop-again : tie.Need-loop-again Inv-loop μ-loop
-loop-again c = (omega arith, formed-more _ _ (c .before .before .before .before .loop .i) (c .before .before .before .loop-test .taken) (c .before .before .before .before .loop .inv .1) (sym (c .before .well-formed .ensures) ∙ not-false _ (c .if1 .left)))
+loop-again c =
+    let s3 = c .before .before .before in
+    let s4 = s3 .before in
+    (omega arith, formed-more _ _ (s4 .loop .i) (s3 .loop-test .taken) (s4 .loop .inv .1) (sym (c .before .well-formed .ensures) ∙ not-false _ (c .if1 .left)))
 
 returns-2 : tie.Need-returns-2 Inv-loop μ-loop
 returns-2 c = formed-last _ _ (c .before .loop .i) (c .loop-test .left) (c .before .loop .inv .1)

@@ -1,8 +1,4 @@
-use Rattle.listing.specs.Prints.{formed}
-use mathlib.Core.Path.{sym, _∙_}
-use Rattle.page.proofs.Picks.{and-yes, and-no}
-use borrow.Author.Tests.{eq-eqb, ne-eqb, le-leb, lt-leb}
-use borrow.Author.Needs.{needs}
+use Rattle.listing.proofs.Names.{formed, sym, _∙_, and-yes, and-no, eq-eqb, ne-eqb, le-leb, lt-leb, needs}
 use Rattle.listing.proofs.printer.formed.Statement.{statement}
 use Rattle.listing.proofs.printer.formed.Tie as tie
 

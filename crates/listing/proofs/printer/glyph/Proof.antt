@@ -1,8 +1,4 @@
-use Rattle.listing.specs.Prints.{glyph}
-use mathlib.Core.Path.{sym}
-use Rattle.page.proofs.Picks.{pick-yes, pick-no}
-use borrow.Author.Tests.{lt-ltb, le-ltb}
-use borrow.Author.Needs.{needs}
+use Rattle.listing.proofs.Names.{glyph, sym, pick-yes, pick-no, lt-ltb, le-ltb, needs}
 use Rattle.listing.proofs.printer.glyph.Statement.{statement}
 use Rattle.listing.proofs.printer.glyph.Tie as tie
 

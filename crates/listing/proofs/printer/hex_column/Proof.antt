@@ -1,5 +1,4 @@
-use Rattle.listing.specs.Prints.{hexText}
-use borrow.Author.Needs.{needs}
+use Rattle.listing.proofs.Names.{hexText, needs}
 use Rattle.listing.proofs.printer.hex_column.Statement.{statement}
 use Rattle.listing.proofs.printer.hex_column.Tie as tie
 
@@ -29,7 +28,14 @@ glyph-requires-8 c κs = search needs
 
 returns : tie.Need-returns
 unfolding hexText
-returns c = rw (c .glyph8 .ensures, c .before .glyph7 .ensures, c .before .before .glyph6 .ensures, c .before .before .before .glyph5 .ensures, c .before .before .before .before .glyph4 .ensures, c .before .before .before .before .before .glyph3 .ensures, c .before .before .before .before .before .before .glyph2 .ensures, c .before .before .before .before .before .before .before .glyph .ensures)
+returns c =
+    let s2 = c .before .before in
+    let s3 = s2 .before in
+    let s4 = s3 .before in
+    let s5 = s4 .before in
+    let s6 = s5 .before in
+    let s7 = s6 .before in
+    rw (c .glyph8 .ensures, c .before .glyph7 .ensures, s2 .glyph6 .ensures, s3 .glyph5 .ensures, s4 .glyph4 .ensures, s5 .glyph3 .ensures, s6 .glyph2 .ensures, s7 .glyph .ensures)
 
 pub hex-column-spec : {M : Type 1} → statement M
 hex-column-spec =

@@ -1,11 +1,5 @@
-use Rattle.listing.specs.Prints.{accessText, shown, shownAt}
-use mathlib.Core.List.{List, [], _∷_, _++_}
-use mathlib.Core.Path.{sym, _∙_, ap}
-use Rattle.page.proofs.Picks.{pick-yes, pick-no}
-use borrow.Author.Tests.{eq-eqb, ne-eqb}
-use denote.Ref.{now}
-use Prim.Native.Nat.{ℕ, _+_}
-use borrow.Author.Needs.{needs}
+use Rattle.listing.specs.Names.{List, [], _∷_, _++_, ℕ, _+_}
+use Rattle.listing.proofs.Names.{accessText, shown, shownAt, sym, _∙_, ap, pick-yes, pick-no, eq-eqb, ne-eqb, now, needs}
 use Rattle.listing.proofs.printer.put_access.Statement.{statement}
 use Rattle.listing.proofs.printer.put_access.Tie as tie
 
@@ -23,7 +17,11 @@ same-length c = search needs
 
 returns : tie.Need-returns
 unfolding accessText
-returns c = ap (shown (c .before .before .before .before .before .before .before .args .at + 3)) (c .before .before .put .ensures) ∙ ap (λ (s : List ℕ). shownAt (now (c .before .before .before .before .before .before .before .args .out)) (c .before .before .before .before .before .before .before .args .at) (s ++ (10 ∷ []))) (sym (pick-yes _ _ _ (eq-eqb _ _ (c .before .before .before .before .before .if1 .taken))))
+returns c =
+    let s2 = c .before .before in
+    let s5 = s2 .before .before .before in
+    let s7 = s5 .before .before in
+    ap (shown (s7 .args .at + 3)) (s2 .put .ensures) ∙ ap (λ (s : List ℕ). shownAt (now (s7 .args .out)) (s7 .args .at) (s ++ (10 ∷ []))) (sym (pick-yes _ _ _ (eq-eqb _ _ (s5 .if1 .taken))))
 
 slice-aggregate-put-2 : tie.Need-slice-aggregate-put-2
 slice-aggregate-put-2 c = search needs
@@ -39,7 +37,11 @@ same-length-2 c = search needs
 
 returns-2 : tie.Need-returns-2
 unfolding accessText
-returns-2 c = ap (shown (c .before .before .before .before .before .before .before .args .at + 2)) (c .before .before .put2 .ensures) ∙ ap (λ (s : List ℕ). shownAt (now (c .before .before .before .before .before .before .before .args .out)) (c .before .before .before .before .before .before .before .args .at) (s ++ (10 ∷ []))) (sym (pick-no _ _ _ (ne-eqb _ _ (c .before .before .before .before .before .if1 .left))))
+returns-2 c =
+    let s2 = c .before .before in
+    let s5 = s2 .before .before .before in
+    let s7 = s5 .before .before in
+    ap (shown (s7 .args .at + 2)) (s2 .put2 .ensures) ∙ ap (λ (s : List ℕ). shownAt (now (s7 .args .out)) (s7 .args .at) (s ++ (10 ∷ []))) (sym (pick-no _ _ _ (ne-eqb _ _ (s5 .if1 .left))))
 
 pub put-access-spec : {M : Type 1} → statement M
 put-access-spec =

@@ -1,8 +1,4 @@
-use Rattle.listing.specs.Prints.{kindColumn}
-use Rattle.listing.specs.Texts.{pasted}
-use mathlib.Core.Path.{sym, _∙_, ap}
-use denote.Ref.{now}
-use borrow.Author.Needs.{needs}
+use Rattle.listing.proofs.Names.{kindColumn, pasted, sym, _∙_, ap, now, needs}
 use Rattle.listing.proofs.printer.put_kind.Statement.{statement}
 use Rattle.listing.proofs.printer.put_kind.Tie as tie
 
@@ -46,25 +42,41 @@ same-length : tie.Need-same-length
 same-length c = search needs
 
 returns : tie.Need-returns
-returns c = c .before .before .put .ensures ∙ ap (λ k. pasted (now (c .before .before .before .before .before .before .before .before .args .out)) (c .before .before .before .before .before .before .before .before .args .at) (kindColumn k)) (sym (c .before .before .before .before .before .enum-told .given .1))
+returns c =
+    let s2 = c .before .before in
+    let s5 = s2 .before .before .before in
+    let s8 = s5 .before .before .before in
+    s2 .put .ensures ∙ ap (λ k. pasted (now (s8 .args .out)) (s8 .args .at) (kindColumn k)) (sym (s5 .enum-told .given .1))
 
 same-length-2 : tie.Need-same-length-2
 same-length-2 c = search needs
 
 returns-2 : tie.Need-returns-2
-returns-2 c = c .before .before .put2 .ensures ∙ ap (λ k. pasted (now (c .before .before .before .before .before .before .before .before .args .out)) (c .before .before .before .before .before .before .before .before .args .at) (kindColumn k)) (sym (c .before .before .before .before .before .enum-told2 .given .1))
+returns-2 c =
+    let s2 = c .before .before in
+    let s5 = s2 .before .before .before in
+    let s8 = s5 .before .before .before in
+    s2 .put2 .ensures ∙ ap (λ k. pasted (now (s8 .args .out)) (s8 .args .at) (kindColumn k)) (sym (s5 .enum-told2 .given .1))
 
 same-length-3 : tie.Need-same-length-3
 same-length-3 c = search needs
 
 returns-3 : tie.Need-returns-3
-returns-3 c = c .before .before .put3 .ensures ∙ ap (λ k. pasted (now (c .before .before .before .before .before .before .before .before .args .out)) (c .before .before .before .before .before .before .before .before .args .at) (kindColumn k)) (sym (c .before .before .before .before .before .enum-told3 .given .1))
+returns-3 c =
+    let s2 = c .before .before in
+    let s5 = s2 .before .before .before in
+    let s8 = s5 .before .before .before in
+    s2 .put3 .ensures ∙ ap (λ k. pasted (now (s8 .args .out)) (s8 .args .at) (kindColumn k)) (sym (s5 .enum-told3 .given .1))
 
 same-length-4 : tie.Need-same-length-4
 same-length-4 c = search needs
 
 returns-4 : tie.Need-returns-4
-returns-4 c = c .before .before .put4 .ensures ∙ ap (λ k. pasted (now (c .before .before .before .before .before .before .before .before .args .out)) (c .before .before .before .before .before .before .before .before .args .at) (kindColumn k)) (sym (c .before .before .before .before .before .enum-told4 .given .1))
+returns-4 c =
+    let s2 = c .before .before in
+    let s5 = s2 .before .before .before in
+    let s8 = s5 .before .before .before in
+    s2 .put4 .ensures ∙ ap (λ k. pasted (now (s8 .args .out)) (s8 .args .at) (kindColumn k)) (sym (s5 .enum-told4 .given .1))
 
 pub put-kind-spec : {M : Type 1} → statement M
 put-kind-spec =

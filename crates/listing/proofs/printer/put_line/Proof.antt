@@ -1,6 +1,5 @@
+use Rattle.listing.proofs.Names.{now, needs}
 use Rattle.listing.proofs.Columns.{line-made}
-use denote.Ref.{now}
-use borrow.Author.Needs.{needs}
 use Rattle.listing.proofs.printer.put_line.Statement.{statement}
 use Rattle.listing.proofs.printer.put_line.Tie as tie
 
@@ -47,7 +46,16 @@ same-length : tie.Need-same-length
 same-length c = search needs
 
 returns : tie.Need-returns
-returns c = line-made (now (c .before .before .before .before .before .before .before .before .before .before .before .before .before .before .before .before .before .before .before .before .before .before .before .before .args .out)) _ _ _ _ _ _ _ _ (c .before .before .before .before .before .before .before .before .before .before .before .before .before .before .before .before .before .before .before .before .before .before .before .before .args .m) (c .before .before .before .before .before .before .before .before .before .before .before .before .before .before .before .before .before .before .before .before .before .before .before .before .pre) (c .before .before .before .before .before .before .before .before .before .before .before .before .before .before .before .before .before .before .before .put-kind .ensures) (c .before .before .before .before .before .before .before .before .before .before .before .before .before .before .before .before .hex-column .ensures) (c .before .before .before .before .before .before .before .before .before .before .before .before .put .ensures) (c .before .before .before .before .before .before .before .before .before .hex-column2 .ensures) (c .before .before .before .before .before .before .put2 .ensures) (c .before .before .put-access .ensures)
+returns c =
+    let s2 = c .before .before in
+    let s6 = s2 .before .before .before .before in
+    let s9 = s6 .before .before .before in
+    let s12 = s9 .before .before .before in
+    let s16 = s12 .before .before .before .before in
+    let s19 = s16 .before .before .before in
+    let s24 = s19 .before .before .before .before .before in
+    line-made (now (s24 .args .out)) _ _ _ _ _ _ _ _ (s24 .args .m) (s24 .pre) (s19 .put-kind .ensures) (s16 .hex-column .ensures) (s12 .put .ensures) (s9 .hex-column2 .ensures)
+    (s6 .put2 .ensures) (s2 .put-access .ensures)
 
 pub put-line-spec : {M : Type 1} → statement M
 put-line-spec =

@@ -1,10 +1,6 @@
+use Rattle.listing.specs.Names.{mappings, ℕ, _-_, _<_, _≤_, length}
+use Rattle.listing.proofs.Names.{subst, arith, needs}
 use Rattle.listing.proofs.Columns.{Turned, printing-first, printing-room, printing-turn, printing-last}
-use Rattle.records.specs.Mappings.{mappings}
-use mathlib.Core.Path.{subst}
-use native.Mathlib.Omega.{arith}
-use Prim.Native.Nat.{ℕ, _-_, _<_, _≤_}
-use borrow.Author.Needs.{needs}
-use lib.ListN.{length}
 use Rattle.listing.proofs.printer.put_lines.Statement.{statement}
 use Rattle.listing.proofs.printer.put_lines.Tie as tie
 
@@ -24,7 +20,11 @@ mapping-at-requires : tie.Need-mapping-at-requires Inv-loop μ-loop
 mapping-at-requires c κs = search needs
 
 put-line-requires : tie.Need-put-line-requires Inv-loop μ-loop
-put-line-requires c κs = printing-room _ _ _ _ _ (c .before .before .before .loop .inv) (subst (λ (n : ℕ). c .before .before .before .loop .i < n) (c .before .before .before .before .count .ensures) (c .before .before .loop-test .taken))
+put-line-requires c κs =
+    let s2 = c .before .before in
+    let s3 = s2 .before in
+    let s4 = s3 .before in
+    printing-room _ _ _ _ _ (s3 .loop .inv) (subst (λ (n : ℕ). s3 .loop .i < n) (s4 .count .ensures) (s2 .loop-test .taken))
 
 add-i : tie.Need-add-i Inv-loop μ-loop
 add-i c = omega arith
@@ -33,7 +33,14 @@ loop-less : tie.Need-loop-less Inv-loop μ-loop
 loop-less c = omega (arith, c .before .before .before .before .before .before .before .count .ensures)
 
 loop-again : tie.Need-loop-again Inv-loop μ-loop
-loop-again c = printing-turn _ _ _ _ _ (c .before .before .before .before .before .before .loop .inv) _ _ _ (subst (λ (n : ℕ). c .before .before .before .before .before .before .loop .i < n) (c .before .before .before .before .before .before .before .count .ensures) (c .before .before .before .before .before .loop-test .taken)) (c .before .before .before .mapping-at .ensures) (c .before .before .put-line .kept .0) (c .before .before .put-line .ensures)
+loop-again c =
+    let s2 = c .before .before in
+    let s3 = s2 .before in
+    let s5 = s3 .before .before in
+    let s6 = s5 .before in
+    let s7 = s6 .before in
+    printing-turn _ _ _ _ _ (s6 .loop .inv) _ _ _ (subst (λ (n : ℕ). s6 .loop .i < n) (s7 .count .ensures) (s5 .loop-test .taken)) (s3 .mapping-at .ensures) (s2 .put-line .kept .0)
+    (s2 .put-line .ensures)
 
 same-length : tie.Need-same-length Inv-loop μ-loop
 same-length c = c .before .loop .inv .kept

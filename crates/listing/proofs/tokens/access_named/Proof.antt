@@ -1,7 +1,4 @@
-use Rattle.listing.specs.Words.{accessNamed}
-use mathlib.Core.Path.{sym, _∙_}
-use Rattle.page.proofs.Picks.{pick-yes, pick-no}
-use borrow.Author.Needs.{needs}
+use Rattle.listing.proofs.Names.{accessNamed, sym, _∙_, pick-yes, pick-no, needs}
 use Rattle.listing.proofs.tokens.access_named.Statement.{statement}
 use Rattle.listing.proofs.tokens.access_named.Tie as tie
 

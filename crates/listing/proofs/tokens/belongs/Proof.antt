@@ -1,7 +1,5 @@
-use mathlib.Core.Bool.{not}
-use Rattle.listing.specs.Words.{belongs}
-use mathlib.Core.Path.{sym, _∙_, ap}
-use borrow.Author.Needs.{needs}
+use Rattle.listing.specs.Names.{not}
+use Rattle.listing.proofs.Names.{belongs, sym, _∙_, ap, needs}
 use Rattle.listing.proofs.tokens.belongs.Statement.{statement}
 use Rattle.listing.proofs.tokens.belongs.Tie as tie
 

@@ -1,7 +1,4 @@
-use Rattle.listing.specs.Words.{blank}
-use mathlib.Core.Path.{sym}
-use Rattle.page.proofs.Picks.{or-yes, or-no}
-use borrow.Author.Tests.{eq-eqb, ne-eqb}
+use Rattle.listing.proofs.Names.{blank, sym, or-yes, or-no, eq-eqb, ne-eqb}
 use Rattle.listing.proofs.tokens.blank.Statement.{statement}
 use Rattle.listing.proofs.tokens.blank.Tie as tie
 

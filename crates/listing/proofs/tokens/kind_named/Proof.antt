@@ -1,7 +1,4 @@
-use Rattle.listing.specs.Words.{kindNamed}
-use mathlib.Core.Path.{sym, _∙_}
-use Rattle.page.proofs.Picks.{pick-yes, pick-no}
-use borrow.Author.Needs.{needs}
+use Rattle.listing.proofs.Names.{kindNamed, sym, _∙_, pick-yes, pick-no, needs}
 use Rattle.listing.proofs.tokens.kind_named.Statement.{statement}
 use Rattle.listing.proofs.tokens.kind_named.Tie as tie
 
@@ -33,7 +30,12 @@ same-requires-3 c κs = search needs
 
 returns-3 : tie.Need-returns-3
 unfolding kindNamed
-returns-3 c = sym (pick-no _ _ _ (sym (c .before .before .before .before .before .before .before .same .ensures) ∙ c .before .before .before .before .before .before .if1 .left) ∙ pick-no _ _ _ (sym (c .before .before .before .before .same2 .ensures) ∙ c .before .before .before .if2 .left) ∙ pick-yes _ _ _ (sym (c .before .same3 .ensures) ∙ c .if3 .taken))
+returns-3 c =
+    let s3 = c .before .before .before in
+    let s4 = s3 .before in
+    let s6 = s4 .before .before in
+    let s7 = s6 .before in
+    sym (pick-no _ _ _ (sym (s7 .same .ensures) ∙ s6 .if1 .left) ∙ pick-no _ _ _ (sym (s4 .same2 .ensures) ∙ s3 .if2 .left) ∙ pick-yes _ _ _ (sym (c .before .same3 .ensures) ∙ c .if3 .taken))
 
 slice-aggregate-same-4 : tie.Need-slice-aggregate-same-4
 slice-aggregate-same-4 c = search needs
@@ -43,11 +45,27 @@ same-requires-4 c κs = search needs
 
 returns-4 : tie.Need-returns-4
 unfolding kindNamed
-returns-4 c = sym (pick-no _ _ _ (sym (c .before .before .before .before .before .before .before .before .before .before .same .ensures) ∙ c .before .before .before .before .before .before .before .before .before .if1 .left) ∙ pick-no _ _ _ (sym (c .before .before .before .before .before .before .before .same2 .ensures) ∙ c .before .before .before .before .before .before .if2 .left) ∙ pick-no _ _ _ (sym (c .before .before .before .before .same3 .ensures) ∙ c .before .before .before .if3 .left) ∙ pick-yes _ _ _ (sym (c .before .same4 .ensures) ∙ c .if4 .taken))
+returns-4 c =
+    let s3 = c .before .before .before in
+    let s4 = s3 .before in
+    let s6 = s4 .before .before in
+    let s7 = s6 .before in
+    let s9 = s7 .before .before in
+    let s10 = s9 .before in
+    sym (pick-no _ _ _ (sym (s10 .same .ensures) ∙ s9 .if1 .left) ∙ pick-no _ _ _ (sym (s7 .same2 .ensures) ∙ s6 .if2 .left)
+    ∙ pick-no _ _ _ (sym (s4 .same3 .ensures) ∙ s3 .if3 .left) ∙ pick-yes _ _ _ (sym (c .before .same4 .ensures) ∙ c .if4 .taken))
 
 returns-5 : tie.Need-returns-5
 unfolding kindNamed
-returns-5 c = sym (pick-no _ _ _ (sym (c .before .before .before .before .before .before .before .before .before .before .same .ensures) ∙ c .before .before .before .before .before .before .before .before .before .if1 .left) ∙ pick-no _ _ _ (sym (c .before .before .before .before .before .before .before .same2 .ensures) ∙ c .before .before .before .before .before .before .if2 .left) ∙ pick-no _ _ _ (sym (c .before .before .before .before .same3 .ensures) ∙ c .before .before .before .if3 .left) ∙ pick-no _ _ _ (sym (c .before .same4 .ensures) ∙ c .if4 .left))
+returns-5 c =
+    let s3 = c .before .before .before in
+    let s4 = s3 .before in
+    let s6 = s4 .before .before in
+    let s7 = s6 .before in
+    let s9 = s7 .before .before in
+    let s10 = s9 .before in
+    sym (pick-no _ _ _ (sym (s10 .same .ensures) ∙ s9 .if1 .left) ∙ pick-no _ _ _ (sym (s7 .same2 .ensures) ∙ s6 .if2 .left)
+    ∙ pick-no _ _ _ (sym (s4 .same3 .ensures) ∙ s3 .if3 .left) ∙ pick-no _ _ _ (sym (c .before .same4 .ensures) ∙ c .if4 .left))
 
 pub kind-named-spec : {M : Type 1} → statement M
 kind-named-spec =

@@ -1,8 +1,6 @@
+use Rattle.listing.specs.Names.{_≡_, _-_, _≤_, length}
+use Rattle.listing.proofs.Names.{refl, sym, arith}
 use Rattle.listing.proofs.Runs.{Alike, unlike-length, alike-stop, alike-more, alike-end}
-use mathlib.Core.Path.{_≡_, refl, sym}
-use native.Mathlib.Omega.{arith}
-use Prim.Native.Nat.{_-_, _≤_}
-use lib.ListN.{length}
 use Rattle.listing.proofs.tokens.same.Statement.{statement}
 use Rattle.listing.proofs.tokens.same.Tie as tie
 
@@ -34,7 +32,10 @@ loop-less : tie.Need-loop-less Inv-loop μ-loop
 loop-less c = omega arith
 
 loop-again : tie.Need-loop-again Inv-loop μ-loop
-loop-again c = (omega arith, c .before .before .before .before .loop .inv .1, alike-more _ _ (c .before .before .before .before .loop .i) (c .before .before .before .loop-test .taken) (omega arith) (c .before .before .before .before .loop .inv .2) (c .if2 .left))
+loop-again c =
+    let s3 = c .before .before .before in
+    let s4 = s3 .before in
+    (omega arith, s4 .loop .inv .1, alike-more _ _ (s4 .loop .i) (s3 .loop-test .taken) (omega arith) (s4 .loop .inv .2) (c .if2 .left))
 
 returns-3 : tie.Need-returns-3 Inv-loop μ-loop
 returns-3 c = alike-end _ _ (c .before .loop .i) (c .loop-test .left) (omega arith) (c .before .loop .inv .2)

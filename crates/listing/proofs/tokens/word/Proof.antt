@@ -1,11 +1,6 @@
-use Rattle.listing.specs.Words.{run}
-use Rattle.listing.specs.declared.Class.{Class}
+use Rattle.listing.specs.Names.{Class, _-_, length, take, drop}
+use Rattle.listing.proofs.Names.{now, arith, needs, length-take}
 use Rattle.listing.proofs.Runs.{run-fits, span-made}
-use denote.Ref.{now}
-use native.Mathlib.Omega.{arith}
-use Prim.Native.Nat.{_-_}
-use borrow.Author.Needs.{needs}
-use lib.ListN.{length, take, drop, length-take}
 use Rattle.listing.proofs.tokens.word.Statement.{statement}
 use Rattle.listing.proofs.tokens.word.Tie as tie
 
@@ -25,7 +20,19 @@ run-requires-2 : tie.Need-run-requires-2
 run-requires-2 c κs = search needs
 
 add-t6 : tie.Need-add-t6
-add-t6 c = omega (arith, c .before .before .run .ensures, c .run2 .ensures, run-fits Class.Blank (c .before .before .before .before .args .s .now), run-fits Class.Solid (take (length (c .before .before .before .before .args .s .now) - c .before .before .run .result) (drop (c .before .before .run .result) (c .before .before .before .before .args .s .now))), length-take (length (c .before .before .before .before .args .s .now) - c .before .before .run .result) (drop (c .before .before .run .result) (c .before .before .before .before .args .s .now)))
+add-t6 c =
+    let s2 = c .before .before in
+    let s4 = s2 .before .before in
+    omega (
+      arith,
+      s2 .run .ensures,
+      c .run2 .ensures,
+      run-fits Class.Blank (s4 .args .s .now),
+      run-fits Class.Solid
+          (take (length (s4 .args .s .now) - s2 .run .result) (drop (s2 .run .result) (s4 .args .s .now))),
+      length-take (length (s4 .args .s .now) - s2 .run .result)
+          (drop (s2 .run .result) (s4 .args .s .now)),
+    )
 
 returns : tie.Need-returns
 returns c = span-made (c .before .before .before .before .args .s .now) _ _ (c .before .before .run .ensures) (c .run2 .ensures)

@@ -1,6 +1,5 @@
+use Rattle.memory.proofs.Names.{apart, needs}
 use Rattle.page.proofs.Picks.{any-four}
-use Rattle.memory.specs.Spans.{apart}
-use borrow.Author.Needs.{needs}
 use Rattle.memory.proofs.spans.are_apart.Statement.{statement}
 use Rattle.memory.proofs.spans.are_apart.Tie as tie
 

@@ -1,8 +1,5 @@
-use Rattle.builder.specs.declared.Built.{Built}
-use Rattle.builder.specs.Build.{outcome}
+use Rattle.mkimage.proofs.Names.{Built, outcome, refl, sym, _∙_, ap, needs}
 use Rattle.mkimage.proofs.Texts.{shown-nothing, shown-image, shown-refusal}
-use mathlib.Core.Path.{refl, sym, _∙_, ap}
-use borrow.Author.Needs.{needs}
 use Rattle.mkimage.proofs.output.output.Statement.{statement}
 use Rattle.mkimage.proofs.output.output.Tie as tie
 
@@ -43,31 +40,57 @@ same-length : tie.Need-same-length
 same-length c = search needs
 
 returns-2 : tie.Need-returns-2
-returns-2 c = shown-image _ _ (c .before .before .before .before .before .before .before .if1 .left) _ _ (ap (λ b. outcome b (c .before .before .before .before .before .build .last .1 .1 .0)) (sym (c .before .built .given .1)) ∙ c .before .before .before .before .before .build .ensures)
+returns-2 c =
+    let s5 = c .before .before .before .before .before in
+    let s7 = s5 .before .before in
+    shown-image _ _ (s7 .if1 .left) _ _ (ap (λ b. outcome b (s5 .build .last .1 .1 .0)) (sym (c .before .built .given .1)) ∙ s5 .build .ensures)
 
 same-length-2 : tie.Need-same-length-2
 same-length-2 c = search needs
 
 returns-3 : tie.Need-returns-3
-returns-3 c = shown-refusal _ _ (c .before .before .before .before .before .before .before .before .before .before .if1 .left) Built.BadMemory _ _ (ap (λ b. outcome b (c .before .before .before .before .before .before .before .before .build .last .1 .1 .0)) (sym (c .before .before .before .before .enum-told .given .1)) ∙ c .before .before .before .before .before .before .before .before .build .ensures) refl (c .before .before .put-message .ensures)
+returns-3 c =
+    let s2 = c .before .before in
+    let s4 = s2 .before .before in
+    let s8 = s4 .before .before .before .before in
+    let s10 = s8 .before .before in
+    shown-refusal _ _ (s10 .if1 .left) Built.BadMemory _ _ (ap (λ b. outcome b (s8 .build .last .1 .1 .0)) (sym (s4 .enum-told .given .1)) ∙ s8 .build .ensures) refl (s2 .put-message .ensures)
 
 same-length-3 : tie.Need-same-length-3
 same-length-3 c = search needs
 
 returns-4 : tie.Need-returns-4
-returns-4 c = shown-refusal _ _ (c .before .before .before .before .before .before .before .before .before .before .before .if1 .left) (Built.BadRecord (c .before .before .before .before .before .built2 .given .0 .0)) _ _ (ap (λ b. outcome b (c .before .before .before .before .before .before .before .before .before .build .last .1 .1 .0)) (sym (c .before .before .before .before .before .built2 .given .1)) ∙ c .before .before .before .before .before .before .before .before .before .build .ensures) refl (c .before .before .put-message2 .ensures)
+returns-4 c =
+    let s2 = c .before .before in
+    let s5 = s2 .before .before .before in
+    let s9 = s5 .before .before .before .before in
+    let s11 = s9 .before .before in
+    shown-refusal _ _ (s11 .if1 .left) (Built.BadRecord (s5 .built2 .given .0 .0)) _ _
+    (ap (λ b. outcome b (s9 .build .last .1 .1 .0)) (sym (s5 .built2 .given .1)) ∙ s9 .build .ensures) refl (s2 .put-message2 .ensures)
 
 same-length-4 : tie.Need-same-length-4
 same-length-4 c = search needs
 
 returns-5 : tie.Need-returns-5
-returns-5 c = shown-refusal _ _ (c .before .before .before .before .before .before .before .before .before .before .before .if1 .left) (Built.Overlap (c .before .before .before .before .before .built3 .given .0 .0)) _ _ (ap (λ b. outcome b (c .before .before .before .before .before .before .before .before .before .build .last .1 .1 .0)) (sym (c .before .before .before .before .before .built3 .given .1)) ∙ c .before .before .before .before .before .before .before .before .before .build .ensures) refl (c .before .before .put-message3 .ensures)
+returns-5 c =
+    let s2 = c .before .before in
+    let s5 = s2 .before .before .before in
+    let s9 = s5 .before .before .before .before in
+    let s11 = s9 .before .before in
+    shown-refusal _ _ (s11 .if1 .left) (Built.Overlap (s5 .built3 .given .0 .0)) _ _
+    (ap (λ b. outcome b (s9 .build .last .1 .1 .0)) (sym (s5 .built3 .given .1)) ∙ s9 .build .ensures) refl (s2 .put-message3 .ensures)
 
 same-length-5 : tie.Need-same-length-5
 same-length-5 c = search needs
 
 returns-6 : tie.Need-returns-6
-returns-6 c = shown-refusal _ _ (c .before .before .before .before .before .before .before .before .before .before .before .if1 .left) (Built.TooLong (c .before .before .before .before .before .built4 .given .0 .0)) _ _ (ap (λ b. outcome b (c .before .before .before .before .before .before .before .before .before .build .last .1 .1 .0)) (sym (c .before .before .before .before .before .built4 .given .1)) ∙ c .before .before .before .before .before .before .before .before .before .build .ensures) refl (c .before .before .put-message4 .ensures)
+returns-6 c =
+    let s2 = c .before .before in
+    let s5 = s2 .before .before .before in
+    let s9 = s5 .before .before .before .before in
+    let s11 = s9 .before .before in
+    shown-refusal _ _ (s11 .if1 .left) (Built.TooLong (s5 .built4 .given .0 .0)) _ _
+    (ap (λ b. outcome b (s9 .build .last .1 .1 .0)) (sym (s5 .built4 .given .1)) ∙ s9 .build .ensures) refl (s2 .put-message4 .ensures)
 
 pub output-spec : {M : Type 1} → statement M
 output-spec =

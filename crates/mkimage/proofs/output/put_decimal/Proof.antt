@@ -1,10 +1,6 @@
+use Rattle.mkimage.specs.Names.{take}
+use Rattle.mkimage.proofs.Names.{decimal, _∙_, now, arith, needs}
 use Rattle.mkimage.proofs.Texts.{pasted-taken, digits-are, fewest-twenty}
-use Rattle.mkimage.specs.Output.{decimal}
-use lib.ListN.{take}
-use mathlib.Core.Path.{_∙_}
-use denote.Ref.{now}
-use native.Mathlib.Omega.{arith}
-use borrow.Author.Needs.{needs}
 use Rattle.mkimage.proofs.output.put_decimal.Statement.{statement}
 use Rattle.mkimage.proofs.output.put_decimal.Tie as tie
 
@@ -24,7 +20,12 @@ same-length : tie.Need-same-length
 same-length c = search needs
 
 returns : tie.Need-returns
-returns c = pasted-taken (now (c .before .before .before .before .before .before .before .before .args .out)) (c .before .before .before .before .before .before .before .before .args .at) (take (c .before .before .before .before .before .decimal .result) (c .before .before .before .before .before .decimal .last .1 .0)) (decimal (c .before .before .before .before .before .before .before .before .args .n)) _ _ (c .before .before .before .before .before .decimal .ensures .1 .1 ∙ digits-are 20 (c .before .before .before .before .before .decimal .result) (c .before .before .before .before .before .before .before .before .args .n) (c .before .before .before .before .before .decimal .ensures .1 .0) (fewest-twenty _ _ (c .before .before .before .before .before .decimal .ensures .1 .0) (omega arith))) (c .before .before .put .ensures)
+returns c =
+    let s2 = c .before .before in
+    let s5 = s2 .before .before .before in
+    let s8 = s5 .before .before .before in
+    pasted-taken (now (s8 .args .out)) (s8 .args .at) (take (s5 .decimal .result) (s5 .decimal .last .1 .0)) (decimal (s8 .args .n)) _ _
+    (s5 .decimal .ensures .1 .1 ∙ digits-are 20 (s5 .decimal .result) (s8 .args .n) (s5 .decimal .ensures .1 .0) (fewest-twenty _ _ (s5 .decimal .ensures .1 .0) (omega arith))) (s2 .put .ensures)
 
 pub put-decimal-spec : {M : Type 1} → statement M
 put-decimal-spec =

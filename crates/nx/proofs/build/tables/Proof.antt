@@ -1,7 +1,5 @@
-use mathlib.Core.Logic.{⊎-elim}
-use native.Mathlib.Omega.{arith}
-use Prim.Native.Nat.{_≤_, _-_}
-use borrow.Author.Needs.{needs}
+use Rattle.nx.proofs.Names.{⊎-elim, arith, _-_, needs}
+use Prim.Native.Nat.{_≤_}
 use Rattle.nx.proofs.build.tables.Statement.{statement}
 use Rattle.nx.proofs.build.tables.Tie as tie
 

@@ -1,6 +1,6 @@
+use Rattle.nx.proofs.Names.{needs}
 use mathlib.Core.Path.{_≡_}
 use lib.ListN.{length}
-use borrow.Author.Needs.{needs}
 use Rattle.nx.proofs.files.read_on.Statement.{statement}
 use Rattle.nx.proofs.files.read_on.Tie as tie
 

@@ -1,4 +1,4 @@
-use borrow.Author.Needs.{needs}
+use Rattle.nx.proofs.Names.{needs}
 use Rattle.nx.proofs.parse.kept.Statement.{statement}
 use Rattle.nx.proofs.parse.kept.Tie as tie
 

@@ -1,5 +1,4 @@
-use Prim.Native.Nat.{_-_}
-use borrow.Author.Needs.{needs}
+use Rattle.nx.proofs.Names.{_-_, needs}
 use Rattle.nx.proofs.parse.start.Statement.{statement}
 use Rattle.nx.proofs.parse.start.Tie as tie
 

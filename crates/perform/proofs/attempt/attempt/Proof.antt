@@ -1,13 +1,7 @@
-use Rattle.memory.specs.Memory.{lent}
-use Rattle.walk.specs.Walk.{walkWithin}
-use Rattle.perform.specs.declared.Charged.{Charged}
-use Rattle.perform.specs.Attempts.{wordlessOf, walkedOf}
+use Rattle.perform.specs.Names.{lent, walkWithin, Charged}
+use Rattle.perform.proofs.Names.{wordlessOf, walkedOf, sym, _∙_, ap, now, arith, needs}
 use Rattle.perform.proofs.Joins.{off-after, match-after, miss-after, walk-after}
-use mathlib.Core.Path.{sym, _∙_, ap}
 use borrow.Author.Tests.{not-true, not-false}
-use denote.Ref.{now}
-use native.Mathlib.Omega.{arith}
-use borrow.Author.Needs.{needs}
 use Rattle.perform.proofs.attempt.attempt.Statement.{statement}
 use Rattle.perform.proofs.attempt.attempt.Tie as tie
 
@@ -93,7 +87,7 @@ returns-3 c = λ s.
 
 returns-4 : tie.Need-returns-4
 returns-4 c = λ s. let x = c .before .before .before .before .before .before .before .before .before .before .before .args in
-    let w = walkWithin (lent (now (x .on)) (x .onbase) (now (x .ext)) (x .extbase)) (x .base .0) (x .va .0) in
+    let w = walkWithin (lent (now (x .on)) (x .onbase .0) (now (x .ext)) (x .extbase .0)) (x .base .0) (x .va .0) in
     let on = sym (c .before .before .before .before .before .before .before .before .is-on .ensures) ∙ not-false _ (c .before .before .before .before .before .before .before .if1 .left) in
     let none = sym (c .before .before .before .before .before .before .find .ensures .lowest (s .cams) (s .spanned) (s .virtual)) ∙ c .before .before .before .before .enum-told .given .1 in
     let walks = sym (c .before .before .before .is-walking .ensures) ∙ not-false _ (c .before .before .if2 .left) in

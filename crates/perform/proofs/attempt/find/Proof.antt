@@ -1,8 +1,6 @@
+use Rattle.perform.proofs.Names.{sym, _∙_, now, needs}
 use Rattle.bank.proofs.Seeking.{sought-lt}
 use Rattle.bank.proofs.Matching.{sought-looked}
-use mathlib.Core.Path.{sym, _∙_}
-use denote.Ref.{now}
-use borrow.Author.Needs.{needs}
 use Rattle.perform.proofs.attempt.find.Statement.{statement}
 use Rattle.perform.proofs.attempt.find.Tie as tie
 

@@ -1,8 +1,5 @@
-use Rattle.plan.specs.declared.Reason.{Reason}
-use Rattle.registers.specs.Fields.{withPrefetch}
-use Rattle.perform.specs.Performed.{registersFor}
-use mathlib.Core.Path.{sym, _∙_, ap}
-use borrow.Author.Needs.{needs}
+use Rattle.perform.specs.Names.{Reason, withPrefetch}
+use Rattle.perform.proofs.Names.{registersFor, sym, _∙_, ap, needs}
 use Rattle.perform.proofs.attempt.registers_after.Statement.{statement}
 use Rattle.perform.proofs.attempt.registers_after.Tie as tie
 

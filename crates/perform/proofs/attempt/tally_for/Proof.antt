@@ -1,7 +1,6 @@
-use Rattle.plan.specs.declared.Reason.{Reason}
+use Rattle.perform.specs.Names.{Reason}
+use Rattle.perform.proofs.Names.{sym, _∙_, ap, needs}
 use Rattle.perform.specs.Performed.{tallyFor}
-use mathlib.Core.Path.{sym, _∙_, ap}
-use borrow.Author.Needs.{needs}
 use Rattle.perform.proofs.attempt.tally_for.Statement.{statement}
 use Rattle.perform.proofs.attempt.tally_for.Tie as tie
 

@@ -1,4 +1,4 @@
-use borrow.Author.Needs.{needs}
+use Rattle.perform.proofs.Names.{needs}
 use Rattle.perform.proofs.attempt.walked.Statement.{statement}
 use Rattle.perform.proofs.attempt.walked.Tie as tie
 

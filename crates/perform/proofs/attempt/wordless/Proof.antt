@@ -1,4 +1,4 @@
-use borrow.Author.Needs.{needs}
+use Rattle.perform.proofs.Names.{needs}
 use Rattle.perform.proofs.attempt.wordless.Statement.{statement}
 use Rattle.perform.proofs.attempt.wordless.Tie as tie
 

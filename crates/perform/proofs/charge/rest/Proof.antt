@@ -1,14 +1,6 @@
-use Rattle.perform.specs.Charged.{chargedOf}
-use Rattle.walk.specs.Walk.{byFirst, readWithin, coarseAt, fineAt}
-use Rattle.memory.specs.Memory.{lent}
-use Rattle.walk.specs.declared.Found.{Found}
-use Rattle.walk.specs.declared.First.{First}
-use Rattle.walk.specs.Descriptors.{Room}
-use Rattle.bill.specs.declared.Bill.{Bill}
-use mathlib.Core.Path.{sym, _∙_, ap, subst}
-use denote.Ref.{now}
-use native.Mathlib.Omega.{arith}
-use borrow.Author.Needs.{needs}
+use Rattle.perform.specs.Names.{byFirst, readWithin, lent, Found, Room, Bill}
+use Rattle.perform.proofs.Names.{chargedOf, First, sym, _∙_, ap, subst, now, arith, needs}
+use Rattle.walk.specs.Walk.{coarseAt, fineAt}
 use Rattle.perform.proofs.charge.rest.Statement.{statement}
 use Rattle.perform.proofs.charge.rest.Tie as tie
 
@@ -17,7 +9,7 @@ enum-told c = search needs
 
 returns : tie.Need-returns
 returns c = let a = c .before .before .before .before .args in
-    let rd = readWithin (lent (now (a .on)) (a .onbase) (now (a .ext)) (a .extbase)) in
+    let rd = readWithin (lent (now (a .on)) (a .onbase .0) (now (a .ext)) (a .extbase .0)) in
     ap (λ (b : Bill). record { found = Found.NoPage; words = 1; bill = b }) (c .before .before .before .before .pre .1)
     ∙ ap (λ (x : First). chargedOf (a .prices) (a .before) (byFirst rd (a .va .0) (a .first) x)) (sym (c .enum-told .given .1))
 
@@ -26,7 +18,7 @@ enum-known-d c = search needs
 
 returns-2 : tie.Need-returns-2
 returns-2 c = let a = c .before .before .before .before .before .args in
-    let rd = readWithin (lent (now (a .on)) (a .onbase) (now (a .ext)) (a .extbase)) in
+    let rd = readWithin (lent (now (a .on)) (a .onbase .0) (now (a .ext)) (a .extbase .0)) in
     ap (λ (b : Bill). record { found = Found.Page (c .before .d .given .0 .0); words = 1; bill = b }) (c .before .before .before .before .before .pre .1)
     ∙ ap (λ (x : First). chargedOf (a .prices) (a .before) (byFirst rd (a .va .0) (a .first) x)) (sym (c .before .d .given .1))
 
@@ -45,7 +37,7 @@ second-requires c κs = c .before .before .before .before .before .before .pre .
 returns-3 : tie.Need-returns-3
 unfolding coarseAt
 returns-3 c = let a = c .before .before .before .before .before .before .before .args in
-    let rd = readWithin (lent (now (a .on)) (a .onbase) (now (a .ext)) (a .extbase)) in
+    let rd = readWithin (lent (now (a .on)) (a .onbase .0) (now (a .ext)) (a .extbase .0)) in
     c .second .ensures
     ∙ ap (λ (x : First). chargedOf (a .prices) (a .before) (byFirst rd (a .va .0) (a .first) x)) (sym (c .before .before .before .d2 .given .1))
 
@@ -64,7 +56,7 @@ second-requires-2 c κs = c .before .before .before .before .before .before .pre
 returns-4 : tie.Need-returns-4
 unfolding fineAt
 returns-4 c = let a = c .before .before .before .before .before .before .before .args in
-    let rd = readWithin (lent (now (a .on)) (a .onbase) (now (a .ext)) (a .extbase)) in
+    let rd = readWithin (lent (now (a .on)) (a .onbase .0) (now (a .ext)) (a .extbase .0)) in
     c .second2 .ensures
     ∙ ap (λ (x : First). chargedOf (a .prices) (a .before) (byFirst rd (a .va .0) (a .first) x)) (sym (c .before .before .before .d3 .given .1))
 

@@ -1,11 +1,6 @@
-use Rattle.perform.specs.Charged.{chargedOf}
-use Rattle.walk.specs.Walk.{afterSecond, sourceAt}
-use Rattle.walk.specs.declared.Read.{Read}
-use Rattle.walk.specs.declared.Found.{Found}
-use Rattle.bill.specs.Bill.{wordPosted}
-use Rattle.bill.specs.declared.Bill.{Bill}
-use mathlib.Core.Path.{sym, _∙_, ap, ap₂}
-use borrow.Author.Needs.{needs}
+use Rattle.perform.specs.Names.{afterSecond, Found, wordPosted, Bill}
+use Rattle.perform.proofs.Names.{chargedOf, sourceAt, Read, sym, _∙_, ap, needs}
+use mathlib.Core.Path.{ap₂}
 use Rattle.perform.proofs.charge.second.Statement.{statement}
 use Rattle.perform.proofs.charge.second.Tie as tie
 

@@ -1,16 +1,10 @@
-use Rattle.perform.specs.Charged.{chargedOf}
-use Rattle.walk.specs.Walk.{baseBits, firstAt, readWithin, sourceAt, byFirst, afterFirst, walkFrom}
-use Rattle.walk.specs.declared.Read.{Read}
-use Rattle.memory.specs.Memory.{lent}
+use Rattle.perform.specs.Names.{readWithin, byFirst, lent, Room}
+use Rattle.perform.proofs.Names.{chargedOf, sourceAt, Read, First, sym, _∙_, ap, subst, now, arith, needs}
+use Rattle.walk.specs.Walk.{baseBits, firstAt, afterFirst, walkFrom}
 use Rattle.walk.proofs.Laws.{room}
-use Rattle.walk.specs.declared.First.{First}
-use Rattle.walk.specs.Descriptors.{Room, firstOf}
+use Rattle.walk.specs.Descriptors.{firstOf}
 use Rattle.page.specs.Low.{upper}
 use Rattle.page.specs.Words.{megabytes}
-use mathlib.Core.Path.{sym, _∙_, ap, subst}
-use denote.Ref.{now}
-use native.Mathlib.Omega.{arith}
-use borrow.Author.Needs.{needs}
 use Rattle.perform.proofs.charge.walk.Statement.{statement}
 use Rattle.perform.proofs.charge.walk.Tie as tie
 
@@ -32,7 +26,7 @@ enum-told c = search needs
 returns : tie.Need-returns
 unfolding walkFrom firstAt upper
 returns c = let a = c .before .before .before .before .before .before .before .args in
-    let rd = readWithin (lent (now (a .on)) (a .onbase) (now (a .ext)) (a .extbase)) in
+    let rd = readWithin (lent (now (a .on)) (a .onbase .0) (now (a .ext)) (a .extbase .0)) in
     let at = firstAt baseBits megabytes (a .base .0) (a .va .0) in
     ap (λ (x : Read). chargedOf (a .prices) (a .bill) (afterFirst rd firstOf (a .va .0) at x)) (sym (c .enum-told .given .1) ∙ c .before .before .read-word .ensures)
 
@@ -51,7 +45,7 @@ rest-requires c κs = (subst Room (sym (c .decode-first .ensures)) (room (c .bef
 returns-2 : tie.Need-returns-2
 unfolding walkFrom firstAt upper
 returns-2 c = let a = c .before .before .before .before .before .before .before .before .before .before .before .args in
-    let rd = readWithin (lent (now (a .on)) (a .onbase) (now (a .ext)) (a .extbase)) in
+    let rd = readWithin (lent (now (a .on)) (a .onbase .0) (now (a .ext)) (a .extbase .0)) in
     let at = firstAt baseBits megabytes (a .base .0) (a .va .0) in
     c .rest .ensures
     ∙ ap (λ (x : First). chargedOf (a .prices) (a .bill) (byFirst rd (a .va .0) (sourceAt at (c .before .before .before .before .read .given .0 .1 .0)) x))

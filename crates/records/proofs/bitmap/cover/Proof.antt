@@ -1,5 +1,5 @@
+use Rattle.records.proofs.Names.{needs}
 use Rattle.records.proofs.Regions.{cover-section, cover-large, cover-small, cover-tiny}
-use borrow.Author.Needs.{needs}
 use Rattle.records.proofs.bitmap.cover.Statement.{statement}
 use Rattle.records.proofs.bitmap.cover.Tie as tie
 

@@ -1,6 +1,6 @@
-use Prim.Native.Nat.{_/_}
+use Rattle.records.specs.Names.{_/_}
+use Rattle.records.proofs.Names.{needs}
 use Rattle.records.proofs.Regions.{free-section, free-large, free-small, free-tiny}
-use borrow.Author.Needs.{needs}
 use Rattle.records.proofs.bitmap.is_free.Statement.{statement}
 use Rattle.records.proofs.bitmap.is_free.Tie as tie
 

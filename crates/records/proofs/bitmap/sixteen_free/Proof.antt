@@ -1,12 +1,11 @@
-use Prim.Native.Nat.{_+_, _*_, _-_, _≤_}
-use native.Mathlib.Omega.{arith}
-use Rattle.records.specs.Bitmap.{Clear}
+use Rattle.records.specs.Names.{_+_, _*_, _≤_}
+use Rattle.records.proofs.Names.{_-_, arith, Untaken}
 use Rattle.records.proofs.Runs.{clear-word, clear-part, clear-turn}
 use Rattle.records.proofs.bitmap.sixteen_free.Statement.{statement}
 use Rattle.records.proofs.bitmap.sixteen_free.Tie as tie
 
 abbrev Inv-loop : tie.InvT-loop
-Inv-loop c w j₀ j = (j ≤ 16) × Clear c (64 * w) (64 * j)
+Inv-loop c w j₀ j = (j ≤ 16) × Untaken c (64 * w) (64 * j)
 
 abbrev μ-loop : tie.MeasureT-loop
 μ-loop c w j₀ j = 16 - j

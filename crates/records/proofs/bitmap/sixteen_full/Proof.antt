@@ -1,8 +1,5 @@
-use Prim.Native.Nat.{ℕ, _*_, _-_, _≤_}
-use mathlib.Core.Path.{_≡_, sym, _∙_, subst}
-use native.Mathlib.Omega.{arith}
-use lib.ListN.{length, length-set}
-use Rattle.records.specs.Bitmap.{Full}
+use Rattle.records.specs.Names.{ℕ, _*_, _≤_, _≡_, length}
+use Rattle.records.proofs.Names.{_-_, sym, _∙_, subst, arith, length-set, Full}
 use Rattle.records.proofs.Runs.{full-none, full-turn}
 use Rattle.records.proofs.bitmap.sixteen_full.Statement.{statement}
 use Rattle.records.proofs.bitmap.sixteen_full.Tie as tie

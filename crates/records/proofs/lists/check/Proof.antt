@@ -1,9 +1,5 @@
-use Rattle.page.specs.Words.{megabytes}
-use mathlib.Core.Path.{_≡_, refl, sym, _∙_}
-use native.Mathlib.Omega.{arith}
-use Prim.Native.Nat.{_*_, _≤_, _-_}
-use lib.ListN.{length}
-use Rattle.records.specs.Noted.{Blank}
+use Rattle.records.specs.Names.{megabytes, _≡_, _*_, _≤_, length}
+use Rattle.records.proofs.Names.{refl, sym, _∙_, arith, _-_, Blank}
 use Rattle.records.proofs.Notes.{same-at}
 use Rattle.records.proofs.Refusals.{whole, Left, left-none, left-bad, left-clash, left-more, left-end}
 use Rattle.records.proofs.Taken.{Marks, marks-none, read-is, read-below, overlap-says, marks-turn}

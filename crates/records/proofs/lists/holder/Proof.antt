@@ -1,14 +1,6 @@
-use mathlib.Core.Path.{_≡_, sym, _∙_}
-use Rattle.page.proofs.Picks.{pick-yes, pick-no}
-use native.Mathlib.Omega.{arith}
-use Prim.Native.Nat.{_≤_, _-_}
-use mathlib.Core.List.{List}
-use lib.ListN.{length}
-use Rattle.records.specs.declared.Mapping.{Mapping}
-use Rattle.records.specs.Mappings.{mappings}
-use Rattle.records.specs.Meanings.{holder}
+use Rattle.records.specs.Names.{_≡_, _≤_, List, length, Mapping}
+use Rattle.records.proofs.Names.{sym, _∙_, pick-yes, pick-no, arith, _-_, mappings, holder, needs}
 use Rattle.records.proofs.Scan.{Rest, rest-none, rest-at, rest-end}
-use borrow.Author.Needs.{needs}
 use Rattle.records.proofs.lists.holder.Statement.{statement}
 use Rattle.records.proofs.lists.holder.Tie as tie
 
@@ -32,7 +24,12 @@ holds-requires c κs = tt
 
 returns : tie.Need-returns Inv-loop μ-loop
 unfolding holder
-returns c = sym (rest-at (λ (l : List Mapping). holder l (c .before .before .before .before .before .before .before .args .va)) _ (c .before .before .before .before .loop .j) (c .before .before .mapping-at .result) (c .before .before .before .before .loop .inv .2) (omega arith) (c .before .before .mapping-at .ensures) ∙ pick-yes _ _ _ (sym (c .before .holds .ensures) ∙ c .if1 .taken))
+returns c =
+    let s2 = c .before .before in
+    let s4 = s2 .before .before in
+    let s7 = s4 .before .before .before in
+    sym (rest-at (λ (l : List Mapping). holder l (s7 .args .va)) _ (s4 .loop .j) (s2 .mapping-at .result) (s4 .loop .inv .2) (omega arith) (s2 .mapping-at .ensures)
+    ∙ pick-yes _ _ _ (sym (c .before .holds .ensures) ∙ c .if1 .taken))
 
 add-j : tie.Need-add-j Inv-loop μ-loop
 add-j c = omega arith
@@ -42,7 +39,15 @@ loop-less c = omega arith
 
 loop-again : tie.Need-loop-again Inv-loop μ-loop
 unfolding holder
-loop-again c = (c .before .before .before .before .loop .inv .0, omega arith, rest-at (λ (l : List Mapping). holder l (c .before .before .before .before .before .before .before .args .va)) _ (c .before .before .before .before .loop .j) (c .before .before .mapping-at .result) (c .before .before .before .before .loop .inv .2) (omega arith) (c .before .before .mapping-at .ensures) ∙ pick-no _ _ _ (sym (c .before .holds .ensures) ∙ c .if1 .left))
+loop-again c =
+    let s2 = c .before .before in
+    let s4 = s2 .before .before in
+    let s7 = s4 .before .before .before in (
+      s4 .loop .inv .0,
+      omega arith,
+      rest-at (λ (l : List Mapping). holder l (s7 .args .va)) _ (s4 .loop .j) (s2 .mapping-at .result) (s4 .loop .inv .2) (omega arith)
+          (s2 .mapping-at .ensures) ∙ pick-no _ _ _ (sym (c .before .holds .ensures) ∙ c .if1 .left),
+    )
 
 returns-2 : tie.Need-returns-2 Inv-loop μ-loop
 unfolding holder

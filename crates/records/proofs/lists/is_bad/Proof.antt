@@ -1,13 +1,6 @@
-use lib.ListN.{take, drop}
-use Prim.Native.Nat.{_-_, ℕ, _+_, _*_}
-use Rattle.page.specs.Words.{megabytes}
+use Rattle.records.specs.Names.{take, drop, ℕ, _+_, _*_, megabytes, _≡_, false}
+use Rattle.records.proofs.Names.{_-_, wellFormed, sym, _∙_, ap, now, arith, needs}
 use Rattle.records.proofs.Refusals.{bad-past, bad-rest, short}
-use Rattle.records.specs.Checks.{wellFormed}
-use mathlib.Core.Path.{_≡_, sym, _∙_, ap}
-use mathlib.Core.Bool.{false}
-use denote.Ref.{now}
-use native.Mathlib.Omega.{arith}
-use borrow.Author.Needs.{needs}
 use Rattle.records.proofs.lists.is_bad.Statement.{statement}
 use Rattle.records.proofs.lists.is_bad.Tie as tie
 
@@ -21,7 +14,9 @@ sub-if2 : tie.Need-sub-if2
 sub-if2 c = search needs
 
 returns-2 : tie.Need-returns-2
-returns-2 c = bad-rest megabytes (now (c .before .before .before .args .records)) (c .before .before .before .args .i) false (c .before .if1 .left) (sym (short megabytes (now (c .before .before .before .args .records)) (c .before .before .before .args .i) (omega arith)))
+returns-2 c =
+    let s3 = c .before .before .before in
+    bad-rest megabytes (now (s3 .args .records)) (s3 .args .i) false (c .before .if1 .left) (sym (short megabytes (now (s3 .args .records)) (s3 .args .i) (omega arith)))
 
 add-well-formed : tie.Need-add-well-formed
 add-well-formed c = search needs
@@ -39,7 +34,12 @@ well-formed-requires : tie.Need-well-formed-requires
 well-formed-requires c κs = search needs
 
 returns-3 : tie.Need-returns-3
-returns-3 c = bad-rest megabytes (now (c .before .before .before .before .before .args .records)) (c .before .before .before .before .before .args .i) _ (c .before .before .before .if1 .left) (c .well-formed .ensures ∙ ap (λ (n : ℕ). wellFormed megabytes (take n (drop (12 * c .before .before .before .before .before .args .i) (now (c .before .before .before .before .before .args .records))))) (let e : 12 * c .before .before .before .before .before .args .i + 12 - 12 * c .before .before .before .before .before .args .i ≡ 12 = omega arith in e))
+returns-3 c =
+    let s3 = c .before .before .before in
+    let s5 = s3 .before .before in
+    bad-rest megabytes (now (s5 .args .records)) (s5 .args .i) _ (s3 .if1 .left)
+    (c .well-formed .ensures ∙ ap (λ (n : ℕ). wellFormed megabytes (take n (drop (12 * s5 .args .i) (now (s5 .args .records)))))
+    (let e : 12 * s5 .args .i + 12 - 12 * s5 .args .i ≡ 12 = omega arith in e))
 
 pub is-bad-spec : {M : Type 1} → statement M
 is-bad-spec =

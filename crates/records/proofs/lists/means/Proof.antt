@@ -1,6 +1,5 @@
-use Rattle.records.specs.Meanings.{heldMeaning, meaning}
-use mathlib.Core.Path.{_∙_, ap}
-use borrow.Author.Needs.{needs}
+use Rattle.records.proofs.Names.{heldMeaning, _∙_, ap, needs}
+use Rattle.records.specs.Meanings.{meaning}
 use Rattle.records.proofs.lists.means.Statement.{statement}
 use Rattle.records.proofs.lists.means.Tie as tie
 

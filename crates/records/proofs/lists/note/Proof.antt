@@ -1,11 +1,6 @@
-use mathlib.Core.Path.{ap}
-use mathlib.Core.Bool.{true}
-use denote.Ref.{now}
-use native.Mathlib.Omega.{arith}
-use Prim.Native.Nat.{ℕ, _*_, _+_, _/_}
-use lib.ListN.{set}
+use Rattle.records.specs.Names.{true, ℕ, _*_, _+_, _/_, set}
+use Rattle.records.proofs.Names.{ap, now, arith, needs}
 use Rattle.records.proofs.Notes.{type-lt}
-use borrow.Author.Needs.{needs}
 use Rattle.records.proofs.lists.note.Statement.{statement}
 use Rattle.records.proofs.lists.note.Tie as tie
 

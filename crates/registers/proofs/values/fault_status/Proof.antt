@@ -1,6 +1,5 @@
+use Rattle.registers.proofs.Names.{sym, _∙_, ap, needs}
 use Rattle.registers.specs.Answers.{faultStatus}
-use mathlib.Core.Path.{sym, _∙_, ap}
-use borrow.Author.Needs.{needs}
 use Rattle.registers.proofs.values.fault_status.Statement.{statement}
 use Rattle.registers.proofs.values.fault_status.Tie as tie
 
@@ -13,6 +12,9 @@ enum-known-p c = search needs
 fault-bit-requires : tie.Need-fault-bit-requires
 fault-bit-requires c κs = search needs
 
+cast-result : tie.Need-cast-result
+cast-result c = search needs
+
 returns : tie.Need-returns
 returns c = sym (ap faultStatus (c .enum-told .given .1))
 
@@ -21,4 +23,4 @@ returns-2 c = c .fault-bit .ensures ∙ sym (ap faultStatus (c .before .before .
 
 pub fault-status-spec : {M : Type 1} → statement M
 fault-status-spec =
-    tie.close (tie.spec enum-told enum-known-p fault-bit-requires returns returns-2)
+    tie.close (tie.spec enum-told enum-known-p fault-bit-requires cast-result returns returns-2)

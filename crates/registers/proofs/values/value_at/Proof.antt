@@ -1,15 +1,12 @@
+use Rattle.registers.specs.Names.{Answer, pick, _≡_, ℕ, _*_, _/_, _%_}
+use Rattle.registers.proofs.Names.{listed, valueAt, sym, _∙_, ap, needs}
 use Rattle.registers.proofs.Offsets.{value-elsewhere, none-is-no-register}
-use Rattle.registers.specs.declared.Answer.{Answer}
-use Rattle.registers.specs.Table.{listed, valueAt}
-use Rattle.page.specs.Pick.{pick}
-use mathlib.Core.Path.{_≡_, sym, _∙_, ap}
-use Prim.Native.Nat.{ℕ, _*_, _/_, _%_}
-use borrow.Author.Needs.{needs}
 use Rattle.registers.proofs.values.value_at.Statement.{statement}
 use Rattle.registers.proofs.values.value_at.Tie as tie
 
 -- a line of the table
-shown : {k : ℕ} (s : tie.Start) → s .args .offset ≡ k → valueAt k (s .args .r) (s .args .lock) (s .args .victim) (s .args .p) ≡ valueAt (s .args .offset) (s .args .r) (s .args .lock) (s .args .victim) (s .args .p)
+shown : {k : ℕ} (s : tie.Start) → s .args .offset ≡ k
+    → valueAt k (s .args .r) (s .args .lock) (s .args .victim) (s .args .p) ≡ valueAt (s .args .offset) (s .args .r) (s .args .lock) (s .args .victim) (s .args .p)
 shown s e = sym (ap (λ (o : ℕ). valueAt o (s .args .r) (s .args .lock) (s .args .victim) (s .args .p)) e)
 
 fault-address-requires : tie.Need-fault-address-requires

@@ -1,9 +1,5 @@
-use Rattle.wire.specs.Words.{wordsPut}
-use mathlib.Core.List.{List}
-use mathlib.Core.Path.{_∙_, ap}
-use denote.Ref.{now}
-use Prim.Native.Nat.{ℕ}
-use borrow.Author.Needs.{needs}
+use Rattle.run.specs.Names.{wordsPut, List, ℕ}
+use Rattle.run.proofs.Names.{_∙_, ap, now, needs}
 use Rattle.run.proofs.answers.put_said.Statement.{statement}
 use Rattle.run.proofs.answers.put_said.Tie as tie
 
@@ -20,7 +16,11 @@ same-length : tie.Need-same-length
 same-length c = search needs
 
 returns : tie.Need-returns
-returns c = c .before .before .put .ensures ∙ ap (λ (ws : List ℕ). wordsPut (now (c .before .before .before .before .before .before .before .args .out)) (c .before .before .before .before .before .before .before .args .at) ws) (c .before .before .before .before .before .said-words .ensures)
+returns c =
+    let s2 = c .before .before in
+    let s5 = s2 .before .before .before in
+    let s7 = s5 .before .before in
+    s2 .put .ensures ∙ ap (λ (ws : List ℕ). wordsPut (now (s7 .args .out)) (s7 .args .at) ws) (s5 .said-words .ensures)
 
 pub put-said-spec : {M : Type 1} → statement M
 put-said-spec =

@@ -1,6 +1,5 @@
-use mathlib.Core.Path.{ap₂, sym, _∙_, ap}
-use Rattle.run.specs.Answers.{pairWords, saidWords}
-use borrow.Author.Needs.{needs}
+use Rattle.run.proofs.Names.{ap₂, sym, _∙_, ap, saidWords, needs}
+use Rattle.run.specs.Answers.{pairWords}
 use Rattle.run.proofs.answers.said_words.Statement.{statement}
 use Rattle.run.proofs.answers.said_words.Tie as tie
 

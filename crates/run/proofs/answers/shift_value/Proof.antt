@@ -1,9 +1,8 @@
-use Rattle.wire.specs.Signed.{twos}
-use Rattle.run.specs.Answers.{shiftValue}
+use Rattle.run.specs.Names.{twos}
+use Rattle.run.proofs.Names.{sym, _∙_, ap, needs}
+use Rattle.run.specs.Answers.{shiftWord}
 use mir.ValLaws.{toZ-ofZ}
 use mir.Syntax.{w64}
-use mathlib.Core.Path.{sym, _∙_, ap}
-use borrow.Author.Needs.{needs}
 use Rattle.run.proofs.answers.shift_value.Statement.{statement}
 use Rattle.run.proofs.answers.shift_value.Tie as tie
 
@@ -20,7 +19,7 @@ enum-told-2 : tie.Need-enum-told-2
 enum-told-2 c = search needs
 
 returns : tie.Need-returns
-returns c = c .twos .ensures ∙ ap twos (toZ-ofZ w64 (c .before .before .s .given .0 .0) (record { sfits = c .before .known-told .given .0 .1 })) ∙ sym (ap shiftValue (c .before .before .s .given .1))
+returns c = c .twos .ensures ∙ ap twos (toZ-ofZ w64 (c .before .before .s .given .0 .0) (record { sfits = c .before .known-told .given .0 .1 })) ∙ sym (ap shiftWord (c .before .before .s .given .1))
 
 returns-2 : tie.Need-returns-2
 returns-2 c = search needs

@@ -1,4 +1,4 @@
-use borrow.Author.Needs.{needs}
+use Rattle.session.proofs.Names.{needs}
 use Rattle.session.proofs.Bench.fresh.Statement.{statement}
 use Rattle.session.proofs.Bench.fresh.Tie as tie
 

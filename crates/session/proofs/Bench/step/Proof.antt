@@ -1,15 +1,12 @@
-use Rattle.decision.specs.declared.Said.{Said}
-use Rattle.session.specs.declared.Stepped.{Stepped}
+use Rattle.session.proofs.Names.{Said, Stepped, stepOut, Meters, made, _∙_, ap, needs}
 use Rattle.unit.specs.declared.Reported.{Reported}
 use Rattle.meters.specs.Posted.{noTally, posted}
-use Rattle.unit.specs.Machine.{stepOut, stepTold}
-use Rattle.unit.specs.Types.{Lent}
-use Rattle.meters.specs.declared.Meters.{Meters}
+use Rattle.unit.specs.Machine.{stepTold}
+use Rattle.unit.specs.Names.{Lent}
 use Rattle.memory.specs.Memory.{lent}
-use Rattle.session.specs.Bench.{made, stepped}
-use mathlib.Core.Path.{sym, _∙_, ap}
+use Rattle.session.specs.Bench.{stepped}
+use mathlib.Core.Path.{sym}
 use denote.Ref.{now}
-use borrow.Author.Needs.{needs}
 use Rattle.session.proofs.Bench.step.Statement.{statement}
 use Rattle.session.proofs.Bench.step.Tie as tie
 
@@ -66,7 +63,7 @@ enum-told-2 c = search needs
 
 returns : tie.Need-returns
 returns c = let x = c .before .before .before .before .before .before .before .before .before .before .args in
-    let m : Lent = lent (now (x .on)) (x .onbase) (now (x .ext)) (x .extbase) in
+    let m : Lent = lent (now (x .on)) (x .onbase .0) (now (x .ext)) (x .extbase .0) in
     c .posted .ensures ∙ ap (λ o. made (x .self .meters) (stepOut o)) (c .before .write .ensures) ∙ sym (ap (stepped m (x .prices) (x .self)) (c .before .before .before .call .given .1))
 
 returns-2 : tie.Need-returns-2
@@ -74,22 +71,22 @@ returns-2 c =
     let s3 = c .before .before .before in
     let s10 = s3 .before .before .before .before .before .before .before in
     let x = s10 .args in
-    let m : Lent = lent (now (x .on)) (x .onbase) (now (x .ext)) (x .extbase) in
+    let m : Lent = lent (now (x .on)) (x .onbase .0) (now (x .ext)) (x .extbase .0) in
     c .kept .ensures ∙ ap (λ o. made (x .self .meters) (stepTold (x .self .bill) o)) (c .before .read .ensures) ∙ sym (ap (stepped m (x .prices) (x .self)) (s3 .call2 .given .1))
 
 returns-3 : tie.Need-returns-3
 returns-3 c = let x = c .before .before .before .before .before .before .before .before .before .before .args in
-    let m : Lent = lent (now (x .on)) (x .onbase) (now (x .ext)) (x .extbase) in
+    let m : Lent = lent (now (x .on)) (x .onbase .0) (now (x .ext)) (x .extbase .0) in
     c .posted2 .ensures ∙ ap (λ o. made (x .self .meters) (stepOut o)) (c .before .request .ensures) ∙ sym (ap (stepped m (x .prices) (x .self)) (c .before .before .before .call3 .given .1))
 
 returns-4 : tie.Need-returns-4
 returns-4 c = let x = c .before .before .before .before .before .before .before .before .before .args in
-    let m : Lent = lent (now (x .on)) (x .onbase) (now (x .ext)) (x .extbase) in
+    let m : Lent = lent (now (x .on)) (x .onbase .0) (now (x .ext)) (x .extbase .0) in
     c .kept2 .ensures ∙ ap (λ o. made (x .self .meters) (stepTold (x .self .bill) o)) (c .before .drop .ensures) ∙ sym (ap (stepped m (x .prices) (x .self)) (c .before .before .enum-told .given .1))
 
 returns-5 : tie.Need-returns-5
 returns-5 c = let x = c .before .before .before .before .before .before .before .before .before .before .before .before .args in
-    let m : Lent = lent (now (x .on)) (x .onbase) (now (x .ext)) (x .extbase) in
+    let m : Lent = lent (now (x .on)) (x .onbase .0) (now (x .ext)) (x .extbase .0) in
     let f : Reported → Meters → Stepped = λ (r : Reported) (t : Meters). record { bench = record { device = r .device; bill = x .self .bill; meters = t }; said = Said.Reported (r .shift) } in
     ap (f (c .before .before .before .shift-report .result)) (c .after .ensures ∙ ap (posted (x .self .meters)) (c .before .zero .ensures))
     ∙ ap (λ (r : Reported). f r (posted (x .self .meters) noTally)) (c .before .before .before .shift-report .ensures)
@@ -97,7 +94,7 @@ returns-5 c = let x = c .before .before .before .before .before .before .before 
 
 returns-6 : tie.Need-returns-6
 returns-6 c = let x = c .before .before .before .before .before .before .before .args in
-    let m : Lent = lent (now (x .on)) (x .onbase) (now (x .ext)) (x .extbase) in
+    let m : Lent = lent (now (x .on)) (x .onbase .0) (now (x .ext)) (x .extbase .0) in
     sym (ap (stepped m (x .prices) (x .self)) (c .enum-told2 .given .1))
 
 pub step-spec : {M : Type 1} → statement M

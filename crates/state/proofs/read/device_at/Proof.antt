@@ -1,4 +1,4 @@
-use borrow.Author.Needs.{needs}
+use Rattle.state.proofs.Names.{needs}
 use Rattle.state.proofs.read.device_at.Statement.{statement}
 use Rattle.state.proofs.read.device_at.Tie as tie
 
@@ -21,7 +21,12 @@ pending-of-requires : tie.Need-pending-of-requires
 pending-of-requires c κs = search needs
 
 returns : tie.Need-returns
-returns c = rw (c .before .before .before .before .before .registers-at .ensures, c .before .before .before .before .bank-at .ensures, c .pending-of .ensures, c .before .before .before .byte-at .ensures, c .before .before .byte-at2 .ensures, c .before .word-at .ensures)
+returns c =
+    let s2 = c .before .before in
+    let s3 = s2 .before in
+    let s4 = s3 .before in
+    let s5 = s4 .before in
+    rw (s5 .registers-at .ensures, s4 .bank-at .ensures, c .pending-of .ensures, s3 .byte-at .ensures, s2 .byte-at2 .ensures, c .before .word-at .ensures)
 
 pub device-at-spec : {M : Type 1} → statement M
 device-at-spec =

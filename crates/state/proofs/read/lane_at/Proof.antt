@@ -1,14 +1,7 @@
+use Rattle.state.specs.Names.{swapped, slots, length, _≤_, _++_, _≡_}
+use Rattle.state.proofs.Names.{laneFrom, take, _-_, sym, ap, refl, _∙_, now, arith, needs}
 use Rattle.state.proofs.Lanes.{lane-turn, lane-end}
-use Rattle.state.specs.Handed.{laneFrom}
-use Rattle.wire.specs.Words.{swapped}
-use Rattle.lanes.specs.Lanes.{slots}
-use lib.ListN.{take, length-set, length}
-use Prim.Native.Nat.{_≤_, _-_}
-use mathlib.Core.List.{_++_}
-use mathlib.Core.Path.{sym, ap, _≡_, refl, _∙_}
-use denote.Ref.{now}
-use native.Mathlib.Omega.{arith}
-use borrow.Author.Needs.{needs}
+use lib.ListN.{length-set}
 use Rattle.state.proofs.read.lane_at.Statement.{statement}
 use Rattle.state.proofs.read.lane_at.Tie as tie
 
@@ -46,10 +39,21 @@ loop-less : tie.Need-loop-less Inv-loop μ-loop
 loop-less c = omega arith
 
 loop-again : tie.Need-loop-again Inv-loop μ-loop
-loop-again c = (omega arith, length-set (c .before .before .before .loop .lane) (c .before .before .before .loop .i) _ ∙ c .before .before .before .loop .inv .1, c .before .before .before .loop .inv .2 ∙ lane-turn (now (c .before .before .before .before .before .args .state)) (c .before .before .before .loop .lane) (c .before .before .before .before .before .args .at) (c .before .before .before .loop .i) _ (c .before .before .loop-test .taken) (c .before .before .before .loop .inv .1) (c .swapped .ensures ∙ ap swapped (c .before .word-at .ensures)))
+loop-again c =
+    let s2 = c .before .before in
+    let s3 = s2 .before in
+    let s5 = s3 .before .before in (
+      omega arith,
+      length-set (s3 .loop .lane) (s3 .loop .i) _ ∙ s3 .loop .inv .1,
+      s3 .loop .inv .2
+          ∙ lane-turn (now (s5 .args .state)) (s3 .loop .lane) (s5 .args .at) (s3 .loop .i) _ (s2 .loop-test .taken) (s3 .loop .inv .1)
+          (c .swapped .ensures ∙ ap swapped (c .before .word-at .ensures)),
+    )
 
 returns : tie.Need-returns Inv-loop μ-loop
-returns c = lane-end (now (c .before .before .before .args .state)) (c .before .loop .lane) (c .before .before .before .args .at) (c .before .loop .i) (c .loop-test .left) (c .before .loop .inv .1) ∙ sym (c .before .loop .inv .2)
+returns c =
+    let s3 = c .before .before .before in
+    lane-end (now (s3 .args .state)) (c .before .loop .lane) (s3 .args .at) (c .before .loop .i) (c .loop-test .left) (c .before .loop .inv .1) ∙ sym (c .before .loop .inv .2)
 
 pub lane-at-spec : {M : Type 1} → statement M
 lane-at-spec =

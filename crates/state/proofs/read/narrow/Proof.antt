@@ -1,8 +1,4 @@
-use Rattle.state.specs.Taken.{narrowed}
-use mathlib.Core.Path.{sym}
-use Rattle.page.proofs.Picks.{pick-yes, pick-no}
-use borrow.Author.Tests.{lt-ltb, le-ltb}
-use borrow.Author.Needs.{needs}
+use Rattle.state.proofs.Names.{narrowed, sym, pick-yes, pick-no, lt-ltb, le-ltb, needs}
 use Rattle.state.proofs.read.narrow.Statement.{statement}
 use Rattle.state.proofs.read.narrow.Tie as tie
 

@@ -1,7 +1,5 @@
+use Rattle.state.proofs.Names.{sym, pick-yes, pick-no, eq-eqb, ne-eqb}
 use Rattle.state.specs.Handed.{priceOf}
-use mathlib.Core.Path.{sym}
-use Rattle.page.proofs.Picks.{pick-yes, pick-no}
-use borrow.Author.Tests.{eq-eqb, ne-eqb}
 use Rattle.state.proofs.read.price_of.Statement.{statement}
 use Rattle.state.proofs.read.price_of.Tie as tie
 

@@ -1,4 +1,4 @@
-use borrow.Author.Needs.{needs}
+use Rattle.state.proofs.Names.{needs}
 use Rattle.state.proofs.read.registers_at.Statement.{statement}
 use Rattle.state.proofs.read.registers_at.Tie as tie
 
@@ -18,7 +18,11 @@ entry-at-requires-2 : tie.Need-entry-at-requires-2
 entry-at-requires-2 c κs = search needs
 
 returns : tie.Need-returns
-returns c = rw (c .before .before .before .before .high-at .ensures, c .before .before .before .word-at .ensures, c .before .before .low-at .ensures, c .before .entry-at .ensures, c .entry-at2 .ensures)
+returns c =
+    let s2 = c .before .before in
+    let s3 = s2 .before in
+    let s4 = s3 .before in
+    rw (s4 .high-at .ensures, s3 .word-at .ensures, s2 .low-at .ensures, c .before .entry-at .ensures, c .entry-at2 .ensures)
 
 pub registers-at-spec : {M : Type 1} → statement M
 registers-at-spec =

@@ -1,10 +1,6 @@
+use Rattle.state.specs.Names.{LastRow, Side}
+use Rattle.state.proofs.Names.{sym, _∙_, ap, pick-yes, pick-no, eq-eqb, ne-eqb, needs}
 use Rattle.state.specs.Handed.{sideOf}
-use Rattle.prices.specs.declared.LastRow.{LastRow}
-use Rattle.prices.specs.declared.Side.{Side}
-use mathlib.Core.Path.{sym, _∙_, ap}
-use Rattle.page.proofs.Picks.{pick-yes, pick-no}
-use borrow.Author.Tests.{eq-eqb, ne-eqb}
-use borrow.Author.Needs.{needs}
 use Rattle.state.proofs.read.side_of.Statement.{statement}
 use Rattle.state.proofs.read.side_of.Tie as tie
 

@@ -1,10 +1,7 @@
-use lib.Dec.{eqb, leb}
-use Rattle.state.specs.Handed.{isState, isStatus}
-use mathlib.Core.Path.{sym, _∙_, ap}
-use Rattle.page.proofs.Picks.{and-yes, and-no}
-use borrow.Author.Tests.{eq-eqb, ne-eqb, le-leb, lt-leb}
-use Prim.Native.Nat.{ℕ}
-use borrow.Author.Needs.{needs}
+use Rattle.state.specs.Names.{eqb, leb, ℕ}
+use Rattle.state.proofs.Names.{isStatus, sym, _∙_, ap, and-yes, and-no, eq-eqb, ne-eqb, lt-leb, needs}
+use Rattle.state.specs.Handed.{isState}
+use borrow.Author.Tests.{le-leb}
 use Rattle.state.proofs.read.state_ok.Statement.{statement}
 use Rattle.state.proofs.read.state_ok.Tie as tie
 
@@ -49,11 +46,18 @@ status-ok-requires c κs = search needs
 returns-5 : tie.Need-returns-5
 unfolding isState
 returns-5 c =
+    let s2 = c .before .before in
+    let s3 = s2 .before in
+    let s4 = s3 .before in
+    let s5 = s4 .before in
+    let s6 = s5 .before in
+    let s7 = s6 .before in
+    let s8 = s7 .before in
     c .status-ok .ensures ∙ ap isStatus (c .before .byte-at4 .ensures)
-    ∙ sym (and-yes _ _ (eq-eqb _ _ (c .before .before .before .before .before .before .before .before .if1 .left))
-    ∙ and-yes _ _ (ap (λ (x : ℕ). leb x 1) (sym (c .before .before .before .before .before .before .before .byte-at .ensures)) ∙ le-leb _ _ (c .before .before .before .before .before .before .if2 .left))
-    ∙ and-yes _ _ (ap (λ (x : ℕ). eqb x 0) (sym (c .before .before .before .before .before .byte-at2 .ensures)) ∙ eq-eqb _ _ (c .before .before .before .before .if3 .left))
-    ∙ and-yes _ _ (ap (λ (x : ℕ). eqb x 0) (sym (c .before .before .before .byte-at3 .ensures)) ∙ eq-eqb _ _ (c .before .before .if4 .left)))
+    ∙ sym (and-yes _ _ (eq-eqb _ _ (s8 .if1 .left))
+    ∙ and-yes _ _ (ap (λ (x : ℕ). leb x 1) (sym (s7 .byte-at .ensures)) ∙ le-leb _ _ (s6 .if2 .left))
+    ∙ and-yes _ _ (ap (λ (x : ℕ). eqb x 0) (sym (s5 .byte-at2 .ensures)) ∙ eq-eqb _ _ (s4 .if3 .left))
+    ∙ and-yes _ _ (ap (λ (x : ℕ). eqb x 0) (sym (s3 .byte-at3 .ensures)) ∙ eq-eqb _ _ (s2 .if4 .left)))
 
 pub state-ok-spec : {M : Type 1} → statement M
 state-ok-spec =

@@ -1,8 +1,6 @@
-use Rattle.state.specs.Handed.{isStatus}
-use Rattle.page.specs.Pick.{_or_}
+use Rattle.state.specs.Names.{_or_}
+use Rattle.state.proofs.Names.{isStatus, ne-eqb, sym, _∙_, ap}
 use Rattle.page.proofs.Picks.{or-no}
-use borrow.Author.Tests.{ne-eqb}
-use mathlib.Core.Path.{sym, _∙_, ap}
 use Rattle.state.proofs.read.status_ok.Statement.{statement}
 use Rattle.state.proofs.read.status_ok.Tie as tie
 
@@ -27,7 +25,9 @@ unfolding _or_
 returns-5 c = sym (ap isStatus (c .match .keys5))
 
 returns-6 : tie.Need-returns-6
-returns-6 c = sym (or-no _ _ (ne-eqb _ _ (c .match .rest .0 .0 .0 .0 .1)) ∙ or-no _ _ (ne-eqb _ _ (c .match .rest .0 .0 .0 .1)) ∙ or-no _ _ (ne-eqb _ _ (c .match .rest .0 .0 .1)) ∙ or-no _ _ (ne-eqb _ _ (c .match .rest .0 .1)) ∙ ne-eqb _ _ (c .match .rest .1))
+returns-6 c =
+    sym (or-no _ _ (ne-eqb _ _ (c .match .rest .0 .0 .0 .0 .1)) ∙ or-no _ _ (ne-eqb _ _ (c .match .rest .0 .0 .0 .1)) ∙ or-no _ _ (ne-eqb _ _ (c .match .rest .0 .0 .1))
+    ∙ or-no _ _ (ne-eqb _ _ (c .match .rest .0 .1)) ∙ ne-eqb _ _ (c .match .rest .1))
 
 pub status-ok-spec : {M : Type 1} → statement M
 status-ok-spec = tie.close (tie.spec returns returns-2 returns-3 returns-4 returns-5 returns-6)

@@ -1,6 +1,5 @@
-use Rattle.page.specs.Low.{upper}
-use native.Mathlib.Omega.{arith}
-use borrow.Author.Needs.{needs}
+use Rattle.tables.specs.Names.{upper}
+use Rattle.tables.proofs.Names.{arith, needs}
 use Rattle.tables.proofs.words.section_of.Statement.{statement}
 use Rattle.tables.proofs.words.section_of.Tie as tie
 

@@ -1,7 +1,5 @@
-use Rattle.tables.specs.Words.{stepBits}
-use mathlib.Core.Path.{sym, ap}
-use Prim.Native.Nat.{_^_}
-use borrow.Author.Needs.{needs}
+use Rattle.tables.specs.Names.{_^_}
+use Rattle.tables.proofs.Names.{stepBits, sym, ap, needs}
 use Rattle.tables.proofs.words.step.Statement.{statement}
 use Rattle.tables.proofs.words.step.Tie as tie
 

@@ -1,9 +1,5 @@
-use lib.Pow.{pow-pos}
-use Rattle.tables.specs.Words.{stepBits}
-use mathlib.Core.Path.{ap₂}
-use native.Mathlib.Omega.{arith}
-use Prim.Native.Nat.{ℕ, _/_}
-use borrow.Author.Needs.{needs}
+use Rattle.tables.specs.Names.{ℕ, _/_}
+use Rattle.tables.proofs.Names.{pow-pos, stepBits, ap₂, arith, needs}
 use Rattle.tables.proofs.words.word_in.Statement.{statement}
 use Rattle.tables.proofs.words.word_in.Tie as tie
 

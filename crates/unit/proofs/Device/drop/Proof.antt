@@ -1,6 +1,5 @@
-use mathlib.Core.Path.{_∙_}
+use Rattle.unit.proofs.Names.{_∙_, needs}
 use Rattle.unit.proofs.Acting.{drop-acts}
-use borrow.Author.Needs.{needs}
 use Rattle.unit.proofs.Device.drop.Statement.{statement}
 use Rattle.unit.proofs.Device.drop.Tie as tie
 

@@ -1,4 +1,4 @@
-use borrow.Author.Needs.{needs}
+use Rattle.unit.proofs.Names.{needs}
 use Rattle.unit.proofs.Device.fresh.Statement.{statement}
 use Rattle.unit.proofs.Device.fresh.Tie as tie
 

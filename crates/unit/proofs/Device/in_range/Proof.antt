@@ -1,8 +1,6 @@
-use Rattle.unit.specs.Device.{inRange}
-use mathlib.Core.Path.{sym, _∙_}
+use Rattle.unit.proofs.Names.{inRange, sym, _∙_, not-true, needs}
 use Rattle.page.proofs.Picks.{and-yes, and-no}
-use borrow.Author.Tests.{not-true, not-false}
-use borrow.Author.Needs.{needs}
+use borrow.Author.Tests.{not-false}
 use Rattle.unit.proofs.Device.in_range.Statement.{statement}
 use Rattle.unit.proofs.Device.in_range.Tie as tie
 

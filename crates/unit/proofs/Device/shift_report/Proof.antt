@@ -1,11 +1,8 @@
-use mathlib.Core.Path.{ap}
-use denote.Ref.{now}
-use Rattle.memory.specs.Memory.{lent}
-use Rattle.perform.specs.Performed.{Done}
+use Rattle.unit.specs.Names.{lent, Done}
+use Rattle.unit.proofs.Names.{ap, now, toldOf, needs}
 use Rattle.unit.specs.Device.{reported}
-use Rattle.unit.specs.Acts.{toldOf, shiftIn}
+use Rattle.unit.specs.Acts.{shiftIn}
 use Rattle.unit.proofs.Acting.{shift-acts}
-use borrow.Author.Needs.{needs}
 use Rattle.unit.proofs.Device.shift_report.Statement.{statement}
 use Rattle.unit.proofs.Device.shift_report.Tie as tie
 
@@ -35,7 +32,7 @@ returns c =
     let s6 = s5 .before in
     let s9 = s6 .before .before .before in
     let x = s9 .args in
-    let m = lent (now (x .on)) (x .onbase) (now (x .ext)) (x .extbase) in
+    let m = lent (now (x .on)) (x .onbase .0) (now (x .ext)) (x .extbase .0) in
     let e = shift-acts m _ _ (x .self) _ (x .va) _ _ (s5 .in-range .ensures) (s6 .memories-ok .ensures) (s4 .shift .ensures) _ (s2 .act .ensures) in
     rw (c .shift-in .ensures) (ap (λ (y : Done). reported (toldOf y .device) (shiftIn (y .said))) e)
 

@@ -1,5 +1,4 @@
-use borrow.Author.Needs.{needs}
-use Prim.Native.Nat.{_≤_, _-_}
+use Rattle.vectors.proofs.Names.{needs, _≤_, _-_}
 use Rattle.vectors.proofs.sessions.run.Statement.{statement}
 use Rattle.vectors.proofs.sessions.run.Tie as tie
 

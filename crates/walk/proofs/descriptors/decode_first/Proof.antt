@@ -1,11 +1,6 @@
-use Rattle.walk.specs.declared.First.{First}
-use Rattle.walk.specs.Descriptors.{firstOf}
+use Rattle.walk.specs.Names.{First, upper}
+use Rattle.walk.proofs.Names.{firstOf, sym, _∙_, ap, pick-yes, pick-no, eq-eqb, ne-eqb, needs}
 use Rattle.walk.proofs.Laws.{first-coarse, first-section}
-use Rattle.page.specs.Low.{upper}
-use mathlib.Core.Path.{sym, _∙_, ap}
-use Rattle.page.proofs.Picks.{pick-yes, pick-no}
-use borrow.Author.Tests.{eq-eqb, ne-eqb}
-use borrow.Author.Needs.{needs}
 use Rattle.walk.proofs.descriptors.decode_first.Statement.{statement}
 use Rattle.walk.proofs.descriptors.decode_first.Tie as tie
 

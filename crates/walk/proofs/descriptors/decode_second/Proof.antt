@@ -1,11 +1,6 @@
-use Rattle.walk.specs.declared.Found.{Found}
-use Rattle.walk.specs.declared.Table.{Table}
-use Rattle.walk.specs.Descriptors.{secondOf}
+use Rattle.walk.specs.Names.{Found, Table}
+use Rattle.walk.proofs.Names.{secondOf, sym, _∙_, ap, pick-yes, pick-no, eq-eqb, ne-eqb, needs}
 use Rattle.walk.proofs.Laws.{second-small}
-use mathlib.Core.Path.{sym, _∙_, ap}
-use Rattle.page.proofs.Picks.{pick-yes, pick-no}
-use borrow.Author.Tests.{eq-eqb, ne-eqb}
-use borrow.Author.Needs.{needs}
 use Rattle.walk.proofs.descriptors.decode_second.Statement.{statement}
 use Rattle.walk.proofs.descriptors.decode_second.Tie as tie
 

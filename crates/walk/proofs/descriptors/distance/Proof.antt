@@ -1,6 +1,5 @@
+use Rattle.walk.proofs.Names.{arith, needs}
 use Rattle.walk.proofs.Difference.{difference, difference-fits}
-use native.Mathlib.Omega.{arith}
-use borrow.Author.Needs.{needs}
 use Rattle.walk.proofs.descriptors.distance.Statement.{statement}
 use Rattle.walk.proofs.descriptors.distance.Tie as tie
 

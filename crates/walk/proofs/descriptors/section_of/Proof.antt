@@ -1,8 +1,5 @@
-use Rattle.page.specs.declared.Kind.{Kind}
-use Rattle.page.specs.Words.{physical}
-use mathlib.Core.Path.{ap}
-use Prim.Native.Nat.{ℕ, _/_, _%_, _^_}
-use borrow.Author.Needs.{needs}
+use Rattle.walk.specs.Names.{Kind, physical, ℕ, _/_, _%_, _^_}
+use Rattle.walk.proofs.Names.{ap, needs}
 use Rattle.walk.proofs.descriptors.section_of.Statement.{statement}
 use Rattle.walk.proofs.descriptors.section_of.Tie as tie
 

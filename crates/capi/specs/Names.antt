@@ -1,0 +1,17 @@
+-- What the definitions of this crate are written with.
+pub use lib.Ieee.{Float}
+unfoldable pub use Rattle.builder.specs.Build.{buildOf}
+pub use Rattle.builder.specs.Build.{builtNumber, builtValue}
+pub use Rattle.builder.specs.declared.Built.{Built}
+pub use Rattle.memory.specs.Memory.{Lent, fetchedIn, lent}
+unfoldable pub use Rattle.memory.specs.Memory.{placeIn}
+pub use Rattle.memory.specs.declared.Place.{Place}
+pub use Rattle.page.specs.Ground.{List, _%_, _*_, _+_, _^_, _≡_, _≤_, length, ℕ}
+unfoldable pub use Rattle.page.specs.Pick.{_and_, pick}
+pub use Rattle.prices.specs.declared.Prices.{Prices}
+pub use Rattle.run.specs.Run.{Ran, ran}
+unfoldable pub use Rattle.run.specs.Run.{runWith}
+pub use Rattle.session.specs.Bench.{freshBench}
+pub use Rattle.state.specs.Handed.{benchIn, lockIn, pricesOf}
+unfoldable pub use Rattle.state.specs.Handed.{isState}
+unfoldable pub use Rattle.wire.specs.Words.{wordOf}

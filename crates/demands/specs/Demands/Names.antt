@@ -1,0 +1,39 @@
+-- What the definitions of this crate are written with.
+pub use mathlib.Core.Logic.{_⊎_}
+pub use Rattle.bill.specs.Bill.{f1, freshBill}
+unfoldable pub use Rattle.bill.specs.Bill.{moneyOk}
+unfoldable pub use Rattle.builder.specs.Build.{answerOf, buildOf, roomOk}
+pub use Rattle.builder.specs.Build.{builtNumber, builtValue}
+unfoldable pub use Rattle.builder.specs.Image.{image}
+pub use Rattle.builder.specs.declared.Built.{Built}
+pub use Rattle.coherence.specs.Sessions.{Admitted, BilledCall, after, asked, asks}
+pub use Rattle.coherence.specs.Started.{StartedInAnyOrder, TurnsOn, start}
+pub use Rattle.conduct.specs.Answered.{AnswersOn, NothingSaid, OffIsVirtual, OneAcknowledgement, PrefetchAnswered, ShiftAnswered}
+pub use Rattle.conduct.specs.Filled.{FaultNotCached, LockedKept, NoPageNoFill, OneSlotFilled}
+pub use Rattle.conduct.specs.Flushed.{FlushExact}
+pub use Rattle.conduct.specs.Held.{FaultDropped, FaultHeld}
+pub use Rattle.conduct.specs.Kept.{Frames}
+pub use Rattle.conduct.specs.Metered.{WordsBilled, Metered, PostedMeters}
+pub use Rattle.conduct.specs.Refused.{AcceptedWhen, BenchStays, BytesFit, ExactlyWhen, GoodKept, NothingChanges, RangeKept, ValueFits}
+pub use Rattle.conduct.specs.Written.{LoadCopied, LoadThenCopy, ReadBack, ReadShown, ResetFresh}
+pub use Rattle.decision.specs.Names.{Access, Answer, Bill, Fault, PhysicalAddress, Prices, VirtualAddress}
+pub use Rattle.memory.specs.Memory.{Lent, lent, lentOk}
+pub use Rattle.page.specs.Ground.{Bool, List, [], _%_, _++_, _<_, _∷_, _≡_, drop, eqb, false, length, ltb, not, replicate, suc, true, zero, ℕ}
+pub use Rattle.page.specs.Words.{limit, megabytes, physical, virtual}
+pub use Rattle.prices.specs.declared.Price.{Price}
+unfoldable pub use Rattle.records.specs.Mappings.{mappings}
+unfoldable pub use Rattle.records.specs.Meanings.{meaning}
+pub use Rattle.records.specs.Meanings.{meaningNumber, meaningValues}
+unfoldable pub use Rattle.records.specs.Refusals.{bad, overlapping}
+pub use Rattle.records.specs.Refusals.{begun}
+pub use Rattle.records.specs.declared.Meaning.{Meaning}
+pub use Rattle.registers.specs.Answers.{isPrefetch, isRefusal}
+pub use Rattle.registers.specs.declared.Pending.{Pending}
+unfoldable pub use Rattle.tables.specs.Tables.{imageLength}
+pub use Rattle.translates.specs.ListA.{baseA, recordsA}
+pub use Rattle.translates.specs.Statements.{Bytes, Standing}
+unfoldable pub use Rattle.unit.specs.Calls.{requestOf, writeOf}
+pub use Rattle.unit.specs.Machine.{Call, answered, drop-fault, read, request, step, write}
+pub use Rattle.unit.specs.Offsets.{acknowledgeAt, prefetchAt}
+pub use Rattle.unit.specs.Refusals.{Clear, First, Refusing}
+pub use Rattle.unit.specs.declared.Device.{Device}
