@@ -12,6 +12,6 @@ pub use Rattle.prices.specs.declared.Prices.{Prices}
 pub use Rattle.run.specs.Run.{Ran, ran}
 unfoldable pub use Rattle.run.specs.Run.{runWith}
 pub use Rattle.session.specs.Bench.{freshBench}
-pub use Rattle.state.specs.Handed.{benchIn, lockIn, pricesOf}
-unfoldable pub use Rattle.state.specs.Handed.{isState}
+pub use Rattle.state.specs.Read.{benchIn, lockIn, pricesOf}
+unfoldable pub use Rattle.state.specs.Read.{isState}
 unfoldable pub use Rattle.wire.specs.Words.{wordOf}

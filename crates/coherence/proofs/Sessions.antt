@@ -9,7 +9,7 @@ use borrow.Author.Tests.{leb-false, not-true, not-false}
 use Rattle.page.proofs.Picks.{and-left, and-right}
 use Rattle.bank.proofs.Ranges.{in-range}
 use Rattle.registers.specs.Fields.{registersOk, pendingOk}
-use Rattle.registers.proofs.Offsets.{command-at}
+use Rattle.registers.proofs.Rows.{command-at}
 use Rattle.unit.specs.declared.Told.{Told}
 use Rattle.unit.specs.Device.{toldRefused}
 use Rattle.unit.specs.Calls.{readRefusals, readOf, dropRefusals, dropOf}

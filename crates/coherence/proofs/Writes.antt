@@ -7,7 +7,7 @@ use Rattle.bank.specs.Changes.{withCams}
 use Rattle.registers.specs.Fields.{camAddress, setting}
 use Rattle.registers.specs.Table.{lockCommand, loadCommand, whenBit, tended}
 use Rattle.registers.specs.declared.Tending.{Tending}
-use Rattle.registers.proofs.Offsets.{by-offset, command-elsewhere}
+use Rattle.registers.proofs.Rows.{by-offset, command-elsewhere}
 use Rattle.unit.specs.Device.{setRegisters, setBank}
 use Rattle.coherence.specs.Sessions.{isFixed}
 use Rattle.coherence.proofs.Slots.{flush-agrees, flushAt-agrees}

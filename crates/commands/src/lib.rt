@@ -2,6 +2,7 @@
 use registers::Command;
 use registers::Setting;
 use registers::Tending;
+use registers::offsets;
 ghost use mathlib.Core.Path.{_≡_};
 ghost use Rattle.registers.specs.Table.{commandOf, controlCommand, lockCommand, loadCommand, whenBit};
 
@@ -10,27 +11,27 @@ pub fn command_at(offset: u32, v: u16) -> Command
     ensures { λ r. ⌜ r ≡ commandOf offset v ⌝ }
 {
     match offset {
-        0x00 => Command::Prefetch(v),
-        0x04 => Command::Refused(6),
-        0x08 => control_command(v),
-        0x0c => Command::Refused(6),
-        0x10 => Command::Refused(6),
-        0x14 => Command::Refused(6),
-        0x18 => Command::Acknowledge(v % 2 == 1),
-        0x1c => Command::Set(Setting::BaseHigh(v)),
-        0x20 => Command::Set(Setting::BaseLow(v / 128 * 128)),
-        0x24 => lock_command(v),
-        0x28 => load_command(v),
-        0x2c => Command::Set(Setting::CamHigh(v % 4)),
-        0x30 => Command::Set(Setting::CamLow(v)),
-        0x34 => Command::Set(Setting::RamHigh(v)),
-        0x38 => Command::Set(Setting::RamLow(v / 256 * 256)),
-        0x3c => when_bit(v, Tending::Flush),
-        0x40 => when_bit(v, Tending::FlushEntry),
-        0x44 => Command::Refused(6),
-        0x48 => Command::Refused(6),
-        0x4c => Command::Refused(6),
-        0x50 => Command::Refused(6),
+        offsets::PREFETCH => Command::Prefetch(v),
+        offsets::WALK_STATUS => Command::Refused(6),
+        offsets::CONTROL => control_command(v),
+        offsets::FAULT_HIGH => Command::Refused(6),
+        offsets::FAULT_LOW => Command::Refused(6),
+        offsets::FAULT_STATUS => Command::Refused(6),
+        offsets::ACKNOWLEDGE => Command::Acknowledge(v % 2 == 1),
+        offsets::BASE_HIGH => Command::Set(Setting::BaseHigh(v)),
+        offsets::BASE_LOW => Command::Set(Setting::BaseLow(v / 128 * 128)),
+        offsets::LOCK => lock_command(v),
+        offsets::LOAD => load_command(v),
+        offsets::CAM_HIGH => Command::Set(Setting::CamHigh(v % 4)),
+        offsets::CAM_LOW => Command::Set(Setting::CamLow(v)),
+        offsets::RAM_HIGH => Command::Set(Setting::RamHigh(v)),
+        offsets::RAM_LOW => Command::Set(Setting::RamLow(v / 256 * 256)),
+        offsets::FLUSH => when_bit(v, Tending::Flush),
+        offsets::ENTRY_FLUSH => when_bit(v, Tending::FlushEntry),
+        offsets::READ_CAM_HIGH => Command::Refused(6),
+        offsets::READ_CAM_LOW => Command::Refused(6),
+        offsets::READ_RAM_HIGH => Command::Refused(6),
+        offsets::READ_RAM_LOW => Command::Refused(6),
         _ => Command::Refused(5),
     }
 }

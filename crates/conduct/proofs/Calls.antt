@@ -4,7 +4,7 @@ use Rattle.conduct.specs.Names.{writeRefusals, request, write, Said, ans
 use Rattle.conduct.specs.Names.{Decision, Device, Outcome}
 use Rattle.conduct.proofs.Names.{refl, sym, _∙_, ap, ap₂, entryFilled, commandOf, meteredOnce, prefetchDecided, refusedWith, decidedBy}
 use Rattle.conduct.proofs.Names.{attemptOf, lacks, requestOf, prefetched, carried, writeOf, Accepted, attempt, prefetch, readsFor, fillFor}
-use Rattle.conduct.proofs.Names.{tallyAsked, billAsked}
+use Rattle.conduct.proofs.Names.{tallyAttempted, billAsked}
 use Rattle.conduct.specs.Metered.{wordsOnly}
 use Rattle.conduct.proofs.Firsts.{accepted-by}
 use Rattle.conduct.proofs.Attempts.{Does, met-tally, attempt-met, attempt-seen, attempt-does}
@@ -16,11 +16,11 @@ module _ (m : Lent) (p : Prices) (b : Bill) (d : Device) where
     abbrev x : Decision
     x = decidedBy (look m d va) d va a
 
-    once : (t : Bool) (n : ℕ) → wordCount (readsFor m d va) ≡ n → meteredOnce t n ≡ tallyAsked m d (attempt t va a)
+    once : (t : Bool) (n : ℕ) → wordCount (readsFor m d va) ≡ n → meteredOnce t n ≡ tallyAttempted m d (attempt t va a)
     once false n e = ap (meteredOnce false) (sym e)
     once true n e = ap (meteredOnce true) (sym e)
 
-    pub attempt-tally : attemptOf m p b again d va a .tally ≡ tallyAsked m d (attempt again va a)
+    pub attempt-tally : attemptOf m p b again d va a .tally ≡ tallyAttempted m d (attempt again va a)
     attempt-tally =
         met-tally again (wordCount (x .reads)) (x .answer) (attempt-met m d va a h)
         ∙ once again (wordCount (x .reads)) (sym (ap wordCount (attempt-does m d va a h .reads)))
@@ -39,7 +39,7 @@ module _ (m : Lent) (p : Prices) (b : Bill) (d : Device) where
     prefetch-meets : Does m d (pageAt v) y
     prefetch-meets = prefetch-does m d (pageAt v) (prefetch-there m p b d v c) (prefetch-on m p b d v c) (prefetch-walking m p b d v c)
 
-    pub prefetch-tally : prefetched m p b d v .tally ≡ tallyAsked m d (prefetch (pageAt v))
+    pub prefetch-tally : prefetched m p b d v .tally ≡ tallyAttempted m d (prefetch (pageAt v))
     prefetch-tally = ap (λ (r : Reads). wordsOnly (wordCount r)) (prefetch-meets .reads)
 
     pub prefetch-bill : prefetched m p b d v .bill ≡ billAsked m d p b (prefetch (pageAt v))

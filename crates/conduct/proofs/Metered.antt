@@ -3,7 +3,7 @@ use Rattle.conduct.specs.Names.{_≡_, [], _∷_, Bool, true, false, ℕ
 use Rattle.conduct.specs.Names.{request, write, read, drop-fault, shift, step, Bench, run, Lent, Tally, Device, Bill, Prices, Outcome}
 use Rattle.conduct.proofs.Names.{refl, sym, _∙_, ap, ap₂, subst, arith, not-false, pick-by, and-left, or-yes, or-no, Accepted, saidRefused}
 use Rattle.conduct.proofs.Names.{Unchanged, Attempted, nothing, attempt, prefetch, retryAttempted, writeAttempted, attempted, readsFor}
-use Rattle.conduct.proofs.Names.{tallyAsked, seenFor}
+use Rattle.conduct.proofs.Names.{tallyAttempted, seenFor}
 use Rattle.conduct.proofs.Names.{billAsked}
 use Rattle.meters.specs.Posted.{stopped}
 use Rattle.meters.specs.declared.Meters.{Meters}
@@ -20,11 +20,11 @@ use Rattle.conduct.proofs.Refused.{nothing-changes, accepted-when}
 
 pub metered : Metered
 metered m d b (request va a p) =
-    accepted-request m p b d (λ (x : Outcome). x .tally ≡ tallyAsked m d (attempt false va a)) va a
+    accepted-request m p b d (λ (x : Outcome). x .tally ≡ tallyAttempted m d (attempt false va a)) va a
     (λ c. attempt-tally m p b d false va a (c .1 .1 .1 .1 .1 .0))
 metered m d b (write o v p) =
-    accepted-write m p b d (λ (x : Outcome). x .tally ≡ tallyAsked m d (attempted d (write o v p))) o v
-    (write-by m p b d v (λ (q : Attempted) (x : Outcome). x .tally ≡ tallyAsked m d q) refl refl (attempt-tally m p b d true) (prefetch-tally m p b d v) o (λ _ _. refl))
+    accepted-write m p b d (λ (x : Outcome). x .tally ≡ tallyAttempted m d (attempted d (write o v p))) o v
+    (write-by m p b d v (λ (q : Attempted) (x : Outcome). x .tally ≡ tallyAttempted m d q) refl refl (attempt-tally m p b d true) (prefetch-tally m p b d v) o (λ _ _. refl))
 metered m d b (read o) = λ _. refl
 metered m d b drop-fault = λ _. refl
 metered m d b (shift va) = λ _. refl

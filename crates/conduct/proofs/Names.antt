@@ -8,11 +8,11 @@ pub use Rattle.bank.proofs.Ranges.{in-range}
 pub use Rattle.bank.specs.Changes.{entryFilled}
 unfoldable pub use Rattle.bank.specs.Slots.{bankOk}
 pub use Rattle.conduct.specs.Answered.{LowestMatch}
-pub use Rattle.conduct.specs.Asked.{Attempted, attempted, attempt, nothing, prefetch, retryAttempted}
-unfoldable pub use Rattle.conduct.specs.Asked.{readsFor, walksFor, writeAttempted}
+pub use Rattle.conduct.specs.Attempted.{Attempted, attempted, attempt, nothing, prefetch, retryAttempted}
+unfoldable pub use Rattle.conduct.specs.Attempted.{readsFor, walksFor, writeAttempted}
 pub use Rattle.conduct.specs.Filled.{LanesFit, pageFill}
 unfoldable pub use Rattle.conduct.specs.Filled.{fillFor}
-pub use Rattle.conduct.specs.Metered.{billAsked, tallyAsked}
+pub use Rattle.conduct.specs.Metered.{billAsked, tallyAttempted}
 unfoldable pub use Rattle.conduct.specs.Metered.{seenFor}
 pub use Rattle.conduct.specs.Refused.{Accepted, BytesFit, Unchanged, saidRefused}
 pub use Rattle.decision.proofs.Joins.{decided-on}
@@ -27,7 +27,7 @@ pub use Rattle.page.proofs.Picks.{and-left, and-right, and-yes, or-no, or-yes, 
 pub use Rattle.page.specs.Ground.{leb, take}
 unfoldable pub use Rattle.page.specs.Pick.{_or_}
 unfoldable pub use Rattle.page.specs.Words.{wordFlushed, wordFlushedAt}
-pub use Rattle.registers.proofs.Offsets.{by-offset}
+pub use Rattle.registers.proofs.Rows.{by-offset}
 pub use Rattle.registers.proofs.Ranges.{registers-in-range}
 pub use Rattle.registers.specs.Fields.{pendingOk}
 unfoldable pub use Rattle.registers.specs.Fields.{registersOk}

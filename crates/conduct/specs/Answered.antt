@@ -1,12 +1,8 @@
 -- Demand 2, what a request, a retry, a prefetch and a shift report answer (01, "The unit", "The walk", "Registers", "Meters and the walk
 -- bill").
-use Rattle.conduct.specs.Names.{ℕ, _%_, _<_, _≡_, Bool, true, false, List, [], _∷_, getD, limit, physical, permits, wordAccess, wordMatches}
-use Rattle.conduct.specs.Names.{wordAddress, _≢_, ℤ, physicalOf, distanceOf, foundNumber, slots, isPrefetch, isOn, isWalking, Pending, Answer}
-use Rattle.conduct.specs.Names.{pageAt, shiftNumber, shiftValues, prefetchAt, acknowledgeAt, inRange, look, Call, write, drop-fault, shift}
-use Rattle.conduct.specs.Names.{Said, answered, reported, step, Access, VirtualAddress, Lent, lentOk, Page, Found, Bill, Prices, Fault, Shift}
-use Rattle.conduct.specs.Names.{Device}
+use Rattle.conduct.specs.Names.{ℕ, _%_, _<_, _≡_, Bool, true, false, List, [], _∷_, getD, limit, physical, permits, wordAccess, wordMatches, wordAddress, _≢_, ℤ, physicalOf, distanceOf, foundNumber, slots, isPrefetch, isOn, isWalking, Pending, Answer, pageAt, shiftNumber, shiftValues, prefetchAt, acknowledgeAt, inRange, look, Call, write, drop-fault, shift, Said, answered, reported, step, Access, VirtualAddress, Lent, lentOk, Page, Found, Bill, Prices, Fault, Shift, Device}
 use Rattle.conduct.specs.Refused.{Accepted}
-use Rattle.conduct.specs.Asked.{nothing, attempt, attempted}
+use Rattle.conduct.specs.Attempted.{nothing, attempt, attempted}
 
 -- slot i matches an address, and no lower slot does
 pub record LowestMatch (d : Device) (va : VirtualAddress) (i : ℕ) : Type 0 where

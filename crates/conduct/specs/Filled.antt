@@ -1,8 +1,7 @@
 -- Demand 2, the slots after each call that may walk (01, "The walk").
-use Rattle.conduct.specs.Names.{ℕ, _<_, _≡_, true, length, pick, madeWords, _≢_, slots, slotAt, nextSlot, nextVictim, Answer, Fault, look, Call}
-use Rattle.conduct.specs.Names.{answered, step, VirtualAddress, Words, Lent, Found, Bill, Bank, Fill, Device}
+use Rattle.conduct.specs.Names.{ℕ, _<_, _≡_, true, length, pick, madeWords, _≢_, slots, slotAt, nextSlot, nextVictim, Answer, Fault, look, Call, answered, step, VirtualAddress, Words, Lent, Found, Bill, Bank, Fill, Device}
 use Rattle.conduct.specs.Refused.{Accepted}
-use Rattle.conduct.specs.Asked.{Attempted, nothing, attempt, prefetch, attempted, AttemptedAt, callWalks, walksFor}
+use Rattle.conduct.specs.Attempted.{Attempted, nothing, attempt, prefetch, attempted, AttemptedAt, callWalks, walksFor}
 
 -- a walk that finds a page fills a slot with it, one that finds none fills nothing
 abbrev pub pageFill : VirtualAddress → Found → Fill

@@ -1,8 +1,7 @@
 -- Demand 2, the pending fault after each call (01, "Registers", "When the unit says no").
-use Rattle.conduct.specs.Names.{ℕ, _%_, _≡_, Bool, true, Answer, cleared, doneWith, prefetchAt, acknowledgeAt, Call, write, drop-fault, Said}
-use Rattle.conduct.specs.Names.{answered, stepOut, step, Access, VirtualAddress, PhysicalAddress, Lent, Bill, Prices, Fault, Pending, Device}
+use Rattle.conduct.specs.Names.{ℕ, _%_, _≡_, Bool, true, Answer, cleared, doneWith, prefetchAt, acknowledgeAt, Call, write, drop-fault, Said, answered, stepOut, step, Access, VirtualAddress, PhysicalAddress, Lent, Bill, Prices, Fault, Pending, Device}
 use Rattle.conduct.specs.Refused.{saidRefused, Accepted}
-use Rattle.conduct.specs.Asked.{Attempted, attempt, prefetch, attempted}
+use Rattle.conduct.specs.Attempted.{Attempted, attempt, prefetch, attempted}
 
 -- a request or a retry that answers a fault holds it with its address and access; a prefetch's fault is 24, and holds prefetch,
 -- the page and read; an address clears the pending fault; a refusal leaves it

@@ -1,5 +1,4 @@
 pub mod Refused
-pub mod Asked
 pub mod Filled
 pub mod Flushed
 pub mod Metered
@@ -8,3 +7,4 @@ pub mod Held
 pub mod Kept
 pub mod Written
 pub mod Names
+pub mod Attempted

@@ -1,9 +1,7 @@
 -- Demand 2, the meters and the bill after each call (01, "Meters and the walk bill").
-use Rattle.conduct.specs.Names.{ℕ, _+_, _≡_, true, false, List, [], _∷_, pick, wordCount, noTally, posted, BelowStop, readsPosted, seenPosted}
-use Rattle.conduct.specs.Names.{lookedUp, isOn, noMatch, Call, request, write, read, drop-fault, shift, step, Bench, run, VirtualAddress, Lent}
-use Rattle.conduct.specs.Names.{Tally, Bill, Prices, Seen, Device}
+use Rattle.conduct.specs.Names.{ℕ, _+_, _≡_, true, false, List, [], _∷_, pick, wordCount, noTally, posted, BelowStop, readsPosted, seenPosted, lookedUp, isOn, noMatch, Call, request, write, read, drop-fault, shift, step, Bench, run, VirtualAddress, Lent, Tally, Bill, Prices, Seen, Device}
 use Rattle.conduct.specs.Refused.{Accepted}
-use Rattle.conduct.specs.Asked.{Attempted, nothing, attempt, prefetch, attempted, readsFor}
+use Rattle.conduct.specs.Attempted.{Attempted, nothing, attempt, prefetch, attempted, readsFor}
 
 -- a fresh request and the words that it read, a retry and its words, words alone
 abbrev pub oneFresh : ℕ → Tally
@@ -16,15 +14,15 @@ abbrev pub wordsOnly : ℕ → Tally
 wordsOnly n = record { fresh = 0; retries = 0; words = n }
 
 -- what is added to the meters: the words are those that the plain walk reads
-abbrev pub tallyAsked : Lent → Device → Attempted → Tally
-tallyAsked m d nothing = noTally
-tallyAsked m d (attempt false va a) = oneFresh (wordCount (readsFor m d va))
-tallyAsked m d (attempt true va a) = oneRetry (wordCount (readsFor m d va))
-tallyAsked m d (prefetch va) = wordsOnly (wordCount (readsFor m d va))
+abbrev pub tallyAttempted : Lent → Device → Attempted → Tally
+tallyAttempted m d nothing = noTally
+tallyAttempted m d (attempt false va a) = oneFresh (wordCount (readsFor m d va))
+tallyAttempted m d (attempt true va a) = oneRetry (wordCount (readsFor m d va))
+tallyAttempted m d (prefetch va) = wordsOnly (wordCount (readsFor m d va))
 
 -- a call that is not refused adds exactly that
 abbrev pub Metered : Type 0
-Metered = (m : Lent) (d : Device) (b : Bill) (c : Call) → Accepted m d b c → step m d b c .tally ≡ tallyAsked m d (attempted d c)
+Metered = (m : Lent) (d : Device) (b : Bill) (c : Call) → Accepted m d b c → step m d b c .tally ≡ tallyAttempted m d (attempted d c)
 
 -- an attempt is smoothed while the unit is on, by whether a slot matches
 unfoldable pub seenFor : Device → VirtualAddress → Seen

@@ -26,8 +26,8 @@ pub use Rattle.unit.specs.Calls.{dropRefusals, mayWalk, noMatch, readRefusals, 
 pub use Rattle.unit.specs.Device.{cleared, doneWith, freshDevice, look}
 unfoldable pub use Rattle.unit.specs.Device.{inRange}
 pub use Rattle.unit.specs.Machine.{Bench, Call, Said, Step, answered, drop-fault, read, reported, request, run, saidNumber, shift, step, stepOut, write}
-pub use Rattle.unit.specs.Offsets.{acknowledgeAt, baseHighAt, baseLowAt, camHighAt, camLowAt, controlAt, entryFlushAt, faultHighAt, faultLowAt}
-pub use Rattle.unit.specs.Offsets.{faultStatusAt, flushAt, loadAt, lockAt, prefetchAt, ramHighAt, ramLowAt, readCamHighAt, readCamLowAt}
-pub use Rattle.unit.specs.Offsets.{readRamHighAt, readRamLowAt, walkStatusAt}
+pub use Rattle.registers.specs.Offsets.{acknowledgeAt, baseHighAt, baseLowAt, camHighAt, camLowAt, controlAt, entryFlushAt, faultHighAt, faultLowAt}
+pub use Rattle.registers.specs.Offsets.{faultStatusAt, flushAt, loadAt, lockAt, prefetchAt, ramHighAt, ramLowAt, readCamHighAt, readCamLowAt}
+pub use Rattle.registers.specs.Offsets.{readRamHighAt, readRamLowAt, walkStatusAt}
 pub use Rattle.unit.specs.Refusals.{Clear, First, Refusals}
 pub use Rattle.walk.specs.Descriptors.{distanceOf, foundNumber, physicalOf}

@@ -1,5 +1,5 @@
 -- Demand 3 in the buyer's order: build a list into a memory, lend that memory, start, call. And a session with list A.
-use Rattle.demands.specs.Demands.Names.{virtual, physical, ℕ, _≡_, false, List, [], _∷_, replicate, PhysicalAddress, Lent, lent, f1, freshBill}
+use Rattle.demands.specs.Demands.Names.{lockAt, virtual, physical, ℕ, _≡_, false, List, [], _∷_, replicate, PhysicalAddress, Lent, lent, f1, freshBill}
 use Rattle.demands.specs.Demands.Names.{mappings, meaning, Built, buildOf, Price, isRefusal, Access, VirtualAddress, Bill, Prices, Answer}
 use Rattle.demands.specs.Demands.Names.{Device, prefetchAt, acknowledgeAt, requestOf, Call, request, write, read, drop-fault, answered, step}
 use Rattle.demands.specs.Demands.Names.{BilledCall, after, Admitted, asked, asks, TurnsOn, start, Bytes, recordsA, baseA, _⊎_}
@@ -72,7 +72,7 @@ callsA =
     ∷ (freshBill, drop-fault)
     ∷ (freshBill, write prefetchAt 0x1401 pricesA)
     ∷ (freshBill, request (virtual 0x5007ff) Access.Read pricesA)
-    ∷ (freshBill, read 0x24)
+    ∷ (freshBill, read lockAt)
     ∷ []
 
 -- the byte of the first request

@@ -1,7 +1,7 @@
 -- The three demands of the buyer, over the definitions that the code's contracts cite. Their proofs: proofs/Proved.antt.
 pub mod Names
 use Names.*
-use Rattle.registers.specs.Answers as N
+use Rattle.registers.specs.Answers
 use Rattle.demands.specs.Building.{BuildRefuses, BuildLeaves}
 
 -- 1. It takes anything; each refusal comes when the paper says and at no other time, and then nothing is changed: device, bill and
@@ -52,8 +52,8 @@ meantAs Meaning.Translation = Answer.Fault Fault.Translation
 -- an answer is the list's: its case, and in the paper's number and values
 pub record AsList (r : Answer) (x : Meaning) : Type 0 where
   pub answer : r ≡ meantAs x
-  pub number : N.answerNumber r ≡ meaningNumber x
-  pub values : N.answerValues r ≡ meaningValues x
+  pub number : Answers.answerNumber r ≡ meaningNumber x
+  pub values : Answers.answerValues r ≡ meaningValues x
 
 -- 3. For a list that the builder accepts, its image standing at its base in one of the two memories, among any other bytes:
 -- after any calls but writes to control or base, with any prices and bills, each request or retry that is not refused answers

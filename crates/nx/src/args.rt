@@ -2,7 +2,7 @@
 use crate::text;
 
 // How many words stand behind the command.
-pub fn count() -> usize {
+pub(crate) fn count() -> usize {
     let n = os::arg_count();
     if n < 2 {
         return 0;
@@ -18,7 +18,7 @@ fn fits(i: usize) -> bool {
 }
 
 // Whether all arguments that a command can have are such.
-pub fn fit() -> bool {
+pub(crate) fn fit() -> bool {
     let n = os::arg_count();
     let mut i = 1;
     while i < n {

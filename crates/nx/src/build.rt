@@ -118,7 +118,7 @@ fn at_word(path: &[u8], image: &[u8], w: &[u8]) -> u32 {
 }
 
 // nx build LIST IMAGE [BASE].
-pub fn run(path: &[u8], image: &[u8], base: &[u8]) -> u32 {
+pub(crate) fn run(path: &[u8], image: &[u8], base: &[u8]) -> u32 {
     if base.len() == 0 {
         return from_file(path, image, BASE);
     }

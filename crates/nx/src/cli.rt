@@ -54,7 +54,7 @@ fn with_words(command: usize) -> u32 {
 }
 
 // The command that the arguments say.
-pub fn run() -> u32 {
+pub(crate) fn run() -> u32 {
     if !args::fit() {
         return 2;
     }

@@ -14,7 +14,7 @@ const INPUT: usize = 3073;
 const PRINTED: usize = 16384;
 
 // nx records LIST.
-pub fn records(path: &[u8]) -> u32 {
+pub(crate) fn records(path: &[u8]) -> u32 {
     let mut t = [0u8; list::TEXT];
     let mut records = [0u8; list::RECORDS];
     let mut lines = [0u32; list::MOST];
@@ -81,7 +81,7 @@ fn judged(path: &[u8], records: &[u8]) -> u32 {
 }
 
 // nx text RECORDS.
-pub fn text(path: &[u8]) -> u32 {
+pub(crate) fn text(path: &[u8]) -> u32 {
     let mut records = [0u8; INPUT];
     let got = files::read(path, &mut records);
     match got {

@@ -18,7 +18,7 @@ fn is_input(path: &[u8]) -> bool {
 }
 
 // A file's name, as errors give it.
-pub fn name(fd: i32, path: &[u8]) -> bool {
+pub(crate) fn name(fd: i32, path: &[u8]) -> bool {
     if is_input(path) {
         return text::put(fd, b"standard input");
     }
@@ -26,7 +26,7 @@ pub fn name(fd: i32, path: &[u8]) -> bool {
 }
 
 // A file's name in a picture.
-pub fn xml_name(path: &[u8]) -> bool {
+pub(crate) fn xml_name(path: &[u8]) -> bool {
     if is_input(path) {
         return text::put(text::OUT, b"standard input");
     }
@@ -65,7 +65,7 @@ fn read_on(fd: i32, path: &[u8], into: &mut [u8]) -> Got {
 }
 
 // A file's bytes, at most as many as there is room for.
-pub fn read(path: &[u8], into: &mut [u8]) -> Got {
+pub(crate) fn read(path: &[u8], into: &mut [u8]) -> Got {
     if is_input(path) {
         return read_on(STDIN_FILENO, path, into);
     }
@@ -141,7 +141,7 @@ fn moved(from: &[u8], path: &[u8]) -> bool {
 }
 
 // Writes a file whole: to a new one beside it, which then takes its name; a failure leaves what was there.
-pub fn replace(path: &[u8], bytes: &[u8]) -> bool {
+pub(crate) fn replace(path: &[u8], bytes: &[u8]) -> bool {
     let mut name = [0u8; 4160];
     let k = beside(path, &mut name);
     replaced(path, bytes, name, k)
@@ -163,7 +163,7 @@ fn replaced(path: &[u8], bytes: &[u8], name: [u8; 4160], k: usize) -> bool {
 }
 
 // Says that a page could not be written; what the program then answers.
-pub fn told(ok: bool) -> u32 {
+pub(crate) fn told(ok: bool) -> u32 {
     if ok {
         return 0;
     }

@@ -27,7 +27,7 @@ pub enum Loaded {
 }
 
 // A file's name, the number of a line where there is one, and a colon.
-pub fn at_line(path: &[u8], line: u64) -> bool {
+pub(crate) fn at_line(path: &[u8], line: u64) -> bool {
     if line == 0 {
         return files::name(text::ERR, path) & text::put(text::ERR, b": ");
     }
@@ -88,7 +88,7 @@ fn counted(len: usize, n: usize) -> Loaded {
 }
 
 // A list read from its file, or its error said.
-pub fn load(path: &[u8], t: &mut [u8], records: &mut [u8], lines: &mut [u32]) -> Loaded {
+pub(crate) fn load(path: &[u8], t: &mut [u8], records: &mut [u8], lines: &mut [u32]) -> Loaded {
     let got = files::read(path, t);
     match got {
         Got::Bytes(n) => return parsed(path, parse::cut(t, 0, n), records, lines),
@@ -97,7 +97,7 @@ pub fn load(path: &[u8], t: &mut [u8], records: &mut [u8], lines: &mut [u32]) ->
 }
 
 // The number of a mapping's line, 0 where there is none.
-pub fn line_of(lines: &[u32], i: usize) -> u32 {
+pub(crate) fn line_of(lines: &[u32], i: usize) -> u32 {
     if i < lines.len() {
         return lines[i];
     }
@@ -123,7 +123,13 @@ fn overlapped(list: &[u8], i: usize) -> usize {
 }
 
 // The tables of a list in a memory at a base: their length, or 0 and the error said.
-pub fn judged(path: &[u8], list: &[u8], lines: &[u32], base: u32, memory: &mut [u8]) -> usize {
+pub(crate) fn judged(
+    path: &[u8],
+    list: &[u8],
+    lines: &[u32],
+    base: u32,
+    memory: &mut [u8],
+) -> usize {
     let built = builder::build(list, PhysicalAddress(base), memory);
     match built {
         Built::Length(n) => return n,
@@ -151,19 +157,19 @@ pub fn judged(path: &[u8], list: &[u8], lines: &[u32], base: u32, memory: &mut [
 }
 
 // The first address of a mapping.
-pub fn start(m: Mapping) -> u32 {
+pub(crate) fn start(m: Mapping) -> u32 {
     let at = m.at;
     at.0
 }
 
 // Its first physical address.
-pub fn target(m: Mapping) -> u32 {
+pub(crate) fn target(m: Mapping) -> u32 {
     let to = m.to;
     to.0
 }
 
 // The bytes of a page of a kind.
-pub fn size(k: Kind) -> u32
+pub(crate) fn size(k: Kind) -> u32
     ensures { λ r. ⌜ (0 < r) × (r ≤ 1048576) ⌝ }
 {
     match k {
@@ -175,7 +181,7 @@ pub fn size(k: Kind) -> u32
 }
 
 // The address behind a mapping, which ends with the virtual addresses at the latest.
-pub fn end(m: Mapping) -> u32
+pub(crate) fn end(m: Mapping) -> u32
     ensures { λ r. ⌜ 0 < r ⌝ }
 {
     let k = m.kind;
@@ -183,7 +189,7 @@ pub fn end(m: Mapping) -> u32
 }
 
 // The mapping that comes next in rising order: the first at an address or above it, or the number of mappings.
-pub fn next(list: &[u8], from: u32) -> usize {
+pub(crate) fn next(list: &[u8], from: u32) -> usize {
     let n = records::count(list);
     let mut best = n;
     let mut least: u32 = 16777216;
@@ -202,7 +208,7 @@ pub fn next(list: &[u8], from: u32) -> usize {
 }
 
 // What a mapping is for: the comment of its line.
-pub fn purpose<'a>(t: &'a [u8], lines: &[u32], i: usize) -> &'a [u8] {
+pub(crate) fn purpose<'a>(t: &'a [u8], lines: &[u32], i: usize) -> &'a [u8] {
     let s = listing::purpose(t, line_of(lines, i));
     parse::cut(t, s.from, s.to)
 }

@@ -19,7 +19,7 @@ pub enum Fixed {
 }
 
 // A part of a text, the empty one where it has no such part.
-pub fn cut(s: &[u8], from: usize, to: usize) -> &[u8] {
+pub(crate) fn cut(s: &[u8], from: usize, to: usize) -> &[u8] {
     if from <= to {
         if to <= s.len() {
             return &s[from..to];
@@ -29,7 +29,7 @@ pub fn cut(s: &[u8], from: usize, to: usize) -> &[u8] {
 }
 
 // The byte as far behind an index, 0 where there is none.
-pub fn byte(s: &[u8], i: usize, behind: usize) -> u8 {
+pub(crate) fn byte(s: &[u8], i: usize, behind: usize) -> u8 {
     if i < s.len() {
         if behind < s.len() - i {
             return s[i + behind];
@@ -39,7 +39,7 @@ pub fn byte(s: &[u8], i: usize, behind: usize) -> u8 {
 }
 
 // Whether two texts are the same.
-pub fn same(a: &[u8], b: &[u8]) -> bool {
+pub(crate) fn same(a: &[u8], b: &[u8]) -> bool {
     if a.len() != b.len() {
         return false;
     }
@@ -54,7 +54,7 @@ pub fn same(a: &[u8], b: &[u8]) -> bool {
 }
 
 // Where a byte stands next from an index on, or the end.
-pub fn find(s: &[u8], from: usize, b: u8) -> usize
+pub(crate) fn find(s: &[u8], from: usize, b: u8) -> usize
     ensures { λ r. ⌜ from ≤ r ⌝ }
 {
     let mut i = from;
@@ -99,7 +99,7 @@ fn start(s: &[u8], before: usize) -> usize {
 }
 
 // A word of a line by its place, empty where the line has fewer.
-pub fn word(s: &[u8], place: usize) -> &[u8] {
+pub(crate) fn word(s: &[u8], place: usize) -> &[u8] {
     let from = start(s, place);
     cut(s, from, turn(s, from, true))
 }
@@ -117,12 +117,12 @@ fn kept(s: &[u8]) -> usize {
 }
 
 // A text without blanks at its ends.
-pub fn trimmed(s: &[u8]) -> &[u8] {
+pub(crate) fn trimmed(s: &[u8]) -> &[u8] {
     cut(s, turn(s, 0, false), kept(s))
 }
 
 // A line without its end: the text's bytes from an index up to a line feed, without a carriage return before it.
-pub fn line(text: &[u8], from: usize) -> &[u8] {
+pub(crate) fn line(text: &[u8], from: usize) -> &[u8] {
     let to = find(text, from, b'\n');
     if from < to {
         if byte(text, to - 1, 0) == b'\r' {
@@ -145,12 +145,12 @@ pub(crate) fn next_line(text: &[u8], from: usize) -> usize
 }
 
 // A line up to its comment.
-pub fn code(line: &[u8]) -> &[u8] {
+pub(crate) fn code(line: &[u8]) -> &[u8] {
     cut(line, 0, find(line, 0, b'#'))
 }
 
 // A line's comment.
-pub fn comment(line: &[u8]) -> &[u8] {
+pub(crate) fn comment(line: &[u8]) -> &[u8] {
     let at = find(line, 0, b'#');
     if at < line.len() {
         return trimmed(&line[at + 1..]);
@@ -203,7 +203,7 @@ fn prefix(w: &[u8]) -> usize {
 }
 
 // What a word says as a hex number.
-pub fn hex(w: &[u8]) -> Number {
+pub(crate) fn hex(w: &[u8]) -> Number {
     let mut i = prefix(w);
     if i >= w.len() {
         return Number::NotHex;
@@ -248,7 +248,7 @@ fn whole(w: &[u8]) -> Digits {
 }
 
 // What a word says as a decimal.
-pub fn decimal(w: &[u8]) -> Fixed {
+pub(crate) fn decimal(w: &[u8]) -> Fixed {
     let at = find(w, 0, b'.');
     let n = w.len();
     if at >= n {

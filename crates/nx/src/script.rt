@@ -62,7 +62,7 @@ pub enum Step {
 }
 
 // What is wrong, in words.
-pub fn say(n: usize) -> bool {
+pub(crate) fn say(n: usize) -> bool {
     text::part(
         text::ERR,
         b"unknown call (write, read, request, acknowledge, prefetch, drop, shift or price)\n|unknown register\n|not a hex number\n\
@@ -275,7 +275,7 @@ fn called(c: &[u8]) -> Step {
 }
 
 // What a line says.
-pub fn said(line: &[u8]) -> Step {
+pub(crate) fn said(line: &[u8]) -> Step {
     if line.len() > LONGEST {
         return Step::Bad(TOO_LONG);
     }

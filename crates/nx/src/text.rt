@@ -9,12 +9,12 @@ pub const OUT: i32 = 1;
 pub const ERR: i32 = 2;
 
 // Text as it is.
-pub fn put(fd: i32, s: &[u8]) -> bool {
+pub(crate) fn put(fd: i32, s: &[u8]) -> bool {
     io::write_all(fd, s)
 }
 
 // A number in decimal.
-pub fn decimal(fd: i32, n: u64) -> bool {
+pub(crate) fn decimal(fd: i32, n: u64) -> bool {
     io::print_decimal(fd, n)
 }
 
@@ -36,7 +36,7 @@ fn capitals(digits: &mut [u8; 16]) {
 }
 
 // A number in hexadecimal and capitals, with zeros in front up to a width.
-pub fn hex(fd: i32, n: u64, width: usize) -> bool {
+pub(crate) fn hex(fd: i32, n: u64, width: usize) -> bool {
     let mut digits = [0u8; 16];
     let k = io::hex(n, width, &mut digits);
     capitals(&mut digits);
@@ -65,7 +65,7 @@ fn nth(n: &[u64], i: usize) -> u64 {
 }
 
 // A form: text in which %d stands for the next number in decimal, %6 for it in hexadecimal of six digits.
-pub fn form(fd: i32, t: &[u8], n: &[u64]) -> bool {
+pub(crate) fn form(fd: i32, t: &[u8], n: &[u64]) -> bool {
     let mut ok = true;
     let mut i = 0;
     let mut k = 0;
@@ -103,13 +103,13 @@ fn part_start(t: &[u8], n: usize) -> usize {
 }
 
 // A part of a table by its number.
-pub fn part(fd: i32, t: &[u8], n: usize) -> bool {
+pub(crate) fn part(fd: i32, t: &[u8], n: usize) -> bool {
     let from = part_start(t, n);
     put(fd, parse::cut(t, from, parse::find(t, from, b'|')))
 }
 
 // The number of the part of a table that is a word, or the number of parts.
-pub fn place(t: &[u8], w: &[u8]) -> usize {
+pub(crate) fn place(t: &[u8], w: &[u8]) -> usize {
     let mut n = 0;
     let mut i = 0;
     while i < t.len() {
@@ -127,14 +127,14 @@ pub fn place(t: &[u8], w: &[u8]) -> usize {
 }
 
 // A number in decimal, with blanks behind it up to a width.
-pub fn left(fd: i32, n: u64, width: usize) -> bool {
+pub(crate) fn left(fd: i32, n: u64, width: usize) -> bool {
     let mut digits = [0u8; 20];
     let k = io::decimal(n, &mut digits);
     put(fd, &digits[..k]) & pad(fd, k, width)
 }
 
 // Blanks, at most 48.
-pub fn blanks(fd: i32, n: usize) -> bool {
+pub(crate) fn blanks(fd: i32, n: usize) -> bool {
     let all = b"                                                ";
     if n > 48 {
         return put(fd, all);
@@ -143,7 +143,7 @@ pub fn blanks(fd: i32, n: usize) -> bool {
 }
 
 // Blanks from one column up to another.
-pub fn pad(fd: i32, from: usize, to: usize) -> bool {
+pub(crate) fn pad(fd: i32, from: usize, to: usize) -> bool {
     if from >= to {
         return true;
     }
@@ -193,11 +193,11 @@ fn characters(fd: i32, s: &[u8], xml: bool) -> bool {
 }
 
 // Text of the user's on a page.
-pub fn shown(fd: i32, s: &[u8]) -> bool {
+pub(crate) fn shown(fd: i32, s: &[u8]) -> bool {
     characters(fd, s, false)
 }
 
 // Text of the user's in XML.
-pub fn xml(s: &[u8]) -> bool {
+pub(crate) fn xml(s: &[u8]) -> bool {
     characters(OUT, s, true)
 }

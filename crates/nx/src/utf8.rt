@@ -10,7 +10,7 @@ fn within(b: u8, from: u8, to: u8) -> bool {
 }
 
 // Whether a byte goes on with a character.
-pub fn goes_on(b: u8) -> bool {
+pub(crate) fn goes_on(b: u8) -> bool {
     within(b, 0x80, 0xbf)
 }
 
@@ -62,7 +62,7 @@ fn never(a: u8, b: u8, c: u8) -> bool {
 }
 
 // How many bytes the character at an index has; 0 where the bytes there are none.
-pub fn width(s: &[u8], i: usize) -> usize {
+pub(crate) fn width(s: &[u8], i: usize) -> usize {
     let a = parse::byte(s, i, 0);
     let b = parse::byte(s, i, 1);
     let c = parse::byte(s, i, 2);
@@ -90,7 +90,7 @@ pub fn width(s: &[u8], i: usize) -> usize {
 }
 
 // How many characters a text has.
-pub fn count(s: &[u8]) -> usize {
+pub(crate) fn count(s: &[u8]) -> usize {
     let mut n = 0;
     let mut i = 0;
     while i < s.len() {
@@ -103,7 +103,7 @@ pub fn count(s: &[u8]) -> usize {
 }
 
 // How many bytes the first characters of a text have.
-pub fn before(s: &[u8], most: usize) -> usize {
+pub(crate) fn before(s: &[u8], most: usize) -> usize {
     let mut n = 0;
     let mut i = 0;
     while i < s.len() {

@@ -12,6 +12,7 @@ use prices::Prices;
 use registers::Answer;
 use registers::Pending;
 use registers::Registers;
+use registers::offsets;
 use walk::Found;
 ghost use Rattle.perform.specs.Names.{_≡_, lent, setting, bankOf, Spanned, settingAt};
 ghost use Rattle.perform.specs.Performed.{performed, quietPerformed, Fit, Performs};
@@ -52,29 +53,29 @@ fn set(r: Registers, offset: u32, v: u16) -> Registers
 {
     let mut s = r;
     match offset {
-        0x08 => {
+        offsets::CONTROL => {
             s.control = v;
             s
         }
-        0x1c => {
+        offsets::BASE_HIGH => {
             let b = PhysicalAddress((v as u32) * 65536 + r.base.0 % 65536);
             s.base = b;
             s
         }
-        0x20 => {
+        offsets::BASE_LOW => {
             let b = PhysicalAddress(r.base.0 / 65536 * 65536 + (v as u32));
             s.base = b;
             s
         }
-        0x2c => {
+        offsets::CAM_HIGH => {
             s.staged.camhi = v;
             s
         }
-        0x30 => {
+        offsets::CAM_LOW => {
             s.staged.camlo = v;
             s
         }
-        0x34 => {
+        offsets::RAM_HIGH => {
             s.staged.ramhi = v;
             s
         }

@@ -14,6 +14,7 @@ use Rattle.registers.specs.declared.Tending.{Tending}
 use Rattle.decision.specs.Prefetches.{pageAt}
 use Rattle.plan.specs.declared.Reason.{Reason}
 use Rattle.plan.specs.declared.Plan.{Plan}
+use Rattle.registers.specs.Offsets.{controlAt, baseHighAt, baseLowAt, camHighAt, camLowAt, ramHighAt, ramLowAt}
 
 -- what is lent is tried before the rest: 4, 9, or 0 for neither
 abbrev pub lentRefusal : Bool → Bool → ℕ
@@ -63,23 +64,23 @@ acknowledgePlan go k q = pick (eqb k 0) (pick go (pendingPlan q) Plan.Done) (Pla
 
 -- a setting is an offset of Table 3 and the bits that are kept
 abbrev pub settingPlan : Setting → Plan
-settingPlan (Setting.Control v) = Plan.Set 0x08 v
-settingPlan (Setting.BaseHigh v) = Plan.Set 0x1c v
-settingPlan (Setting.BaseLow v) = Plan.Set 0x20 v
-settingPlan (Setting.CamHigh v) = Plan.Set 0x2c v
-settingPlan (Setting.CamLow v) = Plan.Set 0x30 v
-settingPlan (Setting.RamHigh v) = Plan.Set 0x34 v
-settingPlan (Setting.RamLow v) = Plan.Set 0x38 v
+settingPlan (Setting.Control v) = Plan.Set controlAt v
+settingPlan (Setting.BaseHigh v) = Plan.Set baseHighAt v
+settingPlan (Setting.BaseLow v) = Plan.Set baseLowAt v
+settingPlan (Setting.CamHigh v) = Plan.Set camHighAt v
+settingPlan (Setting.CamLow v) = Plan.Set camLowAt v
+settingPlan (Setting.RamHigh v) = Plan.Set ramHighAt v
+settingPlan (Setting.RamLow v) = Plan.Set ramLowAt v
 
 -- and back: the last of them at every other offset
 unfoldable pub settingAt : ℕ → ℕ → Setting
 settingAt o v =
-    pick (eqb o 0x08) (Setting.Control v)
-    (pick (eqb o 0x1c) (Setting.BaseHigh v)
-    (pick (eqb o 0x20) (Setting.BaseLow v)
-    (pick (eqb o 0x2c) (Setting.CamHigh v)
-    (pick (eqb o 0x30) (Setting.CamLow v)
-    (pick (eqb o 0x34) (Setting.RamHigh v) (Setting.RamLow v))))))
+    pick (eqb o controlAt) (Setting.Control v)
+    (pick (eqb o baseHighAt) (Setting.BaseHigh v)
+    (pick (eqb o baseLowAt) (Setting.BaseLow v)
+    (pick (eqb o camHighAt) (Setting.CamHigh v)
+    (pick (eqb o camLowAt) (Setting.CamLow v)
+    (pick (eqb o ramHighAt) (Setting.RamHigh v) (Setting.RamLow v))))))
 
 abbrev pub tendPlan : Tending → Plan
 tendPlan (Tending.Lock l v) = Plan.Lock l v

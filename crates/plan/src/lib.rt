@@ -8,6 +8,7 @@ use registers::Fault;
 use registers::Pending;
 use registers::Setting;
 use registers::Tending;
+use registers::offsets;
 ghost use Rattle.plan.specs.Names.{_≡_, _and_};
 ghost use Rattle.bill.specs.Bill.{billOk};
 ghost use Rattle.registers.specs.Table.{commandOf};
@@ -148,13 +149,13 @@ fn setting(s: Setting) -> Plan
     ensures { λ r. ⌜ r ≡ settingPlan s ⌝ }
 {
     match s {
-        Setting::Control(v) => Plan::Set(0x08, v),
-        Setting::BaseHigh(v) => Plan::Set(0x1c, v),
-        Setting::BaseLow(v) => Plan::Set(0x20, v),
-        Setting::CamHigh(v) => Plan::Set(0x2c, v),
-        Setting::CamLow(v) => Plan::Set(0x30, v),
-        Setting::RamHigh(v) => Plan::Set(0x34, v),
-        Setting::RamLow(v) => Plan::Set(0x38, v),
+        Setting::Control(v) => Plan::Set(offsets::CONTROL, v),
+        Setting::BaseHigh(v) => Plan::Set(offsets::BASE_HIGH, v),
+        Setting::BaseLow(v) => Plan::Set(offsets::BASE_LOW, v),
+        Setting::CamHigh(v) => Plan::Set(offsets::CAM_HIGH, v),
+        Setting::CamLow(v) => Plan::Set(offsets::CAM_LOW, v),
+        Setting::RamHigh(v) => Plan::Set(offsets::RAM_HIGH, v),
+        Setting::RamLow(v) => Plan::Set(offsets::RAM_LOW, v),
     }
 }
 

@@ -1,3 +1,3 @@
 pub mod Names
-pub mod Offsets
 pub mod Ranges
+pub mod Rows

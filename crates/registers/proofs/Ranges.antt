@@ -11,7 +11,7 @@ use Rattle.bank.specs.Changes.{loaded, copied}
 use Rattle.bank.proofs.Ranges.{wordsOk, stored-ok, locked-ok, flush-ok, flushAt-ok, copied-ok}
 use Rattle.registers.specs.Fields.{halfOk, freshRegisters, wordsOf, entryOf, withControl, withBase, withPrefetch, withStaged, withCopied, setting}
 use Rattle.registers.specs.Table.{tended}
-use Rattle.registers.proofs.Offsets.{by-offset, command-elsewhere}
+use Rattle.registers.proofs.Rows.{by-offset, command-elsewhere}
 
 -- a slot in register form in range, by its parts
 pub record EntryInRange (e : Entry) : Type 0 where

@@ -3,6 +3,9 @@ use Rattle.registers.specs.Names.{ℕ, _+_, _*_, _/_, _%_, Bool, not, Li
 use Rattle.registers.specs.Names.{bankFlushedAt, Bank, Pending, Entry, Registers, Answer, Setting, Tending, Command}
 use Rattle.registers.specs.Answers.{faultStatus, faultAddress}
 use Rattle.registers.specs.Fields.{camAddress}
+use Rattle.registers.specs.Offsets.{prefetchAt, walkStatusAt, controlAt, faultHighAt, faultLowAt, faultStatusAt, acknowledgeAt, baseHighAt}
+use Rattle.registers.specs.Offsets.{baseLowAt, lockAt, loadAt, camHighAt, camLowAt, ramHighAt, ramLowAt, flushAt, entryFlushAt, readCamHighAt}
+use Rattle.registers.specs.Offsets.{readCamLowAt, readRamHighAt, readRamLowAt}
 
 -- a table of offsets: the first line that has the offset, else the last word
 unfoldable pub listed : {A : Type 0} → List (ℕ × A) → A → ℕ → A
@@ -37,27 +40,27 @@ readOnly = Command.Refused 6
 unfoldable pub commandOf : ℕ → ℕ → Command
 commandOf o v =
     listed (
-    (0x00, Command.Prefetch v)
-    ∷ (0x04, readOnly)
-    ∷ (0x08, controlCommand v)
-    ∷ (0x0c, readOnly)
-    ∷ (0x10, readOnly)
-    ∷ (0x14, readOnly)
-    ∷ (0x18, Command.Acknowledge (eqb (v % 2) 1))
-    ∷ (0x1c, Command.Set (Setting.BaseHigh v))
-    ∷ (0x20, Command.Set (Setting.BaseLow (v / 128 * 128)))
-    ∷ (0x24, lockCommand v)
-    ∷ (0x28, loadCommand v)
-    ∷ (0x2c, Command.Set (Setting.CamHigh (v % 4)))
-    ∷ (0x30, Command.Set (Setting.CamLow v))
-    ∷ (0x34, Command.Set (Setting.RamHigh v))
-    ∷ (0x38, Command.Set (Setting.RamLow (v / 256 * 256)))
-    ∷ (0x3c, whenBit v Tending.Flush)
-    ∷ (0x40, whenBit v Tending.FlushEntry)
-    ∷ (0x44, readOnly)
-    ∷ (0x48, readOnly)
-    ∷ (0x4c, readOnly)
-    ∷ (0x50, readOnly)
+    (prefetchAt, Command.Prefetch v)
+    ∷ (walkStatusAt, readOnly)
+    ∷ (controlAt, controlCommand v)
+    ∷ (faultHighAt, readOnly)
+    ∷ (faultLowAt, readOnly)
+    ∷ (faultStatusAt, readOnly)
+    ∷ (acknowledgeAt, Command.Acknowledge (eqb (v % 2) 1))
+    ∷ (baseHighAt, Command.Set (Setting.BaseHigh v))
+    ∷ (baseLowAt, Command.Set (Setting.BaseLow (v / 128 * 128)))
+    ∷ (lockAt, lockCommand v)
+    ∷ (loadAt, loadCommand v)
+    ∷ (camHighAt, Command.Set (Setting.CamHigh (v % 4)))
+    ∷ (camLowAt, Command.Set (Setting.CamLow v))
+    ∷ (ramHighAt, Command.Set (Setting.RamHigh v))
+    ∷ (ramLowAt, Command.Set (Setting.RamLow (v / 256 * 256)))
+    ∷ (flushAt, whenBit v Tending.Flush)
+    ∷ (entryFlushAt, whenBit v Tending.FlushEntry)
+    ∷ (readCamHighAt, readOnly)
+    ∷ (readCamLowAt, readOnly)
+    ∷ (readRamHighAt, readOnly)
+    ∷ (readRamLowAt, readOnly)
     ∷ [])
     (Command.Refused 5) o
 
@@ -65,27 +68,27 @@ commandOf o v =
 unfoldable pub valueAt : ℕ → Registers → ℕ → ℕ → Pending → Answer
 valueAt o r lock victim p =
     listed (
-    (0x00, Answer.Value (r .prefetch))
-    ∷ (0x04, Answer.Value 0)
-    ∷ (0x08, Answer.Value (r .control))
-    ∷ (0x0c, Answer.Value (faultAddress p / 65536 % 256))
-    ∷ (0x10, Answer.Value (faultAddress p / 128 % 512 * 128))
-    ∷ (0x14, Answer.Value (faultStatus p))
-    ∷ (0x18, Answer.Refused 6)
-    ∷ (0x1c, Answer.Value (r .base .0 / 65536))
-    ∷ (0x20, Answer.Value (r .base .0 % 65536))
-    ∷ (0x24, Answer.Value (lock % 64 * 1024 + victim % 64 * 16))
-    ∷ (0x28, Answer.Value 0)
-    ∷ (0x2c, Answer.Value (r .staged .camhi))
-    ∷ (0x30, Answer.Value (r .staged .camlo))
-    ∷ (0x34, Answer.Value (r .staged .ramhi))
-    ∷ (0x38, Answer.Value (r .staged .ramlo))
-    ∷ (0x3c, Answer.Value 0)
-    ∷ (0x40, Answer.Value 0)
-    ∷ (0x44, Answer.Value (r .copied .camhi))
-    ∷ (0x48, Answer.Value (r .copied .camlo))
-    ∷ (0x4c, Answer.Value (r .copied .ramhi))
-    ∷ (0x50, Answer.Value (r .copied .ramlo))
+    (prefetchAt, Answer.Value (r .prefetch))
+    ∷ (walkStatusAt, Answer.Value 0)
+    ∷ (controlAt, Answer.Value (r .control))
+    ∷ (faultHighAt, Answer.Value (faultAddress p / 65536 % 256))
+    ∷ (faultLowAt, Answer.Value (faultAddress p / 128 % 512 * 128))
+    ∷ (faultStatusAt, Answer.Value (faultStatus p))
+    ∷ (acknowledgeAt, Answer.Refused 6)
+    ∷ (baseHighAt, Answer.Value (r .base .0 / 65536))
+    ∷ (baseLowAt, Answer.Value (r .base .0 % 65536))
+    ∷ (lockAt, Answer.Value (lock % 64 * 1024 + victim % 64 * 16))
+    ∷ (loadAt, Answer.Value 0)
+    ∷ (camHighAt, Answer.Value (r .staged .camhi))
+    ∷ (camLowAt, Answer.Value (r .staged .camlo))
+    ∷ (ramHighAt, Answer.Value (r .staged .ramhi))
+    ∷ (ramLowAt, Answer.Value (r .staged .ramlo))
+    ∷ (flushAt, Answer.Value 0)
+    ∷ (entryFlushAt, Answer.Value 0)
+    ∷ (readCamHighAt, Answer.Value (r .copied .camhi))
+    ∷ (readCamLowAt, Answer.Value (r .copied .camlo))
+    ∷ (readRamHighAt, Answer.Value (r .copied .ramhi))
+    ∷ (readRamLowAt, Answer.Value (r .copied .ramlo))
     ∷ [])
     (Answer.Refused 5) o
 

@@ -1,4 +1,5 @@
 // The registers: their types and Table 3, what is in range, and a slot in register form.
+pub mod offsets;
 pub mod values;
 
 use page::Access;

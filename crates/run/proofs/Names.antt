@@ -14,7 +14,7 @@ pub use Rattle.page.proofs.Picks.{and-right}
 pub use Rattle.page.specs.Ground.{_-_, _/_, _<_}
 pub use Rattle.perform.specs.Performed.{Fit, performed}
 pub use Rattle.run.specs.Answers.{saidWords}
-unfoldable pub use Rattle.run.specs.Asked.{mayRun}
-pub use Rattle.run.specs.Asked.{runSize}
+unfoldable pub use Rattle.run.specs.MayRun.{mayRun}
+pub use Rattle.run.specs.MayRun.{runSize}
 pub use Rattle.run.specs.Planned.{benchDone, benchOf, partsOk, planOf}
 unfoldable pub use Rattle.run.specs.Run.{sessionWords}

@@ -5,7 +5,7 @@ use Rattle.run.proofs.Names.{benchOf, benchDone}
 use mathlib.Core.Bool.{false, false≢true}
 use borrow.Author.Tests.{ltb-true}
 use Rattle.page.proofs.Picks.{pick-by}
-use Rattle.unit.specs.Machine as M
+use Rattle.unit.specs.Machine
 use Rattle.unit.specs.declared.Device.{Device}
 use Rattle.unit.proofs.Fitting.{request-fits, write-fits, read-fits, drop-fits, shift-fits}
 use Rattle.unit.proofs.Planned.{request-done, write-done, read-done, drop-done, shift-done}
@@ -77,11 +77,11 @@ module _ (m : Lent) (p : Prices) (r : Registers) (k : Bank) (q : Pending) (b : B
   refused-kept Call.Bad false e = refl
 
   ranged-kept : (c : Call) → isGood c ≡ true → Narrow c → BytesFit m → partsOk r k q ≡ true → after-ok (left-by c) ≡ true
-  ranged-kept (Call.Write o v) g w f h = ap after-ok (write-done m p b device v o) ∙ range-kept m device b (M.write o v p) f w h
-  ranged-kept (Call.Read o) g w f h = ap after-ok (read-done m p b device o) ∙ range-kept m device b (M.read o) f tt h
-  ranged-kept (Call.Request va a) g w f h = ap after-ok (request-done m p b device va a) ∙ range-kept m device b (M.request va a p) f tt h
-  ranged-kept Call.Drop g w f h = ap after-ok (drop-done m p b device) ∙ range-kept m device b M.drop-fault f tt h
-  ranged-kept (Call.Shift va) g w f h = ap after-ok (shift-done m p b device va) ∙ range-kept m device b (M.shift va) f tt h
+  ranged-kept (Call.Write o v) g w f h = ap after-ok (write-done m p b device v o) ∙ range-kept m device b (Machine.write o v p) f w h
+  ranged-kept (Call.Read o) g w f h = ap after-ok (read-done m p b device o) ∙ range-kept m device b (Machine.read o) f tt h
+  ranged-kept (Call.Request va a) g w f h = ap after-ok (request-done m p b device va a) ∙ range-kept m device b (Machine.request va a p) f tt h
+  ranged-kept Call.Drop g w f h = ap after-ok (drop-done m p b device) ∙ range-kept m device b Machine.drop-fault f tt h
+  ranged-kept (Call.Shift va) g w f h = ap after-ok (shift-done m p b device va) ∙ range-kept m device b (Machine.shift va) f tt h
   ranged-kept Call.Bad g w f h = absurd (false≢true g)
 
   -- so whether it is in range stays as it was

@@ -4,7 +4,7 @@ use Rattle.run.proofs.Names.{sym, _∙_, _-_, _/_, arith, le-leb, lt-le
 use native.Mathlib.Decide.{decLe}
 use borrow.Author.Tests.{leb-true}
 use Rattle.page.proofs.Picks.{and-left}
-use Rattle.run.specs.Asked.{answerSize}
+use Rattle.run.specs.MayRun.{answerSize}
 
 -- as many answers as fit beside a state
 pub room-for : (n room : ℕ) → stateSize ≤ room → leb n ((room - stateSize) / answerSize) ≡ leb (answerSize * n + stateSize) room

@@ -2,4 +2,4 @@ pub mod Names
 pub mod Run
 pub mod Planned
 pub mod Answers
-pub mod Asked
+pub mod MayRun

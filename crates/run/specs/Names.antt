@@ -25,7 +25,8 @@ pub use Rattle.registers.specs.declared.Registers.{Registers}
 pub use Rattle.session.specs.Bench.{stepped}
 pub use Rattle.session.specs.declared.Bench.{Bench}
 pub use Rattle.session.specs.declared.Stepped.{Stepped}
-pub use Rattle.state.specs.State.{stateSize, stateWords}
+pub use Rattle.state.specs.State.{stateWords}
+pub use Rattle.state.specs.Layout.{stateSize}
 unfoldable pub use Rattle.unit.specs.Device.{inRange}
 pub use Rattle.wire.specs.Signed.{twos}
 unfoldable pub use Rattle.wire.specs.Words.{placed, wordsPut}

@@ -1,7 +1,7 @@
 -- What a run writes and answers.
 use Rattle.run.specs.Names.{ℕ, List, [], _∷_, _++_, length, pick, Lent, Prices, callsIn, Call, stepped, Bench, placed, stateWords}
 use Rattle.run.specs.Answers.{saidWords}
-use Rattle.run.specs.Asked.{runSize, mayRun}
+use Rattle.run.specs.MayRun.{runSize, mayRun}
 
 -- what is written: an answer for each call, then the state
 unfoldable pub sessionWords : Lent → Prices → ℕ → Bench → List Call → List ℕ

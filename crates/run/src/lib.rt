@@ -13,7 +13,7 @@ use unit::Device;
 ghost use Rattle.run.specs.Names.{_≡_, _and_, lent, billOk};
 ghost use Rattle.run.specs.Planned.{planOf, Runnable};
 ghost use Rattle.run.specs.Run.{ran, ranFrom, runWith};
-ghost use Rattle.run.specs.Asked.{mayRun};
+ghost use Rattle.run.specs.MayRun.{mayRun};
 
 // The bytes of an answer.
 const ANSWER: usize = 16;

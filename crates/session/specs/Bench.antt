@@ -5,7 +5,7 @@ use Rattle.bill.specs.Bill.{freshBill}
 use Rattle.registers.specs.declared.Answer.{Answer}
 use Rattle.unit.specs.Names.{Lent, Prices}
 use Rattle.unit.specs.Device.{freshDevice}
-use Rattle.unit.specs.Machine as M
+use Rattle.unit.specs.Machine
 use Rattle.unit.specs.Machine.{Step, step}
 use Rattle.calls.specs.declared.Call.{Call}
 use Rattle.session.specs.declared.Bench.{Bench}
@@ -17,9 +17,9 @@ abbrev pub freshBench : Bench
 freshBench = record { device = freshDevice; bill = freshBill; meters = noMeters }
 
 -- what the machine says
-abbrev pub saidOf : M.Said → Said
-saidOf (M.answered r) = Said.Answered r
-saidOf (M.reported s) = Said.Reported s
+abbrev pub saidOf : Machine.Said → Said
+saidOf (Machine.answered r) = Said.Answered r
+saidOf (Machine.reported s) = Said.Reported s
 
 -- a step of the machine, its tally posted to the meters
 abbrev pub made : Meters → Step → Stepped
@@ -30,9 +30,9 @@ made t s = record {
 
 -- a call with its prices; a record that is none changes nothing
 abbrev pub stepped : Lent → Prices → Bench → Call → Stepped
-stepped m p b (Call.Write o v) = made (b .meters) (step m (b .device) (b .bill) (M.write o v p))
-stepped m p b (Call.Read o) = made (b .meters) (step m (b .device) (b .bill) (M.read o))
-stepped m p b (Call.Request va a) = made (b .meters) (step m (b .device) (b .bill) (M.request va a p))
-stepped m p b Call.Drop = made (b .meters) (step m (b .device) (b .bill) M.drop-fault)
-stepped m p b (Call.Shift va) = made (b .meters) (step m (b .device) (b .bill) (M.shift va))
+stepped m p b (Call.Write o v) = made (b .meters) (step m (b .device) (b .bill) (Machine.write o v p))
+stepped m p b (Call.Read o) = made (b .meters) (step m (b .device) (b .bill) (Machine.read o))
+stepped m p b (Call.Request va a) = made (b .meters) (step m (b .device) (b .bill) (Machine.request va a p))
+stepped m p b Call.Drop = made (b .meters) (step m (b .device) (b .bill) Machine.drop-fault)
+stepped m p b (Call.Shift va) = made (b .meters) (step m (b .device) (b .bill) (Machine.shift va))
 stepped m p b Call.Bad = record { bench = b; said = Said.Answered Answer.Done }

@@ -14,7 +14,7 @@ use Rattle.memory.specs.Memory.{memoryOk, apart, memoriesOk, liesIn, placeWithi
 use Rattle.walk.specs.Walk.{firstAt, coarseAt, fineAt, readIn, walkFrom}
 use Rattle.records.specs.Mappings.{mappings, mappingsFrom, mappingOf, byteOf, overlap}
 use Rattle.records.specs.Meanings.{holder}
-use Rattle.records.specs.Mappings as M
+use Rattle.records.specs.Mappings
 use Rattle.records.specs.Checks.{multiple, proper, wellFormed}
 use Rattle.records.specs.Refusals.{bad, clashes, overlapping, checkedFrom, checked}
 use Rattle.tables.specs.Tables.{tableOf, tableEnd, tableStart, imageLength}
@@ -52,7 +52,7 @@ built-is = ap (λ (l : List ℕ). leaves (answerOf recordsA baseA roomA) l (repl
 -- all lines, computed together over the whole image
 written-passes : allPassIn written sheet ≡ true
 unfolding runOf pick _and_ _or_ upper joined kindOf wordMatches madeCam madeRam memoryOk apart memoriesOk liesIn placeWithin placeIn wordOf firstOf
-    secondOf firstAt coarseAt fineAt readIn walkFrom mappings mappingsFrom mappingOf M.holds holder byteOf overlap multiple proper wellFormed bad
+    secondOf firstAt coarseAt fineAt readIn walkFrom mappings mappingsFrom mappingOf Mappings.holds holder byteOf overlap multiple proper wellFormed bad
     clashes overlapping checkedFrom checked hasKind tableOf tableEnd tableStart imageLength firstWord pageWord secondWord inTables imageWord roomOk
     answerOf figureOk every moneyOk lookedFrom allFrom bankOk nextSlot nextVictim filled entryOk registersOk noRegister listed controlCommand
     lockCommand commandOf byAccess byFound decided refuses inRange lacks requestOf isMalformed isUntimely writeLacks writeOf answeredIn sheet passesIn

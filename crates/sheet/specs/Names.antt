@@ -17,7 +17,7 @@ pub use Rattle.translates.specs.ListA.{baseA, recordsA}
 unfoldable pub use Rattle.unit.specs.Calls.{requestOf, writeOf}
 pub use Rattle.unit.specs.Device.{decidedBy, look}
 pub use Rattle.unit.specs.Names.{Access, Answer, Bank, Entry}
-pub use Rattle.unit.specs.Offsets.{lockAt}
+pub use Rattle.registers.specs.Offsets.{lockAt}
 pub use Rattle.unit.specs.declared.Device.{Device}
 pub use Rattle.unit.specs.declared.Outcome.{Outcome}
 unfoldable pub use Rattle.walk.specs.Descriptors.{firstOf}

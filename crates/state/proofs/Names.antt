@@ -7,11 +7,10 @@ pub use mathlib.Core.Path.{_∙_, ap, ap₂, refl, sym}
 pub use native.Mathlib.Omega.{arith}
 pub use Rattle.page.proofs.Picks.{and-no, and-yes, pick-no, pick-yes}
 pub use Rattle.page.specs.Ground.{_-_, _<_, take}
-pub use Rattle.state.specs.Handed.{isStatus}
-unfoldable pub use Rattle.state.specs.Handed.{laneFrom}
+pub use Rattle.state.specs.Read.{isStatus}
+unfoldable pub use Rattle.state.specs.Read.{laneFrom, narrowed}
 pub use Rattle.state.specs.Parts.{billWords, meterWords}
 unfoldable pub use Rattle.state.specs.Parts.{lockWord}
 pub use Rattle.state.specs.State.{deviceWords, pendingWords, stateWords}
 unfoldable pub use Rattle.state.specs.State.{slotWords}
-unfoldable pub use Rattle.state.specs.Taken.{narrowed}
 pub use Rattle.wire.proofs.Placing.{written-fits}

@@ -1,5 +1,5 @@
 pub mod Names
 pub mod State
 pub mod Parts
-pub mod Taken
-pub mod Handed
+pub mod Read
+pub mod Layout

@@ -31,6 +31,3 @@ deviceWords handed d =
 -- the device, the meters, the bill
 abbrev pub stateWords : ℕ → Bench → List ℕ
 stateWords handed b = deviceWords handed (b .device) ++ (meterWords (b .meters) ++ billWords (b .bill))
-
-abbrev pub stateSize : ℕ
-stateSize = 328

@@ -1,4 +1,5 @@
 // The state of a bench as 328 bytes.
+mod layout;
 pub mod read;
 
 use bill::Bill;
@@ -42,7 +43,7 @@ fn register_words(r: Registers, lock: u32) -> [u32; 7]
 }
 
 // The slots in register form.
-fn put_slots<'b>(out: &mut [u8], at: usize, cam: &'b [u32; 32], ram: &'b [u32; 32])
+fn put_slots<'b>(out: &mut [u8], at: usize, cam: &'b [u32; SLOTS], ram: &'b [u32; SLOTS])
     requires { ⌜ at + 256 ≤ length (now out) ⌝ }
     ensures { λ _. ⌜ now (out .exit) ≡ placed (now (out .entry)) at (slotWords (now (cam .entry)) (now (ram .entry)) 0 slots) ⌝ }
 {
@@ -87,8 +88,8 @@ fn put_device(out: &mut [u8], at: usize, d: Device, handed: u32)
     let head = register_words(r, lock_word(handed, d.bank.lock, d.bank.victim));
     let last = pending_words(p);
     wire::put(out, at, &head);
-    put_slots(out, at + 28, &d.bank.cam, &d.bank.ram);
-    wire::put(out, at + 284, &last);
+    put_slots(out, at + layout::SLOTS, &d.bank.cam, &d.bank.ram);
+    wire::put(out, at + layout::STATUS, &last);
 }
 
 // The whole state where it has room.
@@ -101,7 +102,7 @@ fn put_all(out: &mut [u8], at: usize, b: Bench, handed: u32)
     let bill = b.bill;
     let rest = rest_words(m, bill);
     put_device(out, at, d, handed);
-    wire::put(out, at + 292, &rest);
+    wire::put(out, at + layout::FRESH, &rest);
 }
 
 // The state of a bench at an offset, where there is room.

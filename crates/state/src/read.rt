@@ -1,5 +1,6 @@
 // Numbers of a handed-in state as a device takes them: lock base, victim and the pending fault.
 use crate::SIZE;
+use crate::layout;
 use bank::Bank;
 use bill::Bill;
 use lanes::SLOTS;
@@ -17,9 +18,8 @@ use registers::Registers;
 use session::Bench;
 use unit::Device;
 ghost use Rattle.state.specs.Names.{_≡_, _≤_, slots};
-ghost use Rattle.state.specs.Taken.{narrowed, lockTaken, victimTaken, pendingOf};
-ghost use Rattle.state.specs.Handed.{isStatus, isState, entryAt, registersIn, laneFrom, bankIn, metersIn, sideOf, billIn, deviceIn, benchIn};
-ghost use Rattle.state.specs.Handed.{lockIn, priceOf, pricesOf};
+ghost use Rattle.state.specs.Read.{narrowed, lockTaken, victimTaken, pendingOf, isStatus, isState, entryAt, registersIn, laneFrom, bankIn};
+ghost use Rattle.state.specs.Read.{metersIn, sideOf, billIn, deviceIn, benchIn, lockIn, priceOf, pricesOf};
 
 // A number of a device's 8 bits, or the greatest one where it is more.
 fn narrow(x: u16) -> u8
@@ -35,14 +35,14 @@ fn narrow(x: u16) -> u8
 pub(crate) fn lock_of(state: &[u8]) -> u8
     ensures { λ r. ⌜ r ≡ lockTaken (now (state .entry)) ⌝ }
 {
-    narrow(wire::low_at(state, 8))
+    narrow(wire::low_at(state, layout::LOCK))
 }
 
 // The victim of a state.
 pub(crate) fn victim_of(state: &[u8]) -> u8
     ensures { λ r. ⌜ r ≡ victimTaken (now (state .entry)) ⌝ }
 {
-    narrow(wire::high_at(state, 8))
+    narrow(wire::high_at(state, layout::LOCK))
 }
 
 // The pending fault of a status, an access and an address.
@@ -81,17 +81,17 @@ fn registers_at(state: &[u8]) -> Registers
         control: wire::high_at(state, 0),
         base: PhysicalAddress(wire::word_at(state, 4)),
         prefetch: wire::low_at(state, 0),
-        staged: entry_at(state, 12),
-        copied: entry_at(state, 20),
+        staged: entry_at(state, layout::STAGED),
+        copied: entry_at(state, layout::COPIED),
     }
 }
 
 // One lane of the slots, its first word at an offset.
-fn lane_at(state: &[u8], at: usize) -> [u32; 32]
+fn lane_at(state: &[u8], at: usize) -> [u32; SLOTS]
     requires { ⌜ at ≤ 32 ⌝ }
     ensures { λ r. ⌜ r ≡ laneFrom (now (state .entry)) at 0 slots ⌝ }
 {
-    let mut lane = [0u32; 32];
+    let mut lane = [0u32; SLOTS];
     let mut i: usize = 0;
     while i < SLOTS {
         lane[i] = wire::swapped(wire::word_at(state, at + 8 * i));
@@ -119,8 +119,8 @@ fn bill_at(state: &[u8], total: f64, misses: f64) -> Bill
     Bill {
         total: total,
         misses: misses,
-        onchip: side_of(wire::word_at(state, 320)),
-        external: side_of(wire::word_at(state, 324)),
+        onchip: side_of(wire::word_at(state, layout::ROW)),
+        external: side_of(wire::word_at(state, layout::EXTERNAL_ROW)),
     }
 }
 
@@ -129,9 +129,9 @@ fn meters_at(state: &[u8]) -> Meters
     ensures { λ r. ⌜ r ≡ metersIn (now (state .entry)) ⌝ }
 {
     Meters {
-        fresh: wire::word_at(state, 292),
-        retries: wire::word_at(state, 296),
-        words: wire::word_at(state, 300),
+        fresh: wire::word_at(state, layout::FRESH),
+        retries: wire::word_at(state, layout::RETRIES),
+        words: wire::word_at(state, layout::READ),
     }
 }
 
@@ -140,8 +140,8 @@ fn bank_at(state: &[u8]) -> Bank
     ensures { λ r. ⌜ r ≡ bankIn (now (state .entry)) ⌝ }
 {
     Bank {
-        cam: lane_at(state, 28),
-        ram: lane_at(state, 32),
+        cam: lane_at(state, layout::SLOTS),
+        ram: lane_at(state, layout::RAM),
         lock: lock_of(state),
         victim: victim_of(state),
     }
@@ -155,9 +155,9 @@ fn device_at(state: &[u8]) -> Device
         registers: registers_at(state),
         bank: bank_at(state),
         pending: pending_of(
-            wire::byte_at(state, 284),
-            wire::byte_at(state, 285),
-            wire::word_at(state, 288),
+            wire::byte_at(state, layout::STATUS),
+            wire::byte_at(state, layout::ACCESS),
+            wire::word_at(state, layout::ADDRESS),
         ),
     }
 }
@@ -177,7 +177,7 @@ pub fn bench_at(state: &[u8], total: f64, misses: f64) -> Bench
 pub fn lock_at(state: &[u8]) -> u32
     ensures { λ r. ⌜ r ≡ lockIn (now (state .entry)) ⌝ }
 {
-    wire::word_at(state, 8)
+    wire::word_at(state, layout::LOCK)
 }
 
 // Whether a pending status is one.
@@ -201,16 +201,16 @@ pub fn state_ok(state: &[u8]) -> bool
     if state.len() != SIZE {
         return false;
     }
-    if wire::byte_at(state, 285) > 1 {
+    if wire::byte_at(state, layout::ACCESS) > 1 {
         return false;
     }
-    if wire::byte_at(state, 286) != 0 {
+    if wire::byte_at(state, layout::ZERO) != 0 {
         return false;
     }
-    if wire::byte_at(state, 287) != 0 {
+    if wire::byte_at(state, layout::LAST_ZERO) != 0 {
         return false;
     }
-    status_ok(wire::byte_at(state, 284))
+    status_ok(wire::byte_at(state, layout::STATUS))
 }
 
 // A price of a kind: flat, or by the row.

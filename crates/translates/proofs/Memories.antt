@@ -19,7 +19,7 @@ use Rattle.memory.specs.Memory.{liesIn, placeWithin, partAt}
 use Rattle.wire.specs.Words.{littleEndian, wordBytes}
 use Rattle.memory.proofs.Places.{place-ok, held-once}
 use Rattle.walk.specs.Walk.{readAt}
-use Rattle.records.specs.Mappings as M
+use Rattle.records.specs.Mappings
 use Rattle.wire.proofs.Splices.{bytes-at, bytes-length}
 use Rattle.tables.proofs.Places.{image-4}
 use Rattle.builder.proofs.Whole.{image-length-is}
@@ -35,11 +35,11 @@ page-fits k m a h =
     let p : byteOf m a .0 < 2 ^ 32 = joined-lt (lowBits (m .kind)) 32 (m .to .0) (a .0) (omega (arith, lowBits-le (m .kind))) h in
     omega (arith, upper-le (lowBits k) (byteOf m a .0), start-1024 k (byteOf m a .0), typeOf-lt k)
 
-second-fits : (t : Second) (a va : VirtualAddress) (h : Held) → OnHeld (λ m. Phys m × (M.holds m va ≡ true)) h → secondBy t h a < 2 ^ 32
+second-fits : (t : Second) (a va : VirtualAddress) (h : Held) → OnHeld (λ m. Phys m × (Mappings.holds m va ≡ true)) h → secondBy t h a < 2 ^ 32
 second-fits t a va (Held.By m) o = page-fits (writtenAs t (m .kind)) m a (o .0)
 second-fits t a va Held.Nobody o = lit< tt
 
-section-fits : (va : VirtualAddress) (h : Held) → OnHeld (λ m. Phys m × (M.holds m va ≡ true)) h → sectionWord h < 2 ^ 32
+section-fits : (va : VirtualAddress) (h : Held) → OnHeld (λ m. Phys m × (Mappings.holds m va ≡ true)) h → sectionWord h < 2 ^ 32
 unfolding upper
 section-fits va (Held.By m) o = omega (arith, o .0)
 section-fits va Held.Nobody o = lit< tt

@@ -5,11 +5,11 @@ use Rattle.unit.proofs.Names.{dropPlan, shiftPlan, Reason, inRange}
 use borrow.Author.Tests.{leb-false}
 use Rattle.plan.specs.Plans.{settingPlan, tendPlan}
 use Rattle.perform.specs.Performed.{TriedOn, Fits}
-use Rattle.unit.specs.Acts as S
+use Rattle.unit.specs.Acts
 
 module _ (d : Device) where
   abbrev Fitted : Plan → Type 0
-  Fitted = S.Fitted d
+  Fitted = Acts.Fitted d
 
   bank-ok : inRange d ≡ true → bankOk (d .bank) ≡ true
   unfolding inRange

@@ -12,7 +12,7 @@ use lib.Dec.{ltb}
 use borrow.Author.Tests.{eqb-true, eqb-false, lt-leb, eq-eqb, ne-eqb}
 use Rattle.page.proofs.Picks.{or-no}
 use Rattle.registers.specs.Table.{listed, controlCommand, lockCommand, loadCommand, whenBit}
-use Rattle.registers.proofs.Offsets.{by-offset, command-elsewhere, value-elsewhere}
+use Rattle.registers.proofs.Rows.{by-offset, command-elsewhere, value-elsewhere}
 use Rattle.plan.specs.Plans.{settingAt, retryPlan}
 use Rattle.perform.specs.Performed.{endedFor, decidedFor}
 use Rattle.unit.specs.Device.{cleared, told, toldRefused, doneWith}

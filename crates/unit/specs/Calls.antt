@@ -5,7 +5,7 @@ use Rattle.unit.specs.Names.{wordsOf, entryOf, noRegister, commandOf, va
 use Rattle.unit.specs.Names.{shiftBy, Access, VirtualAddress, Lent, lentOk, Bill, Prices, Matched, Fault, Pending, Decision, Shift, Command}
 use Rattle.unit.specs.Names.{Device, Outcome, Told}
 use Rattle.unit.specs.Refusals.{Refusals, refuses}
-use Rattle.unit.specs.Offsets.{prefetchAt, acknowledgeAt, lockAt, loadAt}
+use Rattle.registers.specs.Offsets.{prefetchAt, acknowledgeAt, lockAt, loadAt}
 use Rattle.unit.specs.Device.{freshDevice, inRange, setRegisters, setBank, cleared, told, toldRefused, doneWith, refusedWith, look, applied, attemptOf}
 
 -- an offset is one of a list

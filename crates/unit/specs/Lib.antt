@@ -1,6 +1,5 @@
 pub mod Refusals
 pub mod Device
-pub mod Offsets
 pub mod Calls
 pub mod Machine
 pub mod Acts

@@ -1,4 +1,4 @@
-// What `prices` and `bill` answer for values worked out by hand from the paper: its file `stdout` has the answers.
+// What `prices` and `bill` answer for values worked out by hand from the paper: the file `stdout` has the answers.
 // A bill is shown by the last rows of its two sides in hexadecimal, on-chip and external, 400000 where there is none, then by
 // whether the total and the misses are the figures that the case gives: 1 for yes, 0 for no.
 use bill::Bill;

@@ -1,4 +1,4 @@
-// What `bank` and `slots` answer for values worked out by hand from the paper: its file `stdout` has them, in hexadecimal.
+// What `bank` answers for values worked out by hand from the paper: the file `stdout` has them, in hexadecimal.
 // A large page at 010000 with both accesses has the words 0405 and 10020300, a tiny page there, read only, the words
 // 0407 and 10000E00, and 040F where it is preserved.
 use bank::Bank;

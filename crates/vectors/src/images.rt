@@ -1,4 +1,4 @@
-// What `records` and `builder` answer for values worked out by hand from the paper: its file `stdout` has them.
+// What `records` and `builder` answer for values worked out by hand from the paper: the file `stdout` has them.
 use builder::Built;
 use page::Access;
 use page::PhysicalAddress;

@@ -1,4 +1,4 @@
-// What `memory` answers for values worked out by hand from the paper: its file `stdout` has them, in hexadecimal.
+// What `memory` answers for values worked out by hand from the paper: the file `stdout` has them, in hexadecimal.
 // A place is shown by two numbers: 1 and an index on chip, 2 and an index in the external memory, 0 and 0 for nowhere.
 use memory::Place;
 use page::PhysicalAddress;

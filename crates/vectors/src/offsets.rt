@@ -1,4 +1,4 @@
-// What `registers`, `values` and `commands` answer, and `perform` does, for values worked out by hand from the paper: its
+// What `registers` and `commands` answer, and `perform` does, for values worked out by hand from the paper: its
 // file `stdout` has them, in hexadecimal.
 // A read is shown by its offset, then 1 and the value or 0 and the number of the refusal.
 // A write is shown by its offset and value, then a number for what it asks for and its value: 0 a refusal, 1 nothing,

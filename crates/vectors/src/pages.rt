@@ -1,4 +1,4 @@
-// What `page` answers for values worked out by hand from the paper: its file `stdout` has them, in hexadecimal.
+// What `page` answers for values worked out by hand from the paper: the file `stdout` has them, in hexadecimal.
 use page::Access;
 use page::Kind;
 use page::PhysicalAddress;

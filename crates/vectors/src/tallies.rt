@@ -1,4 +1,4 @@
-// What `meters` answers for values worked out by hand from the paper: its file `stdout` has them, in hexadecimal.
+// What `meters` answers for values worked out by hand from the paper: the file `stdout` has them, in hexadecimal.
 use meters::Meters;
 use meters::Tally;
 

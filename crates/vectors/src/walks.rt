@@ -1,4 +1,4 @@
-// What `walk` answers for values worked out by hand from the paper: its file `stdout` has them, in hexadecimal.
+// What `walk` answers for values worked out by hand from the paper: the file `stdout` has them, in hexadecimal.
 // A line has the base of the walk and the virtual address; then how many words were read and for each its address and its
 // place: 1 and an index on chip, 2 and an index in the external memory; then what was found: 1, the page's type bits, its
 // base, its access bits and the physical address; 0 where there is no page; 2 where a word is missing.

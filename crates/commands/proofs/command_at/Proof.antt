@@ -1,5 +1,5 @@
 use Rattle.commands.proofs.Names.{sym, _∙_, needs}
-use Rattle.registers.proofs.Offsets.{command-at, command-elsewhere, none-is-no-register}
+use Rattle.registers.proofs.Rows.{command-at, command-elsewhere, none-is-no-register}
 use Rattle.registers.specs.Table.{listed, commandOf}
 use Rattle.page.specs.Pick.{pick}
 use Rattle.commands.proofs.command_at.Statement.{statement}

@@ -34,6 +34,6 @@ pub use Rattle.translates.specs.ListA.{baseA, recordsA}
 pub use Rattle.translates.specs.Statements.{Bytes, Standing}
 unfoldable pub use Rattle.unit.specs.Calls.{requestOf, writeOf}
 pub use Rattle.unit.specs.Machine.{Call, answered, drop-fault, read, request, step, write}
-pub use Rattle.unit.specs.Offsets.{acknowledgeAt, prefetchAt}
+pub use Rattle.registers.specs.Offsets.{lockAt, acknowledgeAt, prefetchAt}
 pub use Rattle.unit.specs.Refusals.{Clear, First, Refusing}
 pub use Rattle.unit.specs.declared.Device.{Device}

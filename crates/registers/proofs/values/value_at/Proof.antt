@@ -1,6 +1,6 @@
 use Rattle.registers.specs.Names.{Answer, pick, _≡_, ℕ, _*_, _/_, _%_}
 use Rattle.registers.proofs.Names.{listed, valueAt, sym, _∙_, ap, needs}
-use Rattle.registers.proofs.Offsets.{value-elsewhere, none-is-no-register}
+use Rattle.registers.proofs.Rows.{value-elsewhere, none-is-no-register}
 use Rattle.registers.proofs.values.value_at.Statement.{statement}
 use Rattle.registers.proofs.values.value_at.Tie as tie
 

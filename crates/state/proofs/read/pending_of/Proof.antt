@@ -1,6 +1,6 @@
 use Rattle.state.specs.Names.{Pending, Fault, virtual, pick, ℕ}
 use Rattle.state.proofs.Names.{pick-no, ne-eqb, sym, _∙_, ap, needs}
-use Rattle.state.specs.Taken.{pendingOf}
+use Rattle.state.specs.Read.{pendingOf}
 use Rattle.state.proofs.read.pending_of.Statement.{statement}
 use Rattle.state.proofs.read.pending_of.Tie as tie
 

@@ -1,5 +1,5 @@
 use Rattle.state.proofs.Names.{sym, pick-yes, pick-no, eq-eqb, ne-eqb}
-use Rattle.state.specs.Handed.{priceOf}
+use Rattle.state.specs.Read.{priceOf}
 use Rattle.state.proofs.read.price_of.Statement.{statement}
 use Rattle.state.proofs.read.price_of.Tie as tie
 

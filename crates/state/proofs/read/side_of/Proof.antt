@@ -1,6 +1,6 @@
 use Rattle.state.specs.Names.{LastRow, Side}
 use Rattle.state.proofs.Names.{sym, _∙_, ap, pick-yes, pick-no, eq-eqb, ne-eqb, needs}
-use Rattle.state.specs.Handed.{sideOf}
+use Rattle.state.specs.Read.{sideOf}
 use Rattle.state.proofs.read.side_of.Statement.{statement}
 use Rattle.state.proofs.read.side_of.Tie as tie
 

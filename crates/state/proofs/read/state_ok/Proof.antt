@@ -1,6 +1,6 @@
 use Rattle.state.specs.Names.{eqb, leb, ℕ}
 use Rattle.state.proofs.Names.{isStatus, sym, _∙_, ap, and-yes, and-no, eq-eqb, ne-eqb, lt-leb, needs}
-use Rattle.state.specs.Handed.{isState}
+use Rattle.state.specs.Read.{isState}
 use borrow.Author.Tests.{le-leb}
 use Rattle.state.proofs.read.state_ok.Statement.{statement}
 use Rattle.state.proofs.read.state_ok.Tie as tie

@@ -1,5 +1,5 @@
--- The offsets of Table 3 that calls, statements and laws name (01, "Registers").
-use Rattle.unit.specs.Names.{ℕ}
+-- The offsets of Table 3 (01, "Registers").
+use Rattle.registers.specs.Names.{ℕ}
 
 abbrev pub prefetchAt : ℕ
 prefetchAt = 0x00
