@@ -1,7 +1,7 @@
 -- Every admitted call keeps the slots in agreement, so after any of them each answer is the plain walk's. Assumes nothing.
 use Rattle.coherence.specs.Names.{ℕ, _%_, _<_, _≡_, Bool, true, false, List, [], _∷_, eqb, pick, _and_, isPrefetch, isRefusal, limit, isOn}
 use Rattle.coherence.specs.Names.{isWalking, Access, VirtualAddress, Lent, Bill, Prices, Pending, Answer, Device, inRange, acknowledgeAt}
-use Rattle.coherence.specs.Names.{requestOf, writeOf, Call, request, write, read, drop-fault, shift, answered, step, Look}
+use Rattle.coherence.specs.Names.{requestOf, writeOf, Call, request, write, read, drop-fault, shift, Said, step, Look}
 use Rattle.coherence.proofs.Names.{arith, refl, sym, _∙_, ap, subst, true≢false, eqb-true, pick-yes, InRange, listed, commandOf, Command}
 use Rattle.coherence.proofs.Names.{Outcome, cleared, doneWith, refusedWith, attemptOf, requestRefusals, writeRefusals, retried, carried, plain}
 use Rattle.coherence.proofs.Names.{Below, Coherent, Uniform, started, lookIn}
@@ -13,7 +13,7 @@ use Rattle.registers.proofs.Rows.{command-at}
 use Rattle.unit.specs.declared.Told.{Told}
 use Rattle.unit.specs.Device.{toldRefused}
 use Rattle.unit.specs.Calls.{readRefusals, readOf, dropRefusals, dropOf}
-use Rattle.unit.specs.Machine.{Said, reported}
+use Rattle.unit.specs.Machine.{Said}
 use Rattle.coherence.specs.Sessions.{BilledCall, after, admitted, Admitted, asks, nothing, retriedOf, asked, CacheNeverShows}
 use Rattle.unit.proofs.Refusing.{refuses-by}
 use Rattle.coherence.proofs.Slots.{fresh-agrees}
@@ -62,8 +62,8 @@ module _ (m : Lent) (base : ℕ) where
   Right va a r = isRefusal r ≡ false → Plain r va a
 
   abbrev RightSaid : VirtualAddress → Access → Said → Type 0
-  RightSaid va a (answered r) = Right va a r
-  RightSaid va a (reported s) = Unit {0}
+  RightSaid va a (Said.Answered r) = Right va a r
+  RightSaid va a (Said.Reported s) = Unit {0}
 
   none-asked : {va : VirtualAddress} {a : Access} {P : Type 0} → nothing ≡ asks va a → P
   none-asked q = absurd (let z : _≡_ {A = ℕ} 0 1 = cc in omega arith)

@@ -15,7 +15,7 @@ pub use Rattle.unit.specs.Calls.{oneOf}
 unfoldable pub use Rattle.unit.specs.Calls.{requestOf, writeOf}
 pub use Rattle.unit.specs.Device.{freshDevice}
 unfoldable pub use Rattle.unit.specs.Device.{inRange}
-pub use Rattle.unit.specs.Machine.{Call, answered, drop-fault, read, request, shift, step, write}
+pub use Rattle.unit.specs.Machine.{Call, Said, drop-fault, read, request, shift, step, write}
 pub use Rattle.registers.specs.Offsets.{acknowledgeAt, baseHighAt, baseLowAt, controlAt}
 pub use Rattle.unit.specs.declared.Device.{Device}
 pub use Rattle.walk.specs.Distances.{isMissing}

@@ -1,7 +1,7 @@
 -- A session: any calls but writes to control or base, each with its own prices and bill, and what each asks (01, demand 3).
 use Rattle.coherence.specs.Names.{ℕ, _%_, _<_, _≡_, Bool, true, false, not, List, [], _∷_, eqb, pick, _and_, physical, limit, Lent, Bill}
 use Rattle.coherence.specs.Names.{freshBank, isPrefetch, isRefusal, noEntry, Pending, Access, VirtualAddress, Answer, Device, controlAt}
-use Rattle.coherence.specs.Names.{acknowledgeAt, baseHighAt, baseLowAt, oneOf, Call, request, write, read, drop-fault, shift, answered, step}
+use Rattle.coherence.specs.Names.{acknowledgeAt, baseHighAt, baseLowAt, oneOf, Call, request, write, read, drop-fault, shift, Said, step}
 use Rattle.coherence.specs.Agreement.{plain}
 use Rattle.walk.specs.Uniform.{lookIn}
 
@@ -63,6 +63,6 @@ CacheNeverShows m control base =
     (cs : List BilledCall) (b : Bill) (c : Call) (va : VirtualAddress) (a : Access) (r : Answer) →
     Admitted cs →
     asked (after m (started control base) cs) c ≡ asks va a →
-    step m (after m (started control base) cs) b c .said ≡ answered r →
+    step m (after m (started control base) cs) b c .said ≡ Said.Answered r →
     isRefusal r ≡ false →
     (va .0 < limit) × (r ≡ plain (lookIn m base) va a)

@@ -1,9 +1,10 @@
 -- Demand 2: one acknowledgement suffices, and off is virtual. Assumes nothing.
 use Rattle.conduct.specs.Names.{_≡_, Bool, true, false, ℕ, _%_, eqb, getD, pick, physical, permits, wordAccess, wordAddress, Seen, Matched}
-use Rattle.conduct.specs.Names.{isPrefetch, isOn, listed, Pending, look, acknowledgeAt, request, write, read, drop-fault, shift, answered}
-use Rattle.conduct.specs.Names.{Access, VirtualAddress, Lent, Bill, Prices, Fault, Answer, Decision, Device, Outcome}
+use Rattle.conduct.specs.Names.{isPrefetch, isOn, listed, Pending, look, acknowledgeAt, request, write, read, drop-fault, shift, Said, Access}
+use Rattle.conduct.specs.Names.{VirtualAddress, Lent, Bill, Prices, Fault, Answer, Decision, Device, Outcome}
 use Rattle.conduct.proofs.Names.{refl, sym, _∙_, ap, subst, false≢true, eq-eqb, pick-yes, pick-no, found, commandOf, byAccess, meteredOnce}
-use Rattle.conduct.proofs.Names.{decided-on, decidedBy, attemptOf, retried, carried, Attempted, nothing, attempt, prefetch, attempted, LowestMatch}
+use Rattle.conduct.proofs.Names.{decided-on, decidedBy, attemptOf, retried, carried, Attempted, nothing, attempt, prefetch, attempted}
+use Rattle.conduct.proofs.Names.{LowestMatch}
 use Rattle.decision.specs.Decisions.{plainly}
 use Rattle.decision.proofs.Joins.{decided-off}
 use Rattle.unit.specs.Device.{concluded}
@@ -35,12 +36,12 @@ one-acknowledgement m d b p v k va a i on e n l h g =
   where
     Answers : Outcome → Type 0
     Answers x =
-        (answered (x .answer) ≡ answered (Answer.Address (wordAddress (getD (d .bank .cam) i 0) (getD (d .bank .ram) i 0) va))) × (x .device .pending ≡ Pending.Nothing)
+        (Said.Answered (x .answer) ≡ Said.Answered (Answer.Address (wordAddress (getD (d .bank .cam) i 0) (getD (d .bank .ram) i 0) va))) × (x .device .pending ≡ Pending.Nothing)
 
 -- off
 module _ (b : Bill) (again : Bool) (va : VirtualAddress) (a : Access) where
   abbrev Virtual : Outcome → Type 0
-  Virtual x = (answered (x .answer) ≡ answered (Answer.Address (physical (va .0)))) × (x .tally .words ≡ 0) × (x .bill ≡ b) × (x .device .pending ≡ Pending.Nothing)
+  Virtual x = (Said.Answered (x .answer) ≡ Said.Answered (Answer.Address (physical (va .0)))) × (x .tally .words ≡ 0) × (x .bill ≡ b) × (x .device .pending ≡ Pending.Nothing)
 
   abbrev Off : Attempted → Outcome → Type 0
   Off q x = q ≡ attempt again va a → Virtual x

@@ -1,8 +1,8 @@
 -- Demand 2: what a request or a retry answers while the unit is on, a prefetch and a shift report. Assumes nothing.
 use Rattle.conduct.specs.Names.{_≡_, Bool, true, false, not, ℕ, _<_, getD, pick, limit, permits, wordAccess, wordAddress, physicalOf, slots}
 use Rattle.conduct.specs.Names.{lookedUp, isRefusal, isOn, isWalking, listed, Fault, Answer, pageAt, Shift, inRange, look, cleared, prefetchAt}
-use Rattle.conduct.specs.Names.{noMatch, dropRefusals, request, write, read, drop-fault, shift, answered, Access, VirtualAddress}
-use Rattle.conduct.specs.Names.{PhysicalAddress, Lent, lentOk, Reads, Page, Found, Bill, Prices, Matched, Decision, Device, Outcome, Told}
+use Rattle.conduct.specs.Names.{noMatch, dropRefusals, request, write, read, drop-fault, shift, Said, Access, VirtualAddress, PhysicalAddress}
+use Rattle.conduct.specs.Names.{Lent, lentOk, Reads, Page, Found, Bill, Prices, Matched, Decision, Device, Outcome, Told}
 use Rattle.conduct.proofs.Names.{refl, sym, _∙_, ap, subst, true≢false, false≢true, pick-yes, pick-no, isMissing, found, commandOf, byAccess}
 use Rattle.conduct.proofs.Names.{byFound, prefetchFound, prefetchMatched, prefetchDecided, shiftBy, decided-on, refuses, told, toldRefused}
 use Rattle.conduct.proofs.Names.{decidedBy, attemptOf, lacks, writeOf, dropOf, shiftOf, refuses-by, Accepted, Attempted, nothing, attempt}
@@ -36,13 +36,13 @@ module _ (bits : ℕ) (at : PhysicalAddress) (a : Access) where
 
 -- what is found is what is answered
 module _ (va : VirtualAddress) (a : Access) (r : Reads) where
-  found-answers : (f : Found) → isMissing f ≡ false → WalkAnswers f va a (answered (byFound va a r f .answer))
+  found-answers : (f : Found) → isMissing f ≡ false → WalkAnswers f va a (Said.Answered (byFound va a r f .answer))
   unfolding byFound
   found-answers Found.Missing h = absurd (true≢false h)
   found-answers Found.NoPage h = record { byte = λ g e t. cc; refused = λ g e t. cc; none = λ _. refl; there = λ e. absurd (false≢true (ap isMissing e)) }
   found-answers (Found.Page p) h = record {
-    byte = λ g e t. let q : p ≡ g = cc in ap answered (access-yes _ _ a (ap (λ (x : Page). permits (x .access) a) q ∙ t) ∙ ap (λ (x : Page). Answer.Address (physicalOf x va)) q);
-    refused = λ g e t. let q : p ≡ g = cc in ap answered (access-no _ _ a (ap (λ (x : Page). permits (x .access) a) q ∙ t));
+    byte = λ g e t. let q : p ≡ g = cc in ap Said.Answered (access-yes _ _ a (ap (λ (x : Page). permits (x .access) a) q ∙ t) ∙ ap (λ (x : Page). Answer.Address (physicalOf x va)) q);
+    refused = λ g e t. let q : p ≡ g = cc in ap Said.Answered (access-no _ _ a (ap (λ (x : Page). permits (x .access) a) q ∙ t));
     none = λ e. cc;
     there = λ e. absurd (false≢true (ap isMissing e));
   }
@@ -60,29 +60,29 @@ module _ (m : Lent) (d : Device) (va : VirtualAddress) (a : Access) (on : isOn (
   unfolding lacks
   is-there n w = rest _ _ w (rest _ _ (ap noMatch (no-slot d va n)) (rest _ _ on h))
 
-  on-answers : OnAnswers m d va a (answered (x .answer))
+  on-answers : OnAnswers m d va a (Said.Answered (x .answer))
   on-answers = record {
     match = λ i l. record {
-      byte = λ t. ap answered (at-slot i l ∙ access-yes _ _ a t);
-      refused = λ t. ap answered (at-slot i l ∙ access-no _ _ a t);
+      byte = λ t. ap Said.Answered (at-slot i l ∙ access-yes _ _ a t);
+      refused = λ t. ap Said.Answered (at-slot i l ∙ access-no _ _ a t);
     };
-    miss = λ n w. ap (λ (y : Decision). answered (y .answer)) (decided-miss (look m d va) (d .registers .control) (d .bank .cam) (d .bank .ram) va a on (no-slot d va n) w);
+    miss = λ n w. ap (λ (y : Decision). Said.Answered (y .answer)) (decided-miss (look m d va) (d .registers .control) (d .bank .cam) (d .bank .ram) va a on (no-slot d va n) w);
     walk = λ n w.
-        subst (λ (y : Decision). WalkAnswers (look m d va .found) va a (answered (y .answer)))
+        subst (λ (y : Decision). WalkAnswers (look m d va .found) va a (Said.Answered (y .answer)))
         (sym (decided-walk (look m d va) (d .registers .control) (d .bank .cam) (d .bank .ram) va a on (no-slot d va n) w))
         (found-answers va a (look m d va .reads) (look m d va .found) (is-there n w));
   }
 
 module _ (m : Lent) (d : Device) (b : Bill) (p : Prices) (on : isOn (d .registers .control) ≡ true) (again : Bool) (va : VirtualAddress) (a : Access) where
   abbrev On : Attempted → Outcome → Type 0
-  On q o = q ≡ attempt again va a → OnAnswers m d va a (answered (o .answer))
+  On q o = q ≡ attempt again va a → OnAnswers m d va a (Said.Answered (o .answer))
 
   asked-answers : (t : Bool) (x : VirtualAddress) (r : Access) → lacks m d x ≡ false → On (attempt t x r) (attemptOf m p b t d x r)
   asked-answers t x r h e =
       let q : x ≡ va = cc in
       let s : r ≡ a = cc in
-      subst (λ (z : Access). OnAnswers m d va z (answered (decidedBy (look m d x) d x r .answer))) s
-      (subst (λ (y : VirtualAddress). OnAnswers m d y r (answered (decidedBy (look m d x) d x r .answer))) q (on-answers m d x r on h))
+      subst (λ (z : Access). OnAnswers m d va z (Said.Answered (decidedBy (look m d x) d x r .answer))) s
+      (subst (λ (y : VirtualAddress). OnAnswers m d y r (Said.Answered (decidedBy (look m d x) d x r .answer))) q (on-answers m d x r on h))
 
 abbrev isAttempt : Attempted → Bool
 isAttempt nothing = false
@@ -94,7 +94,7 @@ no-attempt again va a q n e = absurd (false≢true (sym n ∙ ap isAttempt e))
 
 pub answers-on : AnswersOn
 answers-on m d b (request x r p) again va a on e h =
-    accepted-request m p b d (λ (o : Outcome). OnAnswers m d va a (answered (o .answer))) x r
+    accepted-request m p b d (λ (o : Outcome). OnAnswers m d va a (Said.Answered (o .answer))) x r
     (λ c. asked-answers m d b p on again va a false x r (c .1 .1 .1 .1 .1 .0) e) h
 answers-on m d b (write o v p) again va a on e h =
     accepted-write m p b d (On m d b p on again va a (attempted d (write o v p))) o v
@@ -116,18 +116,18 @@ module _ (m : Lent) (d : Device) (va : VirtualAddress) where
   walk-answers : NoSlot d va → (f : Found) → look m d va .found ≡ f → prefetchDecided (look m d va) (d .bank .cam) va .answer ≡ prefetchFound va (look m d va .reads) f .answer
   walk-answers n f e = matched-answers Matched.Nothing (no-slot d va n) ∙ ap (λ (y : Found). prefetchFound va (look m d va .reads) y .answer) e
 
-  fetch-answers : PrefetchAnswers m d va (answered (prefetchDecided (look m d va) (d .bank .cam) va .answer))
+  fetch-answers : PrefetchAnswers m d va (Said.Answered (prefetchDecided (look m d va) (d .bank .cam) va .answer))
   unfolding prefetchFound
   fetch-answers = record {
-    match = λ i l. ap answered (matched-answers (Matched.At i) (found (d .bank .cam) va i (l .slot) (l .matches) (l .below)));
-    page = λ g n e. ap answered (walk-answers n (Found.Page g) e);
-    none = λ n e. ap answered (walk-answers n Found.NoPage e);
+    match = λ i l. ap Said.Answered (matched-answers (Matched.At i) (found (d .bank .cam) va i (l .slot) (l .matches) (l .below)));
+    page = λ g n e. ap Said.Answered (walk-answers n (Found.Page g) e);
+    none = λ n e. ap Said.Answered (walk-answers n Found.NoPage e);
   }
 
 pub prefetch-answered : PrefetchAnswered
 unfolding commandOf listed pick
 prefetch-answered m d b v p =
-    accepted-write m p b d (λ (x : Outcome). PrefetchAnswers m d (pageAt v) (answered (x .answer))) prefetchAt v (λ _. fetch-answers m d (pageAt v))
+    accepted-write m p b d (λ (x : Outcome). PrefetchAnswers m d (pageAt v) (Said.Answered (x .answer))) prefetchAt v (λ _. fetch-answers m d (pageAt v))
 
 -- a shift report
 found-tells : (va : VirtualAddress) (f : Found) → ShiftTells va f (pick (isMissing f) (Shift.Refused 3) (shiftBy va f))
@@ -149,7 +149,7 @@ shift-answered m d b va s r l o e =
 -- a write that asks for no address
 module _ (m : Lent) (d : Device) (b : Bill) (p : Prices) where
   abbrev Quiet : Attempted → Outcome → Type 0
-  Quiet q x = q ≡ nothing → answered (x .answer) ≡ done
+  Quiet q x = q ≡ nothing → Said.Answered (x .answer) ≡ done
 
   abbrev isAsked : Attempted → Bool
   isAsked nothing = false
@@ -159,7 +159,7 @@ module _ (m : Lent) (d : Device) (b : Bill) (p : Prices) where
   asks-some : {P : Type 0} (q : Attempted) → isAsked q ≡ true → q ≡ nothing → P
   asks-some q n e = absurd (true≢false (sym n ∙ ap isAsked e))
 
-  write-says : (o v : ℕ) → attempted d (write o v p) ≡ nothing → Accepted m d b (write o v p) → answered (writeOf m p b d o v .answer) ≡ done
+  write-says : (o v : ℕ) → attempted d (write o v p) ≡ nothing → Accepted m d b (write o v p) → Said.Answered (writeOf m p b d o v .answer) ≡ done
   write-says o v e h =
       accepted-write m p b d (Quiet (attempted d (write o v p))) o v
       (write-by m p b d v Quiet (λ _. refl) (λ _. refl) (λ va a _. asks-some (attempt true va a) refl) (λ _. asks-some (prefetch (pageAt v)) refl) o (λ _ _ _. refl))
@@ -170,6 +170,6 @@ unfolding dropOf
 nothing-said m d b = record {
   write = λ o v p. write-says m d b p o v;
   dropped =
-      refuses-by (toldRefused d) (told (cleared d) Answer.Done) (λ (t : Told). isRefusal (t .answer) ≡ false → answered (t .answer) ≡ done) (dropRefusals d)
+      refuses-by (toldRefused d) (told (cleared d) Answer.Done) (λ (t : Told). isRefusal (t .answer) ≡ false → Said.Answered (t .answer) ≡ done) (dropRefusals d)
       (λ k h. absurd (true≢false h)) (λ _ _. refl);
 }

@@ -1,8 +1,7 @@
 -- Demand 2: a translation fault is never cached. Assumes nothing.
 use Rattle.conduct.specs.Names.{_≡_, Bool, true, false, List, ℕ, lookedUp, Fill, pageAt, look, cleared, requestRefusals, writeRefusals}
-use Rattle.conduct.specs.Names.{readRefusals, dropRefusals, Call, request, write, read, drop-fault, shift, Said, answered, reported, step}
-use Rattle.conduct.specs.Names.{Access, VirtualAddress, PhysicalAddress, Lent, Reads, Found, Walked, Bill, Matched, Fault, Answer, Decision}
-use Rattle.conduct.specs.Names.{Device, Outcome, Told}
+use Rattle.conduct.specs.Names.{readRefusals, dropRefusals, Call, request, write, read, drop-fault, shift, Said, step, Access, VirtualAddress}
+use Rattle.conduct.specs.Names.{PhysicalAddress, Lent, Reads, Found, Walked, Bill, Matched, Fault, Answer, Decision, Device, Outcome, Told}
 use Rattle.conduct.proofs.Names.{refl, sym, _∙_, ap, subst, false≢true, pick-by, entryFilled, commandOf, valueAt, byAccess, byFound}
 use Rattle.conduct.proofs.Names.{prefetchFound, prefetchMatched, prefetchDecided, told, toldRefused, refusedWith, decidedBy, attemptOf}
 use Rattle.conduct.proofs.Names.{requestOf, carried, writeOf, readOf, dropOf, Attempted, walksFor, refuses-by}
@@ -59,8 +58,8 @@ unfolding prefetchDecided
 prefetch-uncached w cam va = prefetch-matched-uncached w va (lookedUp cam va)
 
 abbrev saidUnmapped : Said → Bool
-saidUnmapped (answered r) = isUnmapped r
-saidUnmapped (reported s) = false
+saidUnmapped (Said.Answered r) = isUnmapped r
+saidUnmapped (Said.Reported s) = false
 
 module _ (d : Device) where
   abbrev Kept : Outcome → Type 0

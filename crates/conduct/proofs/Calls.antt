@@ -1,7 +1,7 @@
 -- A call that is not refused does what it asks, and no more: what holds of that holds of its step. Assumes nothing.
 use Rattle.conduct.specs.Names.{_≡_, Bool, true, false, ℕ, wordCount, readsPosted, seenPosted, pageAt, Clear, look, prefetchAt, requestRefusals}
-use Rattle.conduct.specs.Names.{writeRefusals, request, write, Said, answered, Access, VirtualAddress, Lent, Bill, Prices, Reads, Seen}
-use Rattle.conduct.specs.Names.{Decision, Device, Outcome}
+use Rattle.conduct.specs.Names.{writeRefusals, request, write, Said, Access, VirtualAddress, Lent, Bill, Prices, Reads, Seen, Decision, Device}
+use Rattle.conduct.specs.Names.{Outcome}
 use Rattle.conduct.proofs.Names.{refl, sym, _∙_, ap, ap₂, entryFilled, commandOf, meteredOnce, prefetchDecided, refusedWith, decidedBy}
 use Rattle.conduct.proofs.Names.{attemptOf, lacks, requestOf, prefetched, carried, writeOf, Accepted, attempt, prefetch, readsFor, fillFor}
 use Rattle.conduct.proofs.Names.{tallyAttempted, billAsked}
@@ -50,7 +50,7 @@ module _ (m : Lent) (p : Prices) (b : Bill) (d : Device) where
     prefetch-bank = ap (entryFilled (d .bank)) (prefetch-meets .fill)
 
   abbrev saidOut : Outcome → Said
-  saidOut o = answered (o .answer)
+  saidOut o = Said.Answered (o .answer)
 
   -- a request that is not refused is an attempt
   pub accepted-request : (P : Outcome → Type 0) (va : VirtualAddress) (a : Access)

@@ -1,7 +1,7 @@
 -- The theorems are not empty: small devices, computed by hand and here. Assumes nothing.
 use Rattle.conduct.specs.Names.{_≡_, [], _∷_, ℕ, pick, _and_, physical, wordMatches, wordAddress, slotAt, nextSlot, nextVictim, camAddress}
 use Rattle.conduct.specs.Names.{listed, Pending, Answer, Fault, freshDevice, inRange, acknowledgeAt, flushAt, entryFlushAt, request, write}
-use Rattle.conduct.specs.Names.{answered, Step, step, Access, Words, Lent, Prices, Device}
+use Rattle.conduct.specs.Names.{Said, Step, step, Access, Words, Lent, Prices, Device}
 use Rattle.conduct.proofs.Names.{refl, take, _or_, wordFlushed, wordFlushedAt, placeIn, wordOf, readIn, walkFrom, bankOk, firstOf, allFrom}
 use Rattle.conduct.proofs.Names.{registersOk, noRegister, whenBit, commandOf, byAccess, byFound, decided, refuses, setBank, lacks, isMalformed}
 use Rattle.conduct.proofs.Names.{isUntimely, writeLacks, requestOf, writeOf}
@@ -40,17 +40,17 @@ asking d va a = step twoWords d freshBill (request (virtual va) a free)
 
 -- a fresh device is off: physical is virtual; 2^24 is refused 1
 fresh-answers :
-    (asking freshDevice 0x012345 Access.Write .said ≡ answered (Answer.Address (physical 0x012345)))
+    (asking freshDevice 0x012345 Access.Write .said ≡ Said.Answered (Answer.Address (physical 0x012345)))
     × (asking freshDevice 0x012345 Access.Write .tally ≡ oneFresh 0)
-    × (asking freshDevice 0x1000000 Access.Read .said ≡ answered (Answer.Refused 1))
+    × (asking freshDevice 0x1000000 Access.Read .said ≡ Said.Answered (Answer.Refused 1))
 unfolding requestOf refuses pick _and_ _or_ inRange registersOk entryOk bankOk allFrom memoriesOk memoryOk apart moneyOk every figureOk le lt eq ofBits ofFields odd trailingZeros lacks decided
 fresh-answers = (refl, refl, refl)
 
 -- a walk that finds a page fills slot 5 and moves the victim on, also where access is then refused
 walk-fills :
-    (asking running 0x012345 Access.Read .said ≡ answered (Answer.Address (physical 0x11212345)))
+    (asking running 0x012345 Access.Read .said ≡ Said.Answered (Answer.Address (physical 0x11212345)))
     × (asking running 0x012345 Access.Read .tally ≡ oneFresh 1)
-    × (asking running 0x012345 Access.Write .said ≡ answered (Answer.Fault Fault.Permission))
+    × (asking running 0x012345 Access.Write .said ≡ Said.Answered (Answer.Fault Fault.Permission))
     × (slotAt (asking running 0x012345 Access.Write .device .bank) 5 ≡ section)
     × (asking running 0x012345 Access.Write .device .bank .victim ≡ 6)
 unfolding requestOf refuses pick _and_ _or_ inRange registersOk entryOk bankOk allFrom memoriesOk memoryOk apart moneyOk every figureOk le lt eq
@@ -60,10 +60,10 @@ walk-fills = (refl, refl, refl, refl, refl)
 
 -- one that finds none fills nothing, and one that lacks its word is refused 3
 walk-faults :
-    (asking running 0x112345 Access.Read .said ≡ answered (Answer.Fault Fault.Translation))
+    (asking running 0x112345 Access.Read .said ≡ Said.Answered (Answer.Fault Fault.Translation))
     × (asking running 0x112345 Access.Read .tally ≡ oneFresh 1)
     × (asking running 0x112345 Access.Read .device .bank ≡ running .bank)
-    × (asking running 0x212345 Access.Read .said ≡ answered (Answer.Refused 3))
+    × (asking running 0x212345 Access.Read .said ≡ Said.Answered (Answer.Refused 3))
 unfolding requestOf refuses pick _and_ _or_ inRange registersOk entryOk bankOk allFrom memoriesOk memoryOk apart moneyOk every figureOk le lt eq
     ofBits ofFields odd trailingZeros lacks decided lookedFrom wordMatches kindOf walkFrom firstAt upper readIn placeIn placeWithin liesIn wordOf
     firstOf byFound
@@ -78,7 +78,7 @@ waiting = record {
 }
 
 acknowledged :
-    (step twoWords waiting freshBill (write acknowledgeAt 1 free) .said ≡ answered (Answer.Address (physical 0x11212345)))
+    (step twoWords waiting freshBill (write acknowledgeAt 1 free) .said ≡ Said.Answered (Answer.Address (physical 0x11212345)))
     × (step twoWords waiting freshBill (write acknowledgeAt 1 free) .tally ≡ oneRetry 0)
     × (step twoWords waiting freshBill (write acknowledgeAt 1 free) .device .pending ≡ Pending.Nothing)
 unfolding writeOf refuses pick _and_ _or_ inRange registersOk entryOk bankOk allFrom memoriesOk memoryOk apart moneyOk every figureOk le lt eq ofBits

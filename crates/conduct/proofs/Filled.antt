@@ -1,6 +1,11 @@
 -- Demand 2, the slots: one fill, at the lock base or above it, of the page that the plain walk finds. Assumes nothing.
-use Rattle.conduct.specs.Names.{_≡_, Bool, true, false, ℕ, _<_, Found, slots, slotAt, nextSlot, pageAt, inRange, look, mayWalk, requestRefusals, writeRefusals, Call, request, write, read, drop-fault, shift, step, VirtualAddress, Lent, Bill, Bank, Fill, Pending, Device, Outcome}
-use Rattle.conduct.proofs.Names.{refl, sym, _∙_, ap, subst, true≢false, false≢true, pick-by, and-left, and-right, or-yes, or-no, entryFilled, fill-lock, in-range, registersOk, pendingOk, commandOf, prefetchDecided, refusedWith, decidedBy, attemptOf, requestOf, carried, writeOf, saidRefused, Accepted, Attempted, nothing, attempt, prefetch, writeAttempted, attempted, pageFill, fillFor, LanesFit, refuses-by}
+use Rattle.conduct.specs.Names.{_≡_, Bool, true, false, ℕ, _<_, Found, slots, slotAt, nextSlot, pageAt, inRange, look, mayWalk, requestRefusals}
+use Rattle.conduct.specs.Names.{writeRefusals, Call, request, write, read, drop-fault, shift, step, VirtualAddress, Lent, Bill, Bank, Fill}
+use Rattle.conduct.specs.Names.{Pending, Device, Outcome}
+use Rattle.conduct.proofs.Names.{refl, sym, _∙_, ap, subst, true≢false, false≢true, pick-by, and-left, and-right, or-yes, or-no, entryFilled}
+use Rattle.conduct.proofs.Names.{fill-lock, in-range, registersOk, pendingOk, commandOf, prefetchDecided, refusedWith, decidedBy, attemptOf}
+use Rattle.conduct.proofs.Names.{requestOf, carried, writeOf, saidRefused, Accepted, Attempted, nothing, attempt, prefetch, writeAttempted}
+use Rattle.conduct.proofs.Names.{attempted, pageFill, fillFor, LanesFit, refuses-by}
 use Rattle.bank.proofs.Fills.{fill-keeps, fill-has, fill-keeps-locked, fill-victim}
 use Rattle.bank.proofs.Ranges.{nextSlot-lt}
 use Rattle.conduct.specs.Attempted.{AttemptedAt, callWalks}

@@ -1,8 +1,8 @@
 -- Demand 2: what is pending after each call. Assumes nothing.
 use Rattle.conduct.specs.Names.{_≡_, Bool, true, false, List, ℕ, _%_, eqb, lookedUp, isRefusal, isPrefetch, listed, pageAt, pick, Clear, look}
 use Rattle.conduct.specs.Names.{cleared, doneWith, prefetchAt, acknowledgeAt, requestRefusals, writeRefusals, readRefusals, dropRefusals}
-use Rattle.conduct.specs.Names.{request, write, read, drop-fault, shift, Said, answered, reported, stepOut, Access, VirtualAddress, Lent, Reads}
-use Rattle.conduct.specs.Names.{Found, Walked, Bill, Prices, Matched, Fault, Pending, Answer, Device, Outcome, Told}
+use Rattle.conduct.specs.Names.{request, write, read, drop-fault, shift, Said, stepOut, Access, VirtualAddress, Lent, Reads, Found, Walked}
+use Rattle.conduct.specs.Names.{Bill, Prices, Matched, Fault, Pending, Answer, Device, Outcome, Told}
 use Rattle.conduct.proofs.Names.{refl, sym, _∙_, ap, true≢false, false≢true, arith, eq-eqb, ne-eqb, commandOf, valueAt, by-offset, settled}
 use Rattle.conduct.proofs.Names.{prefetchFound, prefetchMatched, prefetchDecided, pick-yes, pick-no, told, toldRefused, refusedWith, decidedBy}
 use Rattle.conduct.proofs.Names.{attemptOf, requestOf, retried, carried, writeOf, readOf, dropOf, refuses-by, saidRefused, Attempted, nothing}
@@ -14,11 +14,11 @@ use Rattle.conduct.proofs.Calls.{accepted-write}
 
 -- an answer that is neither an address nor a fault
 abbrev saidMet : Said → Bool
-saidMet (answered r) = isMet r
-saidMet (reported s) = false
+saidMet (Said.Answered r) = isMet r
+saidMet (Said.Reported s) = false
 
 module _ (q : Attempted) (s : Said) (n : saidMet s ≡ false) where
-  unmet : {P : Type 0} (r : Answer) → isMet r ≡ true → s ≡ answered r → P
+  unmet : {P : Type 0} (r : Answer) → isMet r ≡ true → s ≡ Said.Answered r → P
   unmet r h e = absurd (true≢false (sym h ∙ sym (ap saidMet e) ∙ n))
 
   -- where such an answer leaves what is pending, that is as said
@@ -50,7 +50,7 @@ module _ (va : VirtualAddress) (a : Access) (q : Pending) where
   settled-refused Answer.Done h = refl
   settled-refused (Answer.Refused k) h = refl
 
-  attempt-held : (again : Bool) (r : Answer) → HeldBy (attempt again va a) q (settled va a q r) (answered r)
+  attempt-held : (again : Bool) (r : Answer) → HeldBy (attempt again va a) q (settled va a q r) (Said.Answered r)
   attempt-held again r = record {
     fault = λ t x y k g e. by t x y k g (let z : r ≡ Answer.Fault k = cc in z);
     prefetched = λ x k g e. (cc, cc);
@@ -83,11 +83,11 @@ fetches : (w : Walked) (cam : List ℕ) (va : VirtualAddress) → Fetches (prefe
 unfolding prefetchDecided
 fetches w cam va = matched-fetches w va (lookedUp cam va)
 
-prefetch-held : (va : VirtualAddress) (q : Pending) (r : Answer) → Fetches r → HeldBy (prefetch va) q (settled va Access.Read q r) (answered r)
+prefetch-held : (va : VirtualAddress) (q : Pending) (r : Answer) → Fetches r → HeldBy (prefetch va) q (settled va Access.Read q r) (Said.Answered r)
 prefetch-held va q (Answer.Address x) f = absurd f
-prefetch-held va q (Answer.Value x) f = still (prefetch va) (answered (Answer.Value x)) refl q
-prefetch-held va q Answer.Done f = still (prefetch va) (answered Answer.Done) refl q
-prefetch-held va q (Answer.Refused k) f = still (prefetch va) (answered (Answer.Refused k)) refl q
+prefetch-held va q (Answer.Value x) f = still (prefetch va) (Said.Answered (Answer.Value x)) refl q
+prefetch-held va q Answer.Done f = still (prefetch va) (Said.Answered Answer.Done) refl q
+prefetch-held va q (Answer.Refused k) f = still (prefetch va) (Said.Answered (Answer.Refused k)) refl q
 prefetch-held va q (Answer.Fault j) f = record {
   fault = λ t x y k g e. cc;
   prefetched = λ x k g e. (let u : j ≡ k = cc in sym u ∙ f, let w : va ≡ x = cc in cc);
@@ -106,36 +106,36 @@ read-still d =
 
 module _ (d : Device) where
   abbrev Holds : Attempted → Outcome → Type 0
-  Holds q x = HeldBy q (d .pending) (x .device .pending) (answered (x .answer))
+  Holds q x = HeldBy q (d .pending) (x .device .pending) (Said.Answered (x .answer))
 
   abbrev Tells : Told → Type 0
-  Tells t = HeldBy nothing (d .pending) (t .device .pending) (answered (t .answer))
+  Tells t = HeldBy nothing (d .pending) (t .device .pending) (Said.Answered (t .answer))
 
-  done : (x : Pending) → HeldBy nothing (d .pending) x (answered Answer.Done)
-  done x = quiet nothing (answered Answer.Done) refl refl (d .pending) x
+  done : (x : Pending) → HeldBy nothing (d .pending) x (Said.Answered Answer.Done)
+  done x = quiet nothing (Said.Answered Answer.Done) refl refl (d .pending) x
 
 pub fault-held : FaultHeld
 unfolding requestOf writeOf readOf dropOf
 fault-held m d b (request va a p) =
     refuses-by (refusedWith d b) (attemptOf m p b false d va a) (Holds d (attempt false va a)) (requestRefusals m p b d va)
-    (λ k. still (attempt false va a) (answered (Answer.Refused k)) refl (d .pending))
+    (λ k. still (attempt false va a) (Said.Answered (Answer.Refused k)) refl (d .pending))
     (λ _. attempt-held va a (d .pending) false (decidedBy (look m d va) d va a .answer))
 fault-held m d b (write o v p) =
     refuses-by (refusedWith d b) (carried m p b d (commandOf o v)) (Holds d (attempted d (write o v p))) (writeRefusals m p b d o v)
-    (λ k. still (attempted d (write o v p)) (answered (Answer.Refused k)) refl (d .pending))
+    (λ k. still (attempted d (write o v p)) (Said.Answered (Answer.Refused k)) refl (d .pending))
     (write-by m p b d v (Holds d) (done d _) (done d _)
     (λ va a _. attempt-held va a (d .pending) true (decidedBy (look m d va) d va a .answer))
     (λ _. prefetch-held (pageAt v) (d .pending) _ (fetches (look m d (pageAt v)) (d .bank .cam) (pageAt v)))
     o (λ _ d′. done d (d′ .pending)))
 fault-held m d b (read o) =
     refuses-by (toldRefused d) (told d (valueAt o (d .registers) (d .bank .lock) (d .bank .victim) (d .pending))) (Tells d) (readRefusals d o)
-    (λ k. still nothing (answered (Answer.Refused k)) refl (d .pending))
-    (λ c. still nothing (answered (valueAt o (d .registers) (d .bank .lock) (d .bank .victim) (d .pending))) (read-still d o c) (d .pending))
+    (λ k. still nothing (Said.Answered (Answer.Refused k)) refl (d .pending))
+    (λ c. still nothing (Said.Answered (valueAt o (d .registers) (d .bank .lock) (d .bank .victim) (d .pending))) (read-still d o c) (d .pending))
 fault-held m d b drop-fault =
     refuses-by (toldRefused d) (told (cleared d) Answer.Done) (Tells d) (dropRefusals d)
-    (λ k. still nothing (answered (Answer.Refused k)) refl (d .pending))
+    (λ k. still nothing (Said.Answered (Answer.Refused k)) refl (d .pending))
     (λ _. done d Pending.Nothing)
-fault-held m d b (shift va) = still nothing (reported _) refl (d .pending)
+fault-held m d b (shift va) = still nothing (Said.Reported _) refl (d .pending)
 
 module _ (m : Lent) (p : Prices) (b : Bill) (d : Device) (v : ℕ) where
   -- an acknowledgement by its bit 0
@@ -150,14 +150,14 @@ module _ (m : Lent) (p : Prices) (b : Bill) (d : Device) (v : ℕ) where
   bit-clear : v % 2 ≡ 0 → carried m p b d (commandOf acknowledgeAt v) ≡ doneWith b d
   bit-clear h = acknowledge-bit false (ne-eqb (v % 2) 1 (λ q. omega (arith, q, h))) ∙ pick-no false _ _ refl
 
-  done-kept : (r : Answer) → answered r ≡ answered Answer.Done → settled (pageAt v) Access.Read (d .pending) r ≡ d .pending
+  done-kept : (r : Answer) → Said.Answered r ≡ Said.Answered Answer.Done → settled (pageAt v) Access.Read (d .pending) r ≡ d .pending
   done-kept r e = ap (settled (pageAt v) Access.Read (d .pending)) (let z : r ≡ Answer.Done = cc in z)
 
-  found-kept : (x : Outcome) → x ≡ carried m p b d (commandOf prefetchAt v) → answered (x .answer) ≡ answered Answer.Done → x .device .pending ≡ d .pending
+  found-kept : (x : Outcome) → x ≡ carried m p b d (commandOf prefetchAt v) → Said.Answered (x .answer) ≡ Said.Answered Answer.Done → x .device .pending ≡ d .pending
   unfolding commandOf listed pick
   found-kept x e h =
       ap (λ (y : Outcome). y .device .pending) e
-      ∙ done-kept (prefetchDecided (look m d (pageAt v)) (d .bank .cam) (pageAt v) .answer) (sym (ap (λ (y : Outcome). answered (y .answer)) e) ∙ h)
+      ∙ done-kept (prefetchDecided (look m d (pageAt v)) (d .bank .cam) (pageAt v) .answer) (sym (ap (λ (y : Outcome). Said.Answered (y .answer)) e) ∙ h)
 
 pub fault-dropped : FaultDropped
 unfolding writeOf dropOf
@@ -172,6 +172,6 @@ fault-dropped m d b = record {
       (λ k. refl) (λ _. ap (λ (x : Outcome). x .device) (bit-clear m p b d v h));
   found = λ v p.
       refuses-by (refusedWith d b) (carried m p b d (commandOf prefetchAt v))
-      (λ (x : Outcome). answered (x .answer) ≡ answered Answer.Done → x .device .pending ≡ d .pending) (writeRefusals m p b d prefetchAt v)
+      (λ (x : Outcome). Said.Answered (x .answer) ≡ Said.Answered Answer.Done → x .device .pending ≡ d .pending) (writeRefusals m p b d prefetchAt v)
       (λ k _. refl) (λ _. found-kept m p b d v (carried m p b d (commandOf prefetchAt v)) refl);
 }

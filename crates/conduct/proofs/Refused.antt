@@ -1,7 +1,7 @@
 -- Demand 1 for every call: refused exactly when the paper says, and then nothing changes. Assumes nothing.
 use Rattle.conduct.specs.Names.{_≡_, true, false, ℕ, noTally, pick, isRefusal, listed, Answer, pageAt, Refusals, First, Clear, inRange, look}
 use Rattle.conduct.specs.Names.{cleared, requestRefusals, writeRefusals, readRefusals, dropRefusals, shiftRefusals, Call, request, write, read}
-use Rattle.conduct.specs.Names.{drop-fault, shift, reported, saidNumber, Step, stepOut, step, Access, VirtualAddress, Lent, Found, Bill, Prices}
+use Rattle.conduct.specs.Names.{drop-fault, shift, Said, saidNumber, Step, stepOut, step, Access, VirtualAddress, Lent, Found, Bill, Prices}
 use Rattle.conduct.specs.Names.{Shift, Device, Outcome}
 use Rattle.conduct.proofs.Names.{refl, sym, _∙_, true≢false, not-false, isMissing, commandOf, valueAt, by-offset, shiftBy, refuses, told}
 use Rattle.conduct.proofs.Names.{toldRefused, refusedWith, decidedBy, attemptOf, lacks, requestOf, carried, writeOf, readOf, dropOf, shiftOf}
@@ -59,7 +59,7 @@ module _ (d : Device) (b : Bill) where
   }
 
   abbrev saidShift : Shift → Step
-  saidShift s = record { device = d; bill = b; tally = noTally; said = reported s }
+  saidShift s = record { device = d; bill = b; tally = noTally; said = Said.Reported s }
 
   same : (s : Step) → s .device ≡ d → s .bill ≡ b → s .tally ≡ noTally → Unchanged d b s
   same s e f g = record { device = e; bill = f; tally = g }

@@ -1,8 +1,8 @@
 -- Demand 2: what is written is read back; reset, load and copy. Assumes nothing.
 use Rattle.conduct.specs.Names.{_≡_, true, false, not, _≢_, ℕ, _+_, _*_, _/_, _%_, _^_, _<_, eqb, pick, _and_, slots, slotAt, isRefusal}
 use Rattle.conduct.specs.Names.{wordsOf, entryOf, listed, Setting, pageAt, Clear, look, inRange, freshDevice, controlAt, acknowledgeAt, lockAt}
-use Rattle.conduct.specs.Names.{loadAt, writeRefusals, readRefusals, write, answered, stepOut, step, Lent, Bill, Prices, Answer, Command}
-use Rattle.conduct.specs.Names.{Device, Outcome, Told}
+use Rattle.conduct.specs.Names.{loadAt, writeRefusals, readRefusals, write, Said, stepOut, step, Lent, Bill, Prices, Answer, Command, Device}
+use Rattle.conduct.specs.Names.{Outcome, Told}
 use Rattle.conduct.proofs.Names.{refl, sym, _∙_, ap, subst, true≢false, arith, leb, eq-eqb, ne-eqb, lt-ltb, leb-false, not-false, _or_}
 use Rattle.conduct.proofs.Names.{pick-yes, pick-no, and-yes, and-left, and-right, in-range, registersOk, pendingOk, noRegister, controlCommand}
 use Rattle.conduct.proofs.Names.{lockCommand, loadCommand, commandOf, valueAt, by-offset, registers-in-range, prefetchDecided, prefetchKept}
@@ -103,7 +103,7 @@ reads-back d o v h n k e =
 
 pub read-back : ReadBack
 read-back m d b b′ o v p bytes fit n a =
-    ap answered
+    ap Said.Answered
     (reads-back (writeOf m p b d o v .device) o (keptBits o v)
     (range-kept m d b (write o v p) bytes fit (accepted-in-range m d b (write o v p) a)) (accepted-when m d b (write o v p) .0 a .1 .0) n
     (accepted-write m p b d (λ (x : Outcome). shown (x .device) o ≡ Answer.Value (keptBits o v)) o v (λ c. shows m p b d v fit o c n) a))
@@ -128,8 +128,8 @@ is-shown d h =
 pub read-shown : ReadShown
 unfolding readOf
 read-shown m d b o =
-    refuses-by (toldRefused d) (told d (shown d o)) (λ (t : Told). isRefusal (t .answer) ≡ false → answered (t .answer) ≡ answered (Answer.Value (shownOf d o))) (readRefusals d o)
-    (λ k r. absurd (true≢false r)) (λ c _. ap answered (is-shown d (not-false _ (c .0)) o c))
+    refuses-by (toldRefused d) (told d (shown d o)) (λ (t : Told). isRefusal (t .answer) ≡ false → Said.Answered (t .answer) ≡ Said.Answered (Answer.Value (shownOf d o))) (readRefusals d o)
+    (λ k r. absurd (true≢false r)) (λ c _. ap Said.Answered (is-shown d (not-false _ (c .0)) o c))
 
 -- reset
 module _ (m : Lent) (d : Device) (b : Bill) (p : Prices) (v : ℕ) (h : inRange d ≡ true) (e : v % 2 ≡ 0) where

@@ -1,6 +1,9 @@
 -- Demand 2, what a request, a retry, a prefetch and a shift report answer (01, "The unit", "The walk", "Registers", "Meters and the walk
 -- bill").
-use Rattle.conduct.specs.Names.{ℕ, _%_, _<_, _≡_, Bool, true, false, List, [], _∷_, getD, limit, physical, permits, wordAccess, wordMatches, wordAddress, _≢_, ℤ, physicalOf, distanceOf, foundNumber, slots, isPrefetch, isOn, isWalking, Pending, Answer, pageAt, shiftNumber, shiftValues, prefetchAt, acknowledgeAt, inRange, look, Call, write, drop-fault, shift, Said, answered, reported, step, Access, VirtualAddress, Lent, lentOk, Page, Found, Bill, Prices, Fault, Shift, Device}
+use Rattle.conduct.specs.Names.{ℕ, _%_, _<_, _≡_, Bool, true, false, List, [], _∷_, getD, limit, physical, permits, wordAccess, wordMatches}
+use Rattle.conduct.specs.Names.{wordAddress, _≢_, ℤ, physicalOf, distanceOf, foundNumber, slots, isPrefetch, isOn, isWalking, Pending, Answer}
+use Rattle.conduct.specs.Names.{pageAt, shiftNumber, shiftValues, prefetchAt, acknowledgeAt, inRange, look, Call, write, drop-fault, shift}
+use Rattle.conduct.specs.Names.{Said, step, Access, VirtualAddress, Lent, lentOk, Page, Found, Bill, Prices, Fault, Shift, Device}
 use Rattle.conduct.specs.Refused.{Accepted}
 use Rattle.conduct.specs.Attempted.{nothing, attempt, attempted}
 
@@ -18,7 +21,7 @@ OneAcknowledgement =
     → d .pending ≡ Pending.Held k va a → isPrefetch k ≡ false
     → LowestMatch d va i → permits (wordAccess (getD (d .bank .ram) i 0)) a ≡ true
     → v % 2 ≡ 1 → Accepted m d b (write acknowledgeAt v p)
-    → (step m d b (write acknowledgeAt v p) .said ≡ answered (Answer.Address (wordAddress (getD (d .bank .cam) i 0) (getD (d .bank .ram) i 0) va)))
+    → (step m d b (write acknowledgeAt v p) .said ≡ Said.Answered (Answer.Address (wordAddress (getD (d .bank .cam) i 0) (getD (d .bank .ram) i 0) va)))
     × (step m d b (write acknowledgeAt v p) .device .pending ≡ Pending.Nothing)
 
 -- with the unit off a request or a retry that is not refused answers physical = virtual, reads no word, is not smoothed, and
@@ -27,7 +30,7 @@ abbrev pub OffIsVirtual : Type 0
 OffIsVirtual =
     (m : Lent) (d : Device) (b : Bill) (c : Call) (again : Bool) (va : VirtualAddress) (a : Access)
     → isOn (d .registers .control) ≡ false → attempted d c ≡ attempt again va a → Accepted m d b c
-    → (step m d b c .said ≡ answered (Answer.Address (physical (va .0)))) × (step m d b c .tally .words ≡ 0) × (step m d b c .bill ≡ b)
+    → (step m d b c .said ≡ Said.Answered (Answer.Address (physical (va .0)))) × (step m d b c .tally .words ≡ 0) × (step m d b c .bill ≡ b)
     × (step m d b c .device .pending ≡ Pending.Nothing)
 
 -- no slot matches an address
@@ -38,21 +41,21 @@ NoSlot d va = (j : ℕ) → j < slots → wordMatches (getD (d .bank .cam) j 0) 
 pub record MatchAnswers (d : Device) (va : VirtualAddress) (a : Access) (i : ℕ) (s : Said) : Type 0 where
   pub byte :
       permits (wordAccess (getD (d .bank .ram) i 0)) a ≡ true
-      → s ≡ answered (Answer.Address (wordAddress (getD (d .bank .cam) i 0) (getD (d .bank .ram) i 0) va))
-  pub refused : permits (wordAccess (getD (d .bank .ram) i 0)) a ≡ false → s ≡ answered (Answer.Fault Fault.Permission)
+      → s ≡ Said.Answered (Answer.Address (wordAddress (getD (d .bank .cam) i 0) (getD (d .bank .ram) i 0) va))
+  pub refused : permits (wordAccess (getD (d .bank .ram) i 0)) a ≡ false → s ≡ Said.Answered (Answer.Fault Fault.Permission)
 
 -- on no match with walking what the plain walk finds: the page's byte, 23, or 21 (where it needs a word that is in neither memory,
 -- the call is refused 3)
 pub record WalkAnswers (f : Found) (va : VirtualAddress) (a : Access) (s : Said) : Type 0 where
-  pub byte : (g : Page) → f ≡ Found.Page g → permits (g .access) a ≡ true → s ≡ answered (Answer.Address (physicalOf g va))
-  pub refused : (g : Page) → f ≡ Found.Page g → permits (g .access) a ≡ false → s ≡ answered (Answer.Fault Fault.Permission)
-  pub none : f ≡ Found.NoPage → s ≡ answered (Answer.Fault Fault.Translation)
+  pub byte : (g : Page) → f ≡ Found.Page g → permits (g .access) a ≡ true → s ≡ Said.Answered (Answer.Address (physicalOf g va))
+  pub refused : (g : Page) → f ≡ Found.Page g → permits (g .access) a ≡ false → s ≡ Said.Answered (Answer.Fault Fault.Permission)
+  pub none : f ≡ Found.NoPage → s ≡ Said.Answered (Answer.Fault Fault.Translation)
   pub there : f ≢ Found.Missing
 
 -- what a request or a retry that is not refused answers while the unit is on
 pub record OnAnswers (m : Lent) (d : Device) (va : VirtualAddress) (a : Access) (s : Said) : Type 0 where
   pub match : (i : ℕ) → LowestMatch d va i → MatchAnswers d va a i s
-  pub miss : NoSlot d va → isWalking (d .registers .control) ≡ false → s ≡ answered (Answer.Fault Fault.Miss)
+  pub miss : NoSlot d va → isWalking (d .registers .control) ≡ false → s ≡ Said.Answered (Answer.Fault Fault.Miss)
   pub walk : NoSlot d va → isWalking (d .registers .control) ≡ true → WalkAnswers (look m d va .found) va a s
 
 abbrev pub AnswersOn : Type 0
@@ -63,13 +66,13 @@ AnswersOn =
 
 -- accepted, with nothing to say
 abbrev pub done : Said
-done = answered Answer.Done
+done = Said.Answered Answer.Done
 
 -- a prefetch that is not refused says nothing on a match and where its walk finds a page, whatever its access, and 24 where it finds none
 pub record PrefetchAnswers (m : Lent) (d : Device) (va : VirtualAddress) (s : Said) : Type 0 where
   pub match : (i : ℕ) → LowestMatch d va i → s ≡ done
   pub page : (g : Page) → NoSlot d va → look m d va .found ≡ Found.Page g → s ≡ done
-  pub none : NoSlot d va → look m d va .found ≡ Found.NoPage → s ≡ answered (Answer.Fault Fault.Prefetch)
+  pub none : NoSlot d va → look m d va .found ≡ Found.NoPage → s ≡ Said.Answered (Answer.Fault Fault.Prefetch)
 
 abbrev pub PrefetchAnswered : Type 0
 PrefetchAnswered =
@@ -91,7 +94,7 @@ pub record ShiftTells (va : VirtualAddress) (f : Found) (s : Shift) : Type 0 whe
 abbrev pub ShiftAnswered : Type 0
 ShiftAnswered =
     (m : Lent) (d : Device) (b : Bill) (va : VirtualAddress) (s : Shift) → inRange d ≡ true → va .0 < limit → lentOk m ≡ true
-    → step m d b (shift va) .said ≡ reported s → ShiftTells va (look m d va .found) s
+    → step m d b (shift va) .said ≡ Said.Reported s → ShiftTells va (look m d va .found) s
 
 -- a write that asks for no address, and a drop, say nothing where they are not refused
 pub record SaysNothing (m : Lent) (d : Device) (b : Bill) : Type 0 where

@@ -1,5 +1,6 @@
 -- Demand 2, the slots after each call that may walk (01, "The walk").
-use Rattle.conduct.specs.Names.{ℕ, _<_, _≡_, true, length, pick, madeWords, _≢_, slots, slotAt, nextSlot, nextVictim, Answer, Fault, look, Call, answered, step, VirtualAddress, Words, Lent, Found, Bill, Bank, Fill, Device}
+use Rattle.conduct.specs.Names.{ℕ, _<_, _≡_, true, length, pick, madeWords, _≢_, slots, slotAt, nextSlot, nextVictim, Answer, Fault, look, Call}
+use Rattle.conduct.specs.Names.{Said, step, VirtualAddress, Words, Lent, Found, Bill, Bank, Fill, Device}
 use Rattle.conduct.specs.Refused.{Accepted}
 use Rattle.conduct.specs.Attempted.{Attempted, nothing, attempt, prefetch, attempted, AttemptedAt, callWalks, walksFor}
 
@@ -57,5 +58,5 @@ NoPageNoFill =
 -- a translation fault is never cached: no call that answers one changes the slots
 abbrev pub FaultNotCached : Type 0
 FaultNotCached =
-    (m : Lent) (d : Device) (b : Bill) (c : Call) → step m d b c .said ≡ answered (Answer.Fault Fault.Translation)
+    (m : Lent) (d : Device) (b : Bill) (c : Call) → step m d b c .said ≡ Said.Answered (Answer.Fault Fault.Translation)
     → step m d b c .device .bank ≡ d .bank

@@ -1,5 +1,7 @@
 -- Demand 2, the meters and the bill after each call (01, "Meters and the walk bill").
-use Rattle.conduct.specs.Names.{ℕ, _+_, _≡_, true, false, List, [], _∷_, pick, wordCount, noTally, posted, BelowStop, readsPosted, seenPosted, lookedUp, isOn, noMatch, Call, request, write, read, drop-fault, shift, step, Bench, run, VirtualAddress, Lent, Tally, Bill, Prices, Seen, Device}
+use Rattle.conduct.specs.Names.{ℕ, _+_, _≡_, true, false, List, [], _∷_, pick, wordCount, noTally, posted, BelowStop, readsPosted, seenPosted}
+use Rattle.conduct.specs.Names.{lookedUp, isOn, noMatch, Call, request, write, read, drop-fault, shift, step, Bench, run, VirtualAddress, Lent}
+use Rattle.conduct.specs.Names.{Tally, Bill, Prices, Seen, Device}
 use Rattle.conduct.specs.Refused.{Accepted}
 use Rattle.conduct.specs.Attempted.{Attempted, nothing, attempt, prefetch, attempted, readsFor}
 

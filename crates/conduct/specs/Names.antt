@@ -25,7 +25,7 @@ unfoldable pub use Rattle.registers.specs.Table.{listed}
 pub use Rattle.unit.specs.Calls.{dropRefusals, mayWalk, noMatch, readRefusals, requestRefusals, shiftRefusals, writeRefusals}
 pub use Rattle.unit.specs.Device.{cleared, doneWith, freshDevice, look}
 unfoldable pub use Rattle.unit.specs.Device.{inRange}
-pub use Rattle.unit.specs.Machine.{Bench, Call, Said, Step, answered, drop-fault, read, reported, request, run, saidNumber, shift, step, stepOut, write}
+pub use Rattle.unit.specs.Machine.{Bench, Call, Said, Step, drop-fault, read, request, run, saidNumber, shift, step, stepOut, write}
 pub use Rattle.registers.specs.Offsets.{acknowledgeAt, baseHighAt, baseLowAt, camHighAt, camLowAt, controlAt, entryFlushAt, faultHighAt, faultLowAt}
 pub use Rattle.registers.specs.Offsets.{faultStatusAt, flushAt, loadAt, lockAt, prefetchAt, ramHighAt, ramLowAt, readCamHighAt, readCamLowAt}
 pub use Rattle.registers.specs.Offsets.{readRamHighAt, readRamLowAt, walkStatusAt}

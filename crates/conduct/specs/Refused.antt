@@ -1,7 +1,7 @@
 -- Demand 1, for every call: a refusal comes exactly when the paper says, and then nothing changes; a device in range stays in range.
-use Rattle.conduct.specs.Names.{ℕ, _^_, _<_, _≡_, Bool, true, false, [], _∷_, getD, Lent, noTally, BelowStop, Bill, Good, isRefusal, Shift, Device}
-use Rattle.conduct.specs.Names.{Refusals, First, Clear, inRange, requestRefusals, writeRefusals, readRefusals, dropRefusals, shiftRefusals}
-use Rattle.conduct.specs.Names.{Call, request, write, read, drop-fault, shift, Said, answered, reported, saidNumber, Step, step, Bench, run}
+use Rattle.conduct.specs.Names.{ℕ, _^_, _<_, _≡_, Bool, true, false, [], _∷_, getD, Lent, noTally, BelowStop, Bill, Good, isRefusal, Shift}
+use Rattle.conduct.specs.Names.{Device, Refusals, First, Clear, inRange, requestRefusals, writeRefusals, readRefusals, dropRefusals}
+use Rattle.conduct.specs.Names.{shiftRefusals, Call, request, write, read, drop-fault, shift, Said, saidNumber, Step, step, Bench, run}
 
 -- the refusals of each call
 abbrev pub refusalsOf : Lent → Device → Bill → Call → Refusals
@@ -18,8 +18,8 @@ shiftRefused Shift.Fault = false
 shiftRefused (Shift.Refused k) = true
 
 abbrev pub saidRefused : Said → Bool
-saidRefused (answered r) = isRefusal r
-saidRefused (reported s) = shiftRefused s
+saidRefused (Said.Answered r) = isRefusal r
+saidRefused (Said.Reported s) = shiftRefused s
 
 -- a call is refused with a number
 abbrev pub RefusedWith : Said → ℕ → Type 0

@@ -2,8 +2,8 @@
 use Rattle.conduct.specs.Names.{ℕ, _+_, _*_, _/_, _%_, _^_, _<_, _≡_, true, [], _∷_, eqb, pick, _≢_, noTally, slotAt, faultStatus, faultAddress}
 use Rattle.conduct.specs.Names.{wordsOf, entryOf, listed, Answer, freshDevice, inRange, prefetchAt, walkStatusAt, controlAt, faultHighAt}
 use Rattle.conduct.specs.Names.{faultLowAt, faultStatusAt, acknowledgeAt, baseHighAt, baseLowAt, lockAt, loadAt, camHighAt, camLowAt, ramHighAt}
-use Rattle.conduct.specs.Names.{ramLowAt, flushAt, entryFlushAt, readCamHighAt, readCamLowAt, readRamHighAt, readRamLowAt, write, read}
-use Rattle.conduct.specs.Names.{answered, Step, step, Lent, Bill, Prices, Device}
+use Rattle.conduct.specs.Names.{ramLowAt, flushAt, entryFlushAt, readCamHighAt, readCamLowAt, readRamHighAt, readRamLowAt, write, read, Said}
+use Rattle.conduct.specs.Names.{Step, step, Lent, Bill, Prices, Device}
 use Rattle.conduct.specs.Refused.{Accepted, BytesFit}
 use Rattle.conduct.specs.Filled.{LanesFit}
 
@@ -28,7 +28,7 @@ abbrev pub ReadBack : Type 0
 ReadBack =
     (m : Lent) (d : Device) (b b′ : Bill) (o v : ℕ) (p : Prices)
     → BytesFit m → v < 2 ^ 16 → o ≢ acknowledgeAt → Accepted m d b (write o v p)
-    → step m (step m d b (write o v p) .device) b′ (read o) .said ≡ answered (Answer.Value (keptBits o v))
+    → step m (step m d b (write o v p) .device) b′ (read o) .said ≡ Said.Answered (Answer.Value (keptBits o v))
 
 -- what each register shows of a device: its own part, the pending fault and its address, or zero
 unfoldable pub shownOf : Device → ℕ → ℕ
@@ -59,14 +59,14 @@ shownOf d o =
 
 abbrev pub ReadShown : Type 0
 ReadShown =
-    (m : Lent) (d : Device) (b : Bill) (o : ℕ) → Accepted m d b (read o) → step m d b (read o) .said ≡ answered (Answer.Value (shownOf d o))
+    (m : Lent) (d : Device) (b : Bill) (o : ℕ) → Accepted m d b (read o) → step m d b (read o) .said ≡ Said.Answered (Answer.Value (shownOf d o))
 
 -- a write of control with bit 0 clear makes any device in range fresh, leaves the bill and adds nothing to the meters
 pub record Resets (b : Bill) (s : Step) : Type 0 where
   pub device : s .device ≡ freshDevice
   pub bill : s .bill ≡ b
   pub tally : s .tally ≡ noTally
-  pub said : s .said ≡ answered Answer.Done
+  pub said : s .said ≡ Said.Answered Answer.Done
 
 abbrev pub ResetFresh : Type 0
 ResetFresh =

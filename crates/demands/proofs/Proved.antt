@@ -1,5 +1,5 @@
 -- The three demands hold. Assumes nothing.
-use Rattle.demands.specs.Demands.Names.{limit, _≡_, Bool, true, false, lentOk, mappings, meaning, isRefusal, Device, answered, step, after, asked, asks}
+use Rattle.demands.specs.Demands.Names.{limit, _≡_, Bool, true, false, lentOk, mappings, meaning, isRefusal, Device, Said, step, after, asked, asks}
 use Rattle.demands.proofs.Names.{refl, sym, _∙_, ap, subst, Uniform, started, lookIn, startControl, start-on, start-walking, range-kept}
 use Rattle.demands.proofs.Names.{image-translates, AsList}
 use mathlib.Core.Bool.{true≢false}
@@ -59,7 +59,7 @@ demand-2 = record {
 
 pub demand-3 : Demand3
 demand-3 rs base room len m v p b₀ cs b c va a r bytes acc standing on adm =
-    subst (λ (d : Device). asked (after m d cs) c ≡ asks va a → step m (after m d cs) b c .said ≡ answered r → isRefusal r ≡ false → AsList r (meaning (mappings rs) va a))
+    subst (λ (d : Device). asked (after m d cs) c ≡ asks va a → step m (after m d cs) b c .said ≡ Said.Answered r → isRefusal r ≡ false → AsList r (meaning (mappings rs) va a))
     (sym (start-is rs base room len acc m v p b₀ on))
     (by (lentOk m) refl)
   where
@@ -67,7 +67,7 @@ demand-3 rs base room len m v p b₀ cs b c va a r bytes acc standing on adm =
     never = cache-never-shows m (startControl v) base (start-on v) (start-walking v)
 
     by : (t : Bool) → lentOk m ≡ t → asked (after m (started (startControl v) base) cs) c ≡ asks va a →
-        step m (after m (started (startControl v) base) cs) b c .said ≡ answered r → isRefusal r ≡ false → AsList r (meaning (mappings rs) va a)
+        step m (after m (started (startControl v) base) cs) b c .said ≡ Said.Answered r → isRefusal r ≡ false → AsList r (meaning (mappings rs) va a)
     by true e q s f =
         let t = image-translates rs base room len m bytes acc e standing in
         let n = never (t .uniform) cs b c va a r adm q s f in

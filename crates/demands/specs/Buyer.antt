@@ -1,8 +1,8 @@
 -- Demand 3 in the buyer's order: build a list into a memory, lend that memory, start, call. And a session with list A.
-use Rattle.demands.specs.Demands.Names.{lockAt, virtual, physical, ℕ, _≡_, false, List, [], _∷_, replicate, PhysicalAddress, Lent, lent, f1, freshBill}
-use Rattle.demands.specs.Demands.Names.{mappings, meaning, Built, buildOf, Price, isRefusal, Access, VirtualAddress, Bill, Prices, Answer}
-use Rattle.demands.specs.Demands.Names.{Device, prefetchAt, acknowledgeAt, requestOf, Call, request, write, read, drop-fault, answered, step}
-use Rattle.demands.specs.Demands.Names.{BilledCall, after, Admitted, asked, asks, TurnsOn, start, Bytes, recordsA, baseA, _⊎_}
+use Rattle.demands.specs.Demands.Names.{lockAt, virtual, physical, ℕ, _≡_, false, List, [], _∷_, replicate, PhysicalAddress, Lent, lent, f1}
+use Rattle.demands.specs.Demands.Names.{freshBill, mappings, meaning, Built, buildOf, Price, isRefusal, Access, VirtualAddress, Bill, Prices}
+use Rattle.demands.specs.Demands.Names.{Answer, Device, prefetchAt, acknowledgeAt, requestOf, Call, request, write, read, drop-fault, Said}
+use Rattle.demands.specs.Demands.Names.{step, BilledCall, after, Admitted, asked, asks, TurnsOn, start, Bytes, recordsA, baseA, _⊎_}
 use Rattle.demands.specs.Demands.{AsList}
 use Rattle.demands.specs.Answering.{ValuesFit, Session}
 
@@ -22,7 +22,7 @@ BuiltThenCalled =
     TurnsOn v →
     Admitted cs →
     asked (after m (start m base v p b₀) cs) c ≡ asks va a →
-    step m (after m (start m base v p b₀) cs) b c .said ≡ answered r →
+    step m (after m (start m base v p b₀) cs) b c .said ≡ Said.Answered r →
     isRefusal r ≡ false →
     AsList r (meaning (mappings rs) va a)
 

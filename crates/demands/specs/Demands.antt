@@ -69,6 +69,6 @@ Demand3 =
     TurnsOn v →
     Admitted cs →
     asked (after m (start m base v p b₀) cs) c ≡ asks va a →
-    step m (after m (start m base v p b₀) cs) b c .said ≡ answered r →
+    step m (after m (start m base v p b₀) cs) b c .said ≡ Said.Answered r →
     isRefusal r ≡ false →
     AsList r (meaning (mappings rs) va a)

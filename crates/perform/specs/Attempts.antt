@@ -1,4 +1,5 @@
 -- What an attempt leaves: by the slot that matches, or by what the walk finds.
+-- Internal, for the code: the machine that is signed is unit/specs/Calls.antt and Machine.antt.
 use Rattle.perform.specs.Names.{ℕ, _<_, _≡_, Bool, true, false, List, pick, limit, madeWords, Access, PhysicalAddress, VirtualAddress}
 use Rattle.perform.specs.Names.{wordCount, noTally, Prices, attemptPosted, seenPosted, Bill, Seen, camLimit, camsOk, lookedUp, Matched, Fill}
 use Rattle.perform.specs.Names.{physicalOf, Found, Answer, Fault, Pending, plainly, byMatch, byAccess, settled, billed, Decision, Reason}

@@ -1,4 +1,5 @@
 -- A walk with the bill after its words (01, "The walk", "Meters and the walk bill").
+-- Internal, for the code: the machine that is signed is unit/specs/Calls.antt and Machine.antt.
 use Rattle.perform.specs.Names.{wordCount, Prices, Bill, readsPosted, Walked, Charged}
 
 -- what a walk finds, how many words it read, and the bill with them on it

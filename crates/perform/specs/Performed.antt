@@ -1,4 +1,5 @@
 -- What a plan leaves of a device's parts, and says (01, "The unit", "The walk", "Registers").
+-- Internal, for the code: the machine that is signed is unit/specs/Calls.antt and Machine.antt.
 use Rattle.perform.specs.Names.{ℕ, _<_, _≡_, _/_, _%_, List, true, false, limit, Access, VirtualAddress, Lent, wordCount, noTally, Tally}
 use Rattle.perform.specs.Names.{Prices, Bill, camLimit, camsOk, freshBank, entryFilled, lockedAt, bankFlushed, bankFlushedAt, loaded, copied}
 use Rattle.perform.specs.Names.{Bank, walkWithin, Walked, isOn, isWalking, freshRegisters, setting, withPrefetch, withCopied, wordsOf, entryOf}

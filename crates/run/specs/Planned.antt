@@ -1,5 +1,7 @@
 -- The plan of a call of a record, and the bench that a plan leaves.
-use Rattle.run.specs.Names.{ℕ, _≤_, _≡_, Bool, true, List, length, posted, Meters, Bill, Bank, commandOf, Pending, Registers, requestPlan, writePlan, readPlan, dropPlan, shiftPlan, Plan, Done, inRange, Call, allGood, Bench, Stepped}
+-- Internal, for the code: the machine that is signed is unit/specs/Calls.antt and Machine.antt.
+use Rattle.run.specs.Names.{ℕ, _≤_, _≡_, Bool, true, List, length, posted, Meters, Bill, Bank, commandOf, Pending, Registers, requestPlan}
+use Rattle.run.specs.Names.{writePlan, readPlan, dropPlan, shiftPlan, Plan, Done, inRange, Call, allGood, Bench, Stepped}
 use Rattle.run.specs.MayRun.{runSize}
 
 -- by what was tested: ok that the device is in range, l that the memories are not refused, x that prices and bill are not

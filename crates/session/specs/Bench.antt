@@ -16,16 +16,11 @@ use Rattle.session.specs.declared.Stepped.{Stepped}
 abbrev pub freshBench : Bench
 freshBench = record { device = freshDevice; bill = freshBill; meters = noMeters }
 
--- what the machine says
-abbrev pub saidOf : Machine.Said → Said
-saidOf (Machine.answered r) = Said.Answered r
-saidOf (Machine.reported s) = Said.Reported s
-
 -- a step of the machine, its tally posted to the meters
 abbrev pub made : Meters → Step → Stepped
 made t s = record {
   bench = record { device = s .device; bill = s .bill; meters = posted t (s .tally) };
-  said = saidOf (s .said);
+  said = s .said;
 }
 
 -- a call with its prices; a record that is none changes nothing

@@ -1,4 +1,5 @@
 -- A plan, done to a device: what it hands back, in parts and as each call hands it back.
+-- Internal, for the code: the machine that is signed is unit/specs/Calls.antt and Machine.antt.
 use Rattle.unit.specs.Names.{_≡_, Plan, Done, quietly, performed, Fit, Said, Acted, Lent, Bill, Prices, Answer, Shift, Device, Outcome, Told}
 
 abbrev pub doneActed : Acted → Done

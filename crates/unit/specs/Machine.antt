@@ -1,7 +1,8 @@
 -- The whole machine: any calls in any order, with the bill and the meters that they are posted to (01, demands 2 and 3).
 use Rattle.unit.specs.Names.{ℕ, List, [], _∷_, noTally, posted, Meters, answerNumber, shiftNumber, Access, VirtualAddress, Lent, Bill, Prices, Tally}
-use Rattle.unit.specs.Names.{Answer, Shift, Device, Outcome, Told}
+use Rattle.unit.specs.Names.{Device, Outcome, Told}
 use Rattle.unit.specs.Calls.{requestOf, writeOf, readOf, dropOf, shiftOf}
+pub use Rattle.decision.specs.declared.Said.{Said}
 
 -- a call; prices are given with each that may walk, save the shift report
 pub data Call : Type 0 where
@@ -11,15 +12,10 @@ pub data Call : Type 0 where
   drop-fault : Call
   shift : VirtualAddress → Call
 
--- what a call says
-pub data Said : Type 0 where
-  answered : Answer → Said
-  reported : Shift → Said
-
 -- the paper's number of what is said
 abbrev pub saidNumber : Said → ℕ
-saidNumber (answered r) = answerNumber r
-saidNumber (reported s) = shiftNumber s
+saidNumber (Said.Answered r) = answerNumber r
+saidNumber (Said.Reported s) = shiftNumber s
 
 -- what a call leaves and says
 pub record Step : Type 0 where
@@ -29,17 +25,17 @@ pub record Step : Type 0 where
   pub said : Said
 
 abbrev pub stepOut : Outcome → Step
-stepOut o = record { device = o .device; bill = o .bill; tally = o .tally; said = answered (o .answer) }
+stepOut o = record { device = o .device; bill = o .bill; tally = o .tally; said = Said.Answered (o .answer) }
 
 abbrev pub stepTold : Bill → Told → Step
-stepTold b t = record { device = t .device; bill = b; tally = noTally; said = answered (t .answer) }
+stepTold b t = record { device = t .device; bill = b; tally = noTally; said = Said.Answered (t .answer) }
 
 abbrev pub step : Lent → Device → Bill → Call → Step
 step m d b (request va a p) = stepOut (requestOf m p b d va a)
 step m d b (write o v p) = stepOut (writeOf m p b d o v)
 step m d b (read o) = stepTold b (readOf d o)
 step m d b drop-fault = stepTold b (dropOf d)
-step m d b (shift va) = record { device = d; bill = b; tally = noTally; said = reported (shiftOf m d va) }
+step m d b (shift va) = record { device = d; bill = b; tally = noTally; said = Said.Reported (shiftOf m d va) }
 
 -- a bench in the middle of a session
 pub record Bench : Type 0 where

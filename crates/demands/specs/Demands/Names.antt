@@ -33,7 +33,7 @@ unfoldable pub use Rattle.tables.specs.Tables.{imageLength}
 pub use Rattle.translates.specs.ListA.{baseA, recordsA}
 pub use Rattle.translates.specs.Statements.{Bytes, Standing}
 unfoldable pub use Rattle.unit.specs.Calls.{requestOf, writeOf}
-pub use Rattle.unit.specs.Machine.{Call, answered, drop-fault, read, request, step, write}
+pub use Rattle.unit.specs.Machine.{Call, Said, drop-fault, read, request, step, write}
 pub use Rattle.registers.specs.Offsets.{lockAt, acknowledgeAt, prefetchAt}
 pub use Rattle.unit.specs.Refusals.{Clear, First, Refusing}
 pub use Rattle.unit.specs.declared.Device.{Device}
