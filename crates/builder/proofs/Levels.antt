@@ -155,3 +155,10 @@ module _ (n : ℕ) (firsts : List ℕ) (l : Level n firsts) (m : Mapping) (lt : 
   coarse-room h =
       let w = own-words Second.Coarse m in
       omega (arith, inside .coarse h, words-coarse (m .kind) (m .at .0))
+
+-- one word more of a list, that are those of f
+pub words-more : (f : ℕ → ℕ) (ws : List ℕ) (k v : ℕ) → k < length ws → v ≡ f k → ((x : ℕ) → x < k → getD ws x 0 ≡ f x) → (x : ℕ) → x < k + 1 → getD (set ws k v) x 0 ≡ f x
+words-more f ws k v h e known x lt = elim (ℕ-discrete x k) [
+  | yes g ↦ ap (λ (i : ℕ). getD (set ws k v) i 0) g ∙ getD-set-same ws k v 0 h ∙ e ∙ ap f (sym g)
+  | no g ↦ getD-set-other ws k x v 0 g ∙ known x (omega arith)
+]

@@ -11,15 +11,12 @@ ghost use Rattle.builder.specs.Image.{written};
 ghost use Rattle.builder.specs.Parts.{Turned, Filled};
 ghost use Rattle.builder.specs.Places.{Firsts, based, Level};
 
-// The low 32 bits of a word, into a memory.
-fn put_word(out: &mut [u8], at: usize, w: u64)
-    requires { ⌜ at + 4 ≤ length (now out) ⌝ }
-    ensures { λ r. ⌜ now (out .exit) ≡ spliced (now (out .entry)) at (λ (_ : ℕ). w) 1 ⌝ }
+// Words that rise by a step, into a memory.
+fn write_run(out: &mut [u8], at: usize, n: usize, w: u64, d: u64)
+    requires { ⌜ at + 4 * n ≤ length (now out) ⌝ }
+    ensures { λ r. ⌜ now (out .exit) ≡ spliced (now (out .entry)) at (λ (y : ℕ). w + d * y) n ⌝ }
 {
-    out[at] = (w % 256) as u8;
-    out[at + 1] = (w / 256 % 256) as u8;
-    out[at + 2] = (w / 65536 % 256) as u8;
-    out[at + 3] = (w / 16777216 % 256) as u8;
+    wire::put_run(out, at, n, w, d);
 }
 
 // A number of zero words, into a memory.
@@ -27,23 +24,7 @@ fn write_zeros(out: &mut [u8], at: usize, n: usize)
     requires { ⌜ at + 4 * n ≤ length (now out) ⌝ }
     ensures { λ r. ⌜ now (out .exit) ≡ spliced (now (out .entry)) at (λ (_ : ℕ). 0) n ⌝ }
 {
-    let mut k = 0;
-    while k < n {
-        put_word(out, at + 4 * k, 0);
-        k += 1;
-    }
-}
-
-// Words that rise by a step, into a memory.
-fn write_run(out: &mut [u8], at: usize, n: usize, w: u64, d: u64)
-    requires { ⌜ (w < 2 ^ 33) × (d ≤ 4096) × (n ≤ 1024) × (at + 4 * n ≤ length (now out)) ⌝ }
-    ensures { λ r. ⌜ now (out .exit) ≡ spliced (now (out .entry)) at (λ (y : ℕ). w + d * y) n ⌝ }
-{
-    let mut y = 0;
-    while y < n {
-        put_word(out, at + 4 * y, w + d * y as u64);
-        y += 1;
-    }
+    write_run(out, at, n, 0, 0);
 }
 
 // The words of a mapping, into its megabyte's fine table, which begins at an offset.
@@ -99,11 +80,13 @@ fn write_first(base: u32, firsts: &[u32], out: &mut [u8])
     requires { ⌜ Level (length (now out)) (now firsts) ⌝ }
     ensures { λ r. ⌜ now (out .exit) ≡ spliced (now (out .entry)) 0 (λ (k : ℕ). based base (getD (now (firsts .entry)) k 0)) megabytes ⌝ }
 {
+    let mut words: [u32; 16] = [0; 16];
     let mut k = 0;
     while k < 16 {
-        put_word(out, 4 * k, based(base, firsts[k]));
+        words[k] = (based(base, firsts[k]) % 4294967296) as u32;
         k += 1;
     }
+    wire::put(out, 0, &words);
 }
 
 // The words of record j's mapping.
@@ -127,7 +110,13 @@ fn write_mapping(records: &[u8], firsts: &[u32], out: &mut [u8], j: usize)
         write_coarse(out, f - 1, m);
         return;
     }
-    put_word(out, 4 * mb as usize, tables::words::section_of(m) as u64);
+    write_run(
+        out,
+        4 * mb as usize,
+        1,
+        tables::words::section_of(m) as u64,
+        0,
+    );
 }
 
 // The words of all mappings, from the last to the first, over an image that has none.

@@ -11,5 +11,6 @@ pub use native.Mathlib.Numerals.{add-one}
 pub use native.Mathlib.Omega.{arith}
 pub use Rattle.page.proofs.Picks.{pick-no, pick-yes}
 pub use Rattle.page.specs.Ground.{_<_}
+unfoldable pub use Rattle.wire.specs.Spliced.{runPut, spliced}
 unfoldable pub use Rattle.wire.specs.Words.{bytesOf, placed, wordOf, wordsPut}
 pub use Rattle.wire.specs.Words.{wordBytes}

@@ -1,11 +1,14 @@
 -- Words written into a memory, by the byte. Assumes nothing.
 use Rattle.wire.specs.Names.{_≡_, List, [], _∷_, _++_, ℕ, zero, suc, _+_, _*_, _-_, _/_, _%_, _≤_, length, take, drop, getD}
 use Rattle.wire.proofs.Names.{refl, sym, ap, ap₂, _∙_, append-assoc, _<_, arith, decLe, add-one, length-append, length-drop, take-append-drop}
-use Rattle.wire.proofs.Names.{length-take-le, wordBytes}
+use Rattle.wire.proofs.Names.{length-take-le, le-leb, pick-yes, wordBytes, bytesOf, placed, wordsPut, spliced, runPut}
+use Rattle.wire.proofs.Placing.{written-fits}
+use mathlib.Core.List.{append-nil}
+use native.Mathlib.Nat.{mul-assoc, mul-comm, add-mul}
 use native.Mathlib.Numerals.{add-two, add-three}
 use lib.ListN.{set, List·getD-append}
 use lib.Seq.{sets-eq, getD-append-add, getD-take, getD-drop, ext-getD}
-use Rattle.wire.specs.Spliced.{bytesBy, spliced}
+use Rattle.wire.specs.Spliced.{bytesBy}
 
 -- byte i of the words of f
 abbrev pub byteOfWords : (ℕ → ℕ) → ℕ → ℕ
@@ -155,11 +158,6 @@ pub spliced-more : (l : List ℕ) (a k w : ℕ) (h : ℕ → ℕ) → a + 4 * (k
 spliced-more l a k w h fits e =
     spliced-join l a k 1 (λ (_ : ℕ). w) h fits (λ j c. e ∙ ap h (let s : k ≡ k + j = omega arith in s))
 
-pub spliced-next : (l : List ℕ) (k w : ℕ) (h : ℕ → ℕ) → 4 * (k + 1) ≤ length l → w ≡ h k → spliced (spliced l 0 h k) (4 * k) (λ (_ : ℕ). w) 1 ≡ spliced l 0 h (k + 1)
-spliced-next l k w h fits e =
-    ap (λ (a : ℕ). spliced (spliced l 0 h k) a (λ (_ : ℕ). w) 1) (let z : 4 * k ≡ 0 + 4 * k = omega arith in z)
-    ∙ spliced-more l 0 k w h (omega arith) e
-
 -- words that agree
 pub spliced-same : (l : List ℕ) (a k : ℕ) (f h : ℕ → ℕ) → a + 4 * k ≤ length l → ((j : ℕ) → j < k → f j ≡ h j) → spliced l a f k ≡ spliced l a h k
 spliced-same l a k f h fits e =
@@ -172,3 +170,65 @@ pub put-four : (l : List ℕ) (at a b c d : ℕ) → at + 4 ≤ length l
 put-four l at a b c d h =
     simp (add-one, add-two, add-three)
     (sets-eq (a ∷ b ∷ c ∷ d ∷ []) l at h ∙ append-assoc (take at l) (a ∷ b ∷ c ∷ d ∷ []) (drop (at + 4) l))
+
+-- a word is the low 32 bits of a number
+pub low-bytes : (x q : ℕ) → wordBytes (x + 4294967296 * q) ≡ wordBytes x
+low-bytes x q =
+    ap₂ (λ (a : ℕ) (l : List ℕ). a ∷ l) (omega arith)
+    (ap₂ (λ (a : ℕ) (l : List ℕ). a ∷ l) (omega arith)
+    (ap₂ (λ (a : ℕ) (l : List ℕ). a ∷ l) (omega arith)
+    (ap (λ (a : ℕ). a ∷ []) (omega arith))))
+
+pub rest-bytes : (x : ℕ) → wordBytes (x % 4294967296) ≡ wordBytes x
+rest-bytes x = sym (low-bytes (x % 4294967296) (x / 4294967296)) ∙ ap wordBytes (let e : x % 4294967296 + 4294967296 * (x / 4294967296) ≡ x = omega arith in e)
+
+-- so it is made of low 32 bits alone
+pub rise-bytes : (w d y : ℕ) → wordBytes (w % 4294967296 + d % 4294967296 * (y % 4294967296)) ≡ wordBytes (w + d * y)
+rise-bytes w d y =
+    let r : ℕ = d % 4294967296 in
+    let s : ℕ = y % 4294967296 in
+    let e : ℕ = d / 4294967296 in
+    let z : ℕ = y / 4294967296 in
+    let a : d * y ≡ r * y + 4294967296 * (e * y) =
+    ap (λ (k : ℕ). k * y) (let i : d ≡ r + 4294967296 * e = omega arith in i) ∙ add-mul r (4294967296 * e) y ∙ ap (λ (k : ℕ). r * y + k) (mul-assoc 4294967296 e y) in
+    let b : y * r ≡ s * r + 4294967296 * (z * r) =
+    ap (λ (k : ℕ). k * r) (let i : y ≡ s + 4294967296 * z = omega arith in i) ∙ add-mul s (4294967296 * z) r ∙ ap (λ (k : ℕ). s * r + k) (mul-assoc 4294967296 z r) in
+    sym (low-bytes (w % 4294967296 + r * s) (w / 4294967296 + e * y + z * r))
+    ∙ ap wordBytes (let i : w % 4294967296 + r * s + 4294967296 * (w / 4294967296 + e * y + z * r) ≡ w + d * y = omega (arith, mul-comm y r, mul-comm s r) in i)
+
+one-word : (l : List ℕ) (at w v : ℕ) → wordBytes w ≡ wordBytes v → placed l at (w ∷ []) ≡ spliced l at (λ (_ : ℕ). v) 1
+unfolding placed bytesOf spliced bytesBy
+one-word l at w v e = ap (λ (b : List ℕ). take at l ++ (b ++ drop (at + 4) l)) e
+
+-- one word, put behind k words of h
+pub one-more : (l m n : List ℕ) (a k w : ℕ) (h : ℕ → ℕ) → a + 4 * (k + 1) ≤ length l → wordBytes w ≡ wordBytes (h k) → m ≡ spliced l a h k → n ≡ placed m (a + 4 * k) (w ∷ [])
+    → n ≡ spliced l a h (k + 1)
+one-more l m n a k w h fits e p q = q ∙ ap (λ (o : List ℕ). placed o (a + 4 * k) (w ∷ [])) p ∙ one-word (spliced l a h k) (a + 4 * k) w (h k) e ∙ spliced-more l a k (h k) h fits refl
+
+-- words that have room
+pub run-fits : (l : List ℕ) (at n w d : ℕ) → at + 4 * n ≤ length l → runPut l at n w d ≡ spliced l at (λ (y : ℕ). w + d * y) n
+unfolding runPut
+run-fits l at n w d h = pick-yes _ _ _ (le-leb _ _ h)
+
+-- words that do not rise are alike
+pub run-level : (l : List ℕ) (at n w : ℕ) → at + 4 * n ≤ length l → spliced l at (λ (y : ℕ). w + 0 * y) n ≡ spliced l at (λ (_ : ℕ). w) n
+run-level l at n w h = spliced-same l at n (λ (y : ℕ). w + 0 * y) (λ (_ : ℕ). w) h (λ j c. omega arith)
+
+-- words of a list, that are those of f
+list-bytes : (f : ℕ → ℕ) (k : ℕ) (ws : List ℕ) → ((j : ℕ) → j < length ws → wordBytes (getD ws j 0) ≡ wordBytes (f (k + j))) → bytesBy f k ++ bytesOf ws ≡ bytesBy f (k + length ws)
+unfolding bytesBy bytesOf
+list-bytes f k [] e = append-nil (bytesBy f k) ∙ ap (bytesBy f) (let i : k ≡ k + 0 = omega arith in i)
+list-bytes f k (w ∷ ws) e =
+    sym (append-assoc (bytesBy f k) (wordBytes w) (bytesOf ws))
+    ∙ ap (λ (b : List ℕ). (bytesBy f k ++ b) ++ bytesOf ws) (e 0 (omega arith) ∙ ap (λ (i : ℕ). wordBytes (f i)) (let i : k + 0 ≡ k = omega arith in i))
+    ∙ list-bytes f (suc k) ws (λ j h. e (suc j) (omega arith) ∙ ap (λ (i : ℕ). wordBytes (f i)) (let i : k + suc j ≡ suc k + j = omega arith in i))
+    ∙ ap (bytesBy f) (let i : suc k + length ws ≡ k + suc (length ws) = omega arith in i)
+
+pub words-fit : (l : List ℕ) (at n : ℕ) (ws : List ℕ) (f : ℕ → ℕ) → length ws ≡ n → at + 4 * n ≤ length l → ((j : ℕ) → j < n → wordBytes (getD ws j 0) ≡ wordBytes (f j))
+    → wordsPut l at ws ≡ spliced l at f n
+unfolding placed spliced bytesBy
+words-fit l at n ws f c h e =
+    written-fits l at ws (omega arith)
+    ∙ ap (λ (b : List ℕ). take at l ++ (b ++ drop (at + 4 * length ws) l)) (list-bytes f 0 ws (λ j g. e j (omega arith) ∙ ap (λ (i : ℕ). wordBytes (f i)) (let i : j ≡ 0 + j = omega arith in i)))
+    ∙ ap (λ (k : ℕ). take at l ++ (bytesBy f k ++ drop (at + 4 * length ws) l)) (let i : 0 + length ws ≡ n = omega arith in i)
+    ∙ ap (λ (k : ℕ). take at l ++ (bytesBy f n ++ drop (at + 4 * k) l)) c

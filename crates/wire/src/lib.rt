@@ -1,7 +1,8 @@
 // Numbers as little-endian bytes: words put into a buffer and read from one.
-ghost use Rattle.wire.specs.Names.{_≡_, [], _∷_, _+_, _*_, _≤_, leb, length, getD};
+ghost use Rattle.wire.specs.Names.{_≡_, ℕ, [], _∷_, _+_, _*_, _≤_, leb, length, getD};
 ghost use Rattle.wire.specs.Words.{littleEndian, wordOf, placed, wordsPut, halves, swapped, wordAt, lowAt, highAt};
 ghost use Rattle.wire.specs.Signed.{twos};
+ghost use Rattle.wire.specs.Spliced.{spliced, runPut};
 
 // Four bytes as a number, little-endian.
 pub fn word(a: u8, b: u8, c: u8, d: u8) -> u32
@@ -44,8 +45,8 @@ pub fn room(len: usize, at: usize, n: usize) -> bool
     n <= (len - at) / 4
 }
 
-// One word, at an offset.
-fn put_word(out: &mut [u8], at: usize, w: u32)
+// The low 32 bits of a number, at an offset.
+fn put_word(out: &mut [u8], at: usize, w: u64)
     requires { ⌜ at + 4 ≤ length (now out) ⌝ }
     ensures { λ _. ⌜ now (out .exit) ≡ placed (now (out .entry)) at (w ∷ []) ⌝ }
 {
@@ -63,7 +64,7 @@ fn put_all(out: &mut [u8], at: usize, words: &[u32])
     let n = words.len();
     let mut i: usize = 0;
     while i < n {
-        put_word(out, at + 4 * i, words[i]);
+        put_word(out, at + 4 * i, words[i] as u64);
         i += 1;
     }
 }
@@ -74,6 +75,31 @@ pub fn put(out: &mut [u8], at: usize, words: &[u32])
 {
     if room(out.len(), at, words.len()) {
         put_all(out, at, words);
+    }
+}
+
+// Words that rise by a step and have room, from an offset on: the low 32 bits of each number.
+fn put_rise(out: &mut [u8], at: usize, n: usize, w: u64, d: u64)
+    requires { ⌜ at + 4 * n ≤ length (now out) ⌝ }
+    ensures { λ _. ⌜ now (out .exit) ≡ spliced (now (out .entry)) at (λ (y : ℕ). w + d * y) n ⌝ }
+{
+    let mut y: usize = 0;
+    while y < n {
+        put_word(
+            out,
+            at + 4 * y,
+            w % 4294967296 + d % 4294967296 * (y as u64 % 4294967296),
+        );
+        y += 1;
+    }
+}
+
+// Words that rise by a step, from an offset on, where they have room.
+pub fn put_run(out: &mut [u8], at: usize, n: usize, w: u64, d: u64)
+    ensures { λ _. ⌜ now (out .exit) ≡ runPut (now (out .entry)) at n w d ⌝ }
+{
+    if room(out.len(), at, n) {
+        put_rise(out, at, n, w, d);
     }
 }
 

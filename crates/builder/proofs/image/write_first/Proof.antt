@@ -1,33 +1,38 @@
-use Rattle.builder.specs.Names.{_≡_, List, ℕ, _*_, _≤_, _-_, length, getD, megabytes, spliced}
-use Rattle.builder.proofs.Names.{refl, sym, ap, _∙_, arith, based, spliced-none}
-use Rattle.wire.proofs.Splices.{spliced-next}
+use Rattle.builder.specs.Names.{_≡_, ℕ, _%_, _<_, _≤_, _-_, length, getD, megabytes}
+use Rattle.builder.proofs.Names.{refl, ap, _∙_, arith, needs, length-set, based}
+use Rattle.builder.proofs.Levels.{words-more}
+use Rattle.wire.specs.Words.{wordBytes}
+use Rattle.wire.proofs.Splices.{rest-bytes, words-fit}
 use Rattle.builder.proofs.image.write_first.Statement.{statement}
 use Rattle.builder.proofs.image.write_first.Tie as tie
 
 abbrev Inv-loop : tie.InvT-loop
-Inv-loop base firsts out₀ k₀ out k =
-    (k ≤ megabytes) × (length out ≡ length out₀) × (out ≡ spliced out₀ 0 (λ (x : ℕ). based base (getD firsts x 0)) k)
+Inv-loop base firsts out words₀ k₀ words k =
+    (k ≤ megabytes) × (length words ≡ megabytes) × ((x : ℕ) → x < k → getD words x 0 ≡ based base (getD firsts x 0) % 4294967296)
 
 abbrev μ-loop : tie.MeasureT-loop
-μ-loop base firsts out₀ k₀ out k = megabytes - k
+μ-loop base firsts out words₀ k₀ words k = megabytes - k
 
 loop-holds : tie.Need-loop-holds Inv-loop μ-loop
-loop-holds c = (omega arith, refl, sym (spliced-none _ _ _))
-
-mul-put-word : tie.Need-mul-put-word Inv-loop μ-loop
-mul-put-word c = omega arith
+loop-holds c = (omega arith, refl, λ x h. absurd (omega arith))
 
 mul-based : tie.Need-mul-based Inv-loop μ-loop
 mul-based c = omega arith
 
 shared-slice-read-based : tie.Need-shared-slice-read-based Inv-loop μ-loop
-shared-slice-read-based c = omega (arith, c .before .before .before .before .before .before .pre .words)
+shared-slice-read-based c = omega (arith, c .before .before .before .before .before .pre .words)
 
 based-requires : tie.Need-based-requires Inv-loop μ-loop
 based-requires c κs = tt
 
-put-word-requires : tie.Need-put-word-requires Inv-loop μ-loop
-put-word-requires c κs = omega (arith, c .before .before .before .before .before .before .before .pre .room, c .before .before .before .before .loop .inv .1)
+cast-words : tie.Need-cast-words Inv-loop μ-loop
+cast-words c = search needs
+
+mul-words : tie.Need-mul-words Inv-loop μ-loop
+mul-words c = omega arith
+
+array-write-words : tie.Need-array-write-words Inv-loop μ-loop
+array-write-words c = search needs
 
 add-k : tie.Need-add-k Inv-loop μ-loop
 add-k c = omega arith
@@ -37,29 +42,31 @@ loop-less c = omega arith
 
 loop-again : tie.Need-loop-again Inv-loop μ-loop
 loop-again c =
-    let s2 = c .before .before in
-    let s3 = s2 .before in
-    let s7 = s3 .before .before .before .before in
-    let s10 = s7 .before .before .before in
-    let p = s2 .put-word in
-    let b = s3 .based in
-    let l = s7 .loop in
-    let a = s10 .args in (
+    let l = c .before .before .before .loop in
+    let a = c .before .before .before .before .before .before .args in (
       omega arith,
-      p .kept .0 ∙ l .inv .1,
-      p .ensures
-          ∙ ap (λ (d : List ℕ). spliced d (4 * l .k) (λ (_ : ℕ). b .result) 1) (l .inv .2)
-          ∙ spliced-next (a .out .now) (l .k) (b .result) (λ (x : ℕ). based (a .base) (getD (a .firsts .now) x 0)) (omega (arith, s10 .pre .room)) (b .ensures),
+      simp length-set (l .inv .1),
+      words-more (λ (x : ℕ). based (a .base) (getD (a .firsts .now) x 0) % 4294967296) (l .words) (l .k) _ (omega arith)
+          (ap (λ (x : ℕ). x % 4294967296) (c .based .ensures)) (l .inv .2),
     )
 
+slice-aggregate-put : tie.Need-slice-aggregate-put Inv-loop μ-loop
+slice-aggregate-put c = search needs
+
+put-requires : tie.Need-put-requires Inv-loop μ-loop
+put-requires c κs = tt
+
 same-length : tie.Need-same-length Inv-loop μ-loop
-same-length c = c .before .loop .inv .1
+same-length c = search needs
 
 returns : tie.Need-returns Inv-loop μ-loop
 returns c =
-    let s4 = c .before .before .before .before in
-    let l = c .before .loop in
-    l .inv .2 ∙ ap (spliced (s4 .args .out .now) 0 (λ (x : ℕ). based (s4 .args .base) (getD (s4 .args .firsts .now) x 0))) (let e : l .k ≡ megabytes = omega arith in e)
+    let a = c .before .before .before .before .before .before .before .before .before .args in
+    let pre = c .before .before .before .before .before .before .before .before .before .pre in
+    let l = c .before .before .before .before .before .before .loop in
+    c .before .before .put .ensures
+    ∙ words-fit (a .out .now) 0 megabytes (l .words) (λ (x : ℕ). based (a .base) (getD (a .firsts .now) x 0)) (l .inv .1) (omega (arith, pre .room))
+    (λ j h. ap wordBytes (l .inv .2 j (omega (arith, c .before .before .before .before .before .loop-test .left))) ∙ rest-bytes (based (a .base) (getD (a .firsts .now) j 0)))
 
 pub write-first-spec : {M : Type 1} → statement M
 write-first-spec =
@@ -68,13 +75,16 @@ write-first-spec =
     Inv-loop
     μ-loop
     loop-holds
-    mul-put-word
     mul-based
     shared-slice-read-based
     based-requires
-    put-word-requires
+    cast-words
+    mul-words
+    array-write-words
     add-k
     loop-less
     loop-again
+    slice-aggregate-put
+    put-requires
     same-length
     returns)

@@ -1,5 +1,5 @@
 use Rattle.builder.specs.Names.{_/_, _^_, megabytes, mappings, Second, tableOf, tableStart}
-use Rattle.builder.proofs.Names.{refl, arith, needs}
+use Rattle.builder.proofs.Names.{refl, _∙_, arith, needs, run-level}
 use Rattle.builder.proofs.Levels.{start-even, names-fine, names-coarse, names-none, fine-room, coarse-room}
 use Rattle.builder.proofs.Parts.{mapping-past, mapping-section, mapping-page}
 use Rattle.builder.proofs.image.write_mapping.Statement.{statement}
@@ -73,20 +73,20 @@ returns-3 c known room =
     mapping-page ms (a .args .j) (m .result) (m .ensures) (a .pre .1) (a .args .out .now) room mb lt refl Second.Coarse (n .0) _ (c .before .before .write-coarse .last .0) (n .1) (λ z. omega arith)
     (c .before .before .write-coarse .ensures)
 
-cast-put-word : tie.Need-cast-put-word
-cast-put-word c = search needs
+cast-write-run : tie.Need-cast-write-run
+cast-write-run c = search needs
 
-mul-put-word : tie.Need-mul-put-word
-mul-put-word c = search needs
+mul-write-run : tie.Need-mul-write-run
+mul-write-run c = search needs
 
 section-of-requires : tie.Need-section-of-requires
 section-of-requires c κs = search needs
 
-cast-put-word-2 : tie.Need-cast-put-word-2
-cast-put-word-2 c = search needs
+cast-write-run-2 : tie.Need-cast-write-run-2
+cast-write-run-2 c = search needs
 
-put-word-requires : tie.Need-put-word-requires
-put-word-requires c κs = search needs
+write-run-requires : tie.Need-write-run-requires
+write-run-requires c κs = search needs
 
 same-length-3 : tie.Need-same-length-3
 same-length-3 c = search needs
@@ -107,7 +107,8 @@ returns-4 c known room =
     let mb = m .result .at .0 / 2 ^ 20 in
     mapping-section ms (a .args .j) (m .result) (m .ensures) (a .pre .1) (a .args .out .now) room mb lt refl Second.Absent
     (names-none (tableOf ms mb) (tableStart megabytes ms mb) _ (start-even ms mb) (known mb lt) (s6 .if2 .left) (s5 .if3 .left))
-    (s3 .section-of .result) (s2 .put-word .last .0) (s3 .section-of .ensures) refl (s2 .put-word .ensures)
+    (s3 .section-of .result) (s2 .write-run .last .0) (s3 .section-of .ensures) refl
+    (s2 .write-run .ensures ∙ run-level _ _ _ _ (omega (arith, a .pre .0 .room)))
 
 pub write-mapping-spec : {M : Type 1} → statement M
 write-mapping-spec =
@@ -127,10 +128,10 @@ write-mapping-spec =
     write-coarse-requires
     same-length-2
     returns-3
-    cast-put-word
-    mul-put-word
+    cast-write-run
+    mul-write-run
     section-of-requires
-    cast-put-word-2
-    put-word-requires
+    cast-write-run-2
+    write-run-requires
     same-length-3
     returns-4)
