@@ -20,4 +20,3 @@ pub use Rattle.registers.specs.Offsets.{acknowledgeAt, baseHighAt, baseLowAt, c
 pub use Rattle.unit.specs.declared.Device.{Device}
 pub use Rattle.walk.specs.Distances.{isMissing}
 pub use Rattle.walk.specs.Uniform.{Look}
-pub use Rattle.walk.specs.Walk.{walkIn}

@@ -36,7 +36,6 @@ pub use Rattle.unit.proofs.Refusing.{clear-goes-on, refuses-by}
 pub use Rattle.unit.specs.Calls.{carried, prefetched, retried}
 unfoldable pub use Rattle.unit.specs.Calls.{dropOf, isMalformed, isUntimely, lacks, readOf, requestOf, shiftOf, writeLacks, writeOf}
 pub use Rattle.unit.specs.Device.{attemptOf, decidedBy, refusedWith, setBank, told, toldRefused}
-pub use Rattle.unit.specs.Names.{Fill, Seen}
 unfoldable pub use Rattle.unit.specs.Refusals.{refuses}
 unfoldable pub use Rattle.walk.specs.Descriptors.{firstOf}
 pub use Rattle.walk.specs.Distances.{isMissing}

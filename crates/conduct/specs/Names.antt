@@ -1,6 +1,6 @@
 -- The types that the theorems speak of. Others take them from here.
 pub use Rattle.unit.specs.Names.{Access, VirtualAddress, PhysicalAddress, Words, Lent, lentOk, Reads, Page, Found, Walked, Tally, Bill, Prices, Seen}
-pub use Rattle.unit.specs.Names.{Bank, Fill, Matched, Fault, Pending, Answer, Decision, Shift, Entry, Registers, Setting, Tending, Command}
+pub use Rattle.unit.specs.Names.{Bank, Fill, Matched, Fault, Pending, Answer, Decision, Shift, Setting, Tending, Command}
 pub use Rattle.unit.specs.declared.Device.{Device}
 pub use Rattle.unit.specs.declared.Outcome.{Outcome}
 pub use Rattle.unit.specs.declared.Told.{Told}

@@ -4,5 +4,3 @@ pub use mathlib.Core.Path.{_∙_, ap, sym}
 unfoldable pub use Rattle.decision.specs.Decisions.{byAccess}
 pub use Rattle.decision.specs.Decisions.{plainly}
 pub use Rattle.page.proofs.Picks.{pick-no, pick-yes}
-pub use Rattle.page.specs.declared.PhysicalAddress.{PhysicalAddress}
-pub use Rattle.registers.specs.declared.Answer.{Answer}

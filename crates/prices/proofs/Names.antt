@@ -1,7 +1,7 @@
 -- What the proofs of this crate are written with.
 pub use borrow.Author.Needs.{needs}
 pub use borrow.Author.Tests.{eq-eqb, ne-eqb}
-pub use lib.Ieee.{Float, fin}
+pub use lib.Ieee.{fin}
 pub use lib.IntN.{pos}
 pub use mathlib.Core.Bool.{_&&_}
 pub use mathlib.Core.Path.{_∙_, ap, ap₂, refl, sym}

@@ -15,7 +15,6 @@ pub use Rattle.records.specs.declared.Held.{Held}
 pub use Rattle.records.specs.declared.Mapping.{Mapping}
 unfoldable pub use Rattle.tables.specs.Tables.{imageLength}
 pub use Rattle.walk.specs.Descriptors.{physicalOf}
-pub use Rattle.walk.specs.Uniform.{Look, Uniform}
-pub use Rattle.walk.specs.Walk.{walkIn}
+pub use Rattle.walk.specs.Uniform.{Uniform}
 pub use Rattle.walk.specs.declared.Found.{Found}
 pub use Rattle.walk.specs.declared.Page.{Page}
