@@ -37,6 +37,15 @@ static void put_call(uint8_t *at, uint8_t kind, uint8_t second, uint32_t address
     put(at + 8, value, 4);
 }
 
+/* Ends a call's line with where its word came from, if it walked. */
+static void print_from(uint32_t from) {
+    if (from != NX_FROM_NOWHERE) {
+        const char *memory = NX_FROM_MEMORY(from) == NX_FROM_ON_CHIP ? "on-chip" : "external";
+        printf(", from %s offset %" PRIX32, memory, NX_FROM_OFFSET(from));
+    }
+    printf("\n");
+}
+
 int main(void) {
     static uint8_t records[3 * 12], memory[8192], external[4], calls[CALLS * NX_CALL_BYTES];
     static uint8_t out[CALLS * NX_ANSWER_BYTES + NX_STATE_BYTES];
@@ -67,7 +76,8 @@ int main(void) {
     }
     for (int i = 0; i < CALLS; i++) {
         const uint8_t *answer = out + i * NX_ANSWER_BYTES;
-        printf("call %d: %" PRIu64 " %" PRIX64 "\n", i, get(answer, 4), get(answer + 8, 8));
+        printf("call %d: %" PRIu64 " %" PRIX64, i, get(answer, 4), get(answer + 8, 8));
+        print_from((uint32_t)get(answer + 4, 4));
     }
     const uint8_t *meters = out + CALLS * NX_ANSWER_BYTES + 292;
     printf("fresh %" PRIu64 ", retries %" PRIu64 ", words %" PRIu64 "\n", get(meters, 4), get(meters + 4, 4), get(meters + 8, 4));

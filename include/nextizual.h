@@ -26,13 +26,21 @@ extern "C" {
 #define NX_FOR_READING 0 /* the accesses of a request */
 #define NX_FOR_WRITING 1
 
-/* An answer, 16 bytes: number (4), four zero bytes, value (8, two's complement, 0 where there is none). The number is 0 where
- * the call was accepted and has nothing to say, 1 to 12 where it was refused, 21 to 24 for a fault (translation, miss,
- * permission, prefetch), or one of these: */
+/* An answer, 16 bytes: number (4), where its word came from (4), value (8, two's complement, 0 where there is none). The
+ * number is 0 where the call was accepted and has nothing to say, 1 to 12 where it was refused, 21 to 24 for a fault
+ * (translation, miss, permission, prefetch), or one of these: */
 #define NX_ANSWER_BYTES 16
 #define NX_ADDRESS 100  /* the value is a physical address */
 #define NX_VALUE 101    /* the value is what a register shows */
 #define NX_DISTANCE 102 /* the value is physical minus virtual */
+
+/* Where the word came from: memory * 2^28 + offset in that memory of the last word that the call's walk read, also where the
+ * answer is a fault; 0 where the call made no walk or was refused. Requests, retries, prefetches and shift reports walk. */
+#define NX_FROM_NOWHERE 0
+#define NX_FROM_ON_CHIP 1 /* the memories */
+#define NX_FROM_EXTERNAL 2
+#define NX_FROM_MEMORY(from) ((from) >> 28)
+#define NX_FROM_OFFSET(from) ((from) & 0x0FFFFFFF)
 
 /* The state of a bench, 328 bytes:
  *     0  prefetch, control (2 each); base (4); lock base, victim (2 each); CAM high, CAM low, RAM high, RAM low (2 each), and
@@ -78,7 +86,8 @@ uint64_t nx_from(const uint8_t *state, size_t state_len, double total, double mi
                  uint8_t *out, size_t out_len);
 
 /* The four bytes at a physical address, as memory * 2^60 + offset * 2^32 + word, memory 1 being the on-chip and 2 the
- * external one; 0 where neither holds all four, or the memories are such as refusal 4 names. */
+ * external one: above the word it is what an answer says of where its word came from. 0 where neither memory holds all
+ * four, or the memories are such as refusal 4 names. */
 uint64_t nx_fetch(const uint8_t *on_chip, size_t on_chip_len, uint32_t on_chip_base,
                   const uint8_t *external, size_t external_len, uint32_t external_base,
                   uint32_t address);

@@ -1,8 +1,11 @@
-//! "When the unit says no": answers and their numbers.
+//! "When the unit says no": answers and their numbers, and what stands beside one.
 
-/// Refusals 1 to 12. A refused call changes nothing at all.
+use crate::memory::Place;
+
+/// Refusals 1 to 12. A refused call changes nothing at all. They and the faults
+/// are as wide as an address: every outcome then has one layout, quick to hand over.
 #[derive(Clone, Copy, PartialEq, Eq, Debug)]
-#[repr(u8)]
+#[repr(u32)]
 pub enum Refusal {
     /// A virtual address of 2^24 or more.
     Address = 1,
@@ -32,7 +35,7 @@ pub enum Refusal {
 
 /// Faults 21 to 24. They are answers, and leave a pending fault behind.
 #[derive(Clone, Copy, PartialEq, Eq, Debug)]
-#[repr(u8)]
+#[repr(u32)]
 pub enum Fault {
     Translation = 21,
     Miss = 22,
@@ -44,7 +47,7 @@ impl Fault {
     /// The bit of the fault status register (Table 9).
     #[inline]
     pub const fn status(self) -> u8 {
-        1 << (self as u8 - Fault::Translation as u8)
+        1 << (self as u32 - Fault::Translation as u32)
     }
 
     /// The fault of a status register's value, where it is exactly one bit.
@@ -98,12 +101,44 @@ impl Answer {
             Answer::Done | Answer::Refused(_) | Answer::Faulted(_) => 0,
         }
     }
+
+    /// The reply of a call whose walk ended at that place.
+    #[inline]
+    pub const fn beside(self, place: Place) -> Reply {
+        Reply { answer: self, from: Some(place) }
+    }
 }
 
 impl From<Refusal> for Answer {
     #[inline]
     fn from(refusal: Refusal) -> Answer {
         Answer::Refused(refusal)
+    }
+}
+
+/// What a call that may walk says: its answer, and beside it where the last word
+/// of its walk came from (P6); none where it made no walk or is refused.
+#[derive(Clone, Copy, PartialEq, Eq, Debug)]
+pub struct Reply {
+    pub answer: Answer,
+    pub from: Option<Place>,
+}
+
+/// The reply of a call that made no walk.
+impl From<Answer> for Reply {
+    #[inline]
+    fn from(answer: Answer) -> Reply {
+        Reply { answer, from: None }
+    }
+}
+
+/// The reply of a refused call. Calls are seldom refused: `cold` keeps this out
+/// of the way of the others.
+impl From<Refusal> for Reply {
+    #[cold]
+    #[inline]
+    fn from(refusal: Refusal) -> Reply {
+        Answer::from(refusal).into()
     }
 }
 

@@ -1,10 +1,10 @@
 //! The byte boundary: build, run, from and fetch over byte slices. All numbers
 //! are little-endian.
 
-use crate::answer::{Answer, Fault};
+use crate::answer::{Fault, Reply};
 use crate::bill::{Bill, Price, Prices};
 use crate::builder::{self, Refused};
-use crate::memory::{Memories, Role};
+use crate::memory::{Memories, Place};
 use crate::meters::Meters;
 use crate::slots::SLOTS;
 use crate::unit::{Books, Image, Lent, Pending, Unit};
@@ -21,6 +21,10 @@ pub const READ: u8 = 2;
 pub const REQUEST: u8 = 3;
 pub const DROP: u8 = 4;
 pub const SHIFT: u8 = 5;
+
+/// Where things are in an answer, behind its number.
+pub const FROM_AT: usize = 4;
+pub const VALUE_AT: usize = 8;
 
 /// Where things are in a state.
 pub const SLOTS_AT: usize = 28;
@@ -122,16 +126,9 @@ pub fn build(records: &[u8], base: u32, memory: &mut [u8]) -> u64 {
 
 /// Memory * 2^60 + offset * 2^32 + word; 0 where the four bytes are nowhere.
 pub fn fetch(lending: &Lending, address: u32) -> u64 {
-    let memories = lending.memories();
-    match memories.word(address) {
+    match lending.memories().word(address) {
         None => 0,
-        Some((role, word)) => {
-            let memory = match role {
-                Role::OnChip => 1,
-                Role::External => 2,
-            };
-            memory << 60 | u64::from(memories.offset(role, address)) << 32 | u64::from(word)
-        }
+        Some((place, word)) => u64::from(place.number()) << 32 | u64::from(word),
     }
 }
 
@@ -171,7 +168,7 @@ pub fn from(
         // A device out of range: every call answers 8 and changes nothing.
         Err(refusal) => {
             for out in answers.chunks_exact_mut(ANSWER) {
-                say(Answer::Refused(refusal), out);
+                say(refusal, out);
             }
             encode(&image, &books, state);
         }
@@ -222,21 +219,24 @@ fn play(unit: &mut Unit, books: &mut Books, lent: &Lent, calls: &[u8], answers: 
     for (call, out) in calls.chunks_exact(CALL).zip(answers.chunks_exact_mut(ANSWER)) {
         let address = word(call, 4);
         let offset = u32::from(call[1]);
-        let answer = match call[0] {
-            REQUEST => unit.request(lent, books, address, Access::from_byte(call[1])),
-            WRITE => unit.write(lent, books, offset, half(call, 8)),
-            READ => unit.read(offset),
-            DROP => unit.drop_fault(),
-            _ => unit.shift_report(&lent.memories, address),
-        };
-        say(answer, out);
+        match call[0] {
+            REQUEST => say(unit.request(lent, books, address, Access::from_byte(call[1])), out),
+            WRITE => say(unit.write(lent, books, offset, half(call, 8)), out),
+            READ => say(unit.read(offset), out),
+            DROP => say(unit.drop_fault(), out),
+            _ => say(unit.shift_report(&lent.memories, address), out),
+        }
     }
 }
 
+/// Number, where the last word of the walk came from (0: no walk), value.
 #[inline]
-fn say(answer: Answer, out: &mut [u8]) {
-    out[..8].copy_from_slice(&u64::from(answer.number()).to_le_bytes());
-    out[8..16].copy_from_slice(&answer.value().to_le_bytes());
+fn say(reply: impl Into<Reply>, out: &mut [u8]) {
+    let Reply { answer, from } = reply.into();
+    let from = from.map_or(0, Place::number);
+    out[..FROM_AT].copy_from_slice(&answer.number().to_le_bytes());
+    out[FROM_AT..VALUE_AT].copy_from_slice(&from.to_le_bytes());
+    out[VALUE_AT..ANSWER].copy_from_slice(&answer.value().to_le_bytes());
 }
 
 #[inline]

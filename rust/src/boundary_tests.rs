@@ -89,6 +89,48 @@ fn answers_and_state_to_the_byte() {
 }
 
 #[test]
+fn answers_say_where_the_word_came_from() {
+    // First level at 20000080, the on-chip memory's start: word 0 is no page,
+    // word 1 a section, word 2 a coarse table 10 hex into the external memory.
+    let mut on = [0; 64];
+    on[4..8].copy_from_slice(&0x5550_0C02_u32.to_le_bytes());
+    on[8..12].copy_from_slice(&0x1000_0401_u32.to_le_bytes());
+    let mut external = [0; 0x410];
+    external[0x4C..0x50].copy_from_slice(&0x7777_0031_u32.to_le_bytes());
+    let lending = Lending {
+        on: &on,
+        on_base: 0x2000_0080,
+        external: &external,
+        external_base: 0x1000_03F0,
+        ..NOTHING
+    };
+    let rows: [([u8; 12], u32, u32, u64); 14] = [
+        (call(WRITE, 0x1C, 0, 0x2000), 0, 0, 0),
+        (call(WRITE, 0x20, 0, 0x0080), 0, 0, 0),
+        (call(WRITE, 0x08, 0, 7), 0, 0, 0),
+        (call(REQUEST, 0, 0, 0), 21, 0x1000_0000, 0),
+        (call(REQUEST, 0, 0, 0), 2, 0, 0),
+        (call(SHIFT, 0, 0x10_0000, 0), 102, 0x1000_0004, 0x5540_0000),
+        (call(DROP, 0, 0, 0), 0, 0, 0),
+        (call(REQUEST, 1, 0x1A_BCDE, 0), 100, 0x1000_0004, 0x555A_BCDE),
+        (call(REQUEST, 1, 0x1A_BCDE, 0), 100, 0, 0x555A_BCDE),
+        (call(REQUEST, 0, 0x20_F123, 0), 100, 0x2000_004C, 0x7777_F123),
+        (call(WRITE, 0x00, 0, 0x0900), 24, 0x2000_0110, 0),
+        (call(WRITE, 0x18, 0, 1), 0, 0, 0),
+        (call(READ, 0x00, 0, 0), 101, 0, 0x0900),
+        (call(REQUEST, 0, 0x100_0000, 0), 1, 0, 0),
+    ];
+    let calls: Vec<u8> = rows.iter().flat_map(|row| row.0).collect();
+    let mut out = vec![0xAA; rows.len() * ANSWER + STATE];
+    assert_eq!(run(&lending, &calls, &mut out), out.len() as u64);
+    for ((call, number, from, value), answer) in rows.into_iter().zip(out.chunks(ANSWER)) {
+        assert_eq!(answer[..4], number.to_le_bytes(), "{call:02x?}");
+        assert_eq!(answer[4..8], from.to_le_bytes(), "{call:02x?}");
+        assert_eq!(answer[8..], value.to_le_bytes(), "{call:02x?}");
+    }
+}
+
+#[test]
 fn lists_that_are_not_as_said() {
     let good = call(REQUEST, 1, 0, 0);
     let refused = |calls: &[u8]| {

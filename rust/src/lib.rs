@@ -1,8 +1,10 @@
 //! A second program for the memory unit of a DSP and for the builder of its
-//! address tables, written from the scope paper (01) and its sources alone.
+//! address tables, written from the scope paper (01), its sources and the
+//! requests (02) alone.
 //!
 //! It is an oracle for differential tests and a yardstick for speed. Section
-//! names in the comments are those of paper 01; tables are those of source 000.
+//! names in the comments are those of paper 01; tables are those of source 000;
+//! P6 is a request of paper 02.
 
 pub mod answer;
 pub mod bill;

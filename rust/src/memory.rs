@@ -1,4 +1,7 @@
-//! "The unit": the two memories lent to a call that may walk.
+//! "The unit": the two memories lent to a call that may walk, and where in them
+//! a word lies.
+
+use core::num::NonZeroU32;
 
 /// Which of the two a memory is. Prices and rows go by this, not by address.
 #[derive(Clone, Copy, PartialEq, Eq, Debug)]
@@ -10,6 +13,42 @@ pub enum Role {
 
 /// The greatest length of a memory, in bytes.
 pub const LONGEST: usize = 131_072;
+
+/// The bit at which a memory's number begins in a place: above every offset.
+const MEMORY_AT: u32 = 28;
+/// A memory's number, 1 on-chip and 2 external, as it stands in a place.
+const ON_CHIP: NonZeroU32 = NonZeroU32::new(1 << MEMORY_AT).unwrap();
+const EXTERNAL: NonZeroU32 = NonZeroU32::new(2 << MEMORY_AT).unwrap();
+
+/// Where a word lies: in which memory, and at what offset from its base. It is
+/// the number that crosses the boundary: memory * 2^28 + offset.
+#[derive(Clone, Copy, PartialEq, Eq, Debug)]
+pub struct Place(NonZeroU32);
+
+impl Place {
+    #[inline]
+    pub fn new(role: Role, offset: u32) -> Place {
+        let memory = match role {
+            Role::OnChip => ON_CHIP,
+            Role::External => EXTERNAL,
+        };
+        Place(memory | offset)
+    }
+
+    #[inline]
+    pub fn role(self) -> Role {
+        if self.0 < EXTERNAL {
+            Role::OnChip
+        } else {
+            Role::External
+        }
+    }
+
+    #[inline]
+    pub const fn number(self) -> u32 {
+        self.0.get()
+    }
+}
 
 /// Refusal 4 for one memory: base or length no multiple of 4, length over
 /// 131,072, or its end over 2^32.
@@ -41,12 +80,14 @@ impl<'a> Memory<'a> {
             && u64::from(other.base) < self.end()
     }
 
-    /// The four bytes at an address. A lawful memory ends at 2^32 or before, so
-    /// that an address below its base wraps to an offset past its end.
+    /// The four bytes at an address, and their offset. A lawful memory ends at
+    /// 2^32 or before, so that an address below its base wraps to an offset past
+    /// its end.
     #[inline]
-    fn four(&self, address: u32) -> Option<&'a [u8; 4]> {
-        let offset = address.wrapping_sub(self.base) as usize;
-        self.bytes.get(offset..)?.first_chunk()
+    fn four(&self, address: u32) -> Option<(u32, &'a [u8; 4])> {
+        let offset = address.wrapping_sub(self.base);
+        let four = self.bytes.get(offset as usize..)?.first_chunk()?;
+        Some((offset, four))
     }
 }
 
@@ -78,22 +119,24 @@ impl<'a> Memories<'a> {
         self.lawful
     }
 
-    /// The four bytes at an address and the memory that holds them all.
+    /// The four bytes at an address, and the place in the memory that holds
+    /// them all.
     #[inline]
-    pub fn find(&self, address: u32) -> Option<(Role, &'a [u8; 4])> {
-        if !self.lawful {
-            None
-        } else if let Some(four) = self.on_chip.four(address) {
-            Some((Role::OnChip, four))
+    pub fn find(&self, address: u32) -> Option<(Place, &'a [u8; 4])> {
+        let (role, (offset, four)) = if !self.lawful {
+            return None;
+        } else if let Some(found) = self.on_chip.four(address) {
+            (Role::OnChip, found)
         } else {
-            self.external.four(address).map(|four| (Role::External, four))
-        }
+            (Role::External, self.external.four(address)?)
+        };
+        Some((Place::new(role, offset), four))
     }
 
-    /// The descriptor word at an address, and which memory it is in.
+    /// The descriptor word at an address, and its place.
     #[inline]
-    pub fn word(&self, address: u32) -> Option<(Role, u32)> {
-        self.find(address).map(|(role, four)| (role, u32::from_le_bytes(*four)))
+    pub fn word(&self, address: u32) -> Option<(Place, u32)> {
+        self.find(address).map(|(place, four)| (place, u32::from_le_bytes(*four)))
     }
 
     /// The four bytes of a descriptor as a part of whichever memory holds
@@ -104,20 +147,25 @@ impl<'a> Memories<'a> {
             None => &self.on_chip.bytes[..0],
         }
     }
-
-    /// How far into its own memory an address is.
-    pub fn offset(&self, role: Role, address: u32) -> u32 {
-        let memory = match role {
-            Role::OnChip => &self.on_chip,
-            Role::External => &self.external,
-        };
-        address.wrapping_sub(memory.base)
-    }
 }
 
 #[cfg(test)]
 mod tests {
     use super::*;
+
+    #[test]
+    fn places_are_numbers() {
+        for (role, offset, number) in [
+            (Role::OnChip, 0, 0x1000_0000),
+            (Role::OnChip, 0x448, 0x1000_0448),
+            (Role::OnChip, 131_068, 0x1001_FFFC),
+            (Role::External, 0, 0x2000_0000),
+            (Role::External, 131_068, 0x2001_FFFC),
+        ] {
+            let place = Place::new(role, offset);
+            assert_eq!((place.number(), place.role()), (number, role));
+        }
+    }
 
     #[test]
     fn one_memory_alone() {
@@ -156,14 +204,21 @@ mod tests {
         assert!(core::ptr::eq(both.fetch(0x104), &on[4..]));
         assert!(core::ptr::eq(both.fetch(0x108), &ext[..4]));
         assert_eq!(both.fetch(0x101), [1, 2, 3, 4]);
-        assert_eq!(both.word(0x100), Some((Role::OnChip, 0x0302_0100)));
+        let at = Place::new;
+        assert_eq!(both.word(0x100), Some((at(Role::OnChip, 0), 0x0302_0100)));
+        assert_eq!(both.word(0x104), Some((at(Role::OnChip, 4), 0x0706_0504)));
+        assert_eq!(both.word(0x103), Some((at(Role::OnChip, 3), 0x0605_0403)));
+        assert_eq!(both.word(0x108), Some((at(Role::External, 0), 0x8382_8180)));
+        assert_eq!(both.word(0x10C), Some((at(Role::External, 4), 0x8786_8584)));
         for nowhere in [0xFC, 0x105, 0x10D, 0x110, 0xFFFF_FFFF, 0] {
             assert!(core::ptr::eq(both.fetch(nowhere), &on[..0]));
+            assert_eq!(both.word(nowhere), None);
         }
         let bad = Memories::new(&on, 0x100, &ext, 0x104);
         assert!(core::ptr::eq(bad.fetch(0x100), &on[..0]));
         let top = Memories::new(&on, 0xFFFF_FFF8, &ext, 0);
         assert_eq!(top.fetch(0xFFFF_FFFC), [4, 5, 6, 7]);
+        assert_eq!(top.word(0xFFFF_FFFC), Some((at(Role::OnChip, 4), 0x0706_0504)));
         assert_eq!(top.fetch(0xFFFF_FFFD), []);
         assert_eq!(top.fetch(4), [0x84, 0x85, 0x86, 0x87]);
     }

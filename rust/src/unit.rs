@@ -4,9 +4,9 @@
 //! and one with a field out of its range never becomes a unit (refusal 8
 //! before all else). The calls keep it in range.
 
-use crate::answer::{Answer, Fault, Refusal};
+use crate::answer::{Answer, Fault, Refusal, Reply};
 use crate::bill::{Bill, Prices};
-use crate::memory::Memories;
+use crate::memory::{Memories, Place};
 use crate::meters::Meters;
 use crate::registers::*;
 use crate::slots::*;
@@ -35,6 +35,14 @@ pub struct Pending {
     pub fault: Fault,
     pub access: Access,
     pub address: u32,
+}
+
+/// What comes of a request or retry that is not refused: an address or a fault,
+/// and where the last word of its walk lay, if it walked.
+#[derive(Clone, Copy, Debug)]
+struct Outcome {
+    got: Result<u32, Fault>,
+    from: Option<Place>,
 }
 
 // ---------------------------------------------------------------------------
@@ -182,7 +190,7 @@ impl Unit {
         books: &mut Books,
         address: u32,
         access: Access,
-    ) -> Answer {
+    ) -> Reply {
         if address >= VIRTUAL_END {
             return Refusal::Address.into();
         }
@@ -211,44 +219,43 @@ impl Unit {
         books: &mut Books,
         address: u32,
         access: Access,
-    ) -> Result<Result<u32, Fault>, Refusal> {
+    ) -> Result<Outcome, Refusal> {
         // Off: physical = virtual, no check (house), no smoothing.
         if !self.on() {
-            return Ok(Ok(address));
+            return Ok(Outcome { got: Ok(address), from: None });
         }
-        let page = match self.slots.find(number_of(address)) {
+        let (page, from) = match self.slots.find(number_of(address)) {
             Some(slot) => {
                 books.bill.post_attempt(false);
-                self.slots.page(slot)
+                (self.slots.page(slot), None)
             }
             None if !self.walking() => {
                 books.bill.post_attempt(true);
-                return Ok(Err(Fault::Miss));
+                return Ok(Outcome { got: Err(Fault::Miss), from: None });
             }
             None => {
                 let walk = walk(&lent.memories, self.base, address).ok_or(Refusal::Nowhere)?;
                 post_words(&walk, lent, books);
                 books.bill.post_attempt(true);
+                let from = Some(walk.last.place);
                 match walk.page {
-                    None => return Ok(Err(Fault::Translation)),
+                    None => return Ok(Outcome { got: Err(Fault::Translation), from }),
                     Some(page) => {
                         self.fill(address, page);
-                        page
+                        (page, from)
                     }
                 }
             }
         };
-        if page.permits(access) {
-            Ok(Ok(page.physical(address)))
-        } else {
-            Ok(Err(Fault::Permission))
-        }
+        let got =
+            if page.permits(access) { Ok(page.physical(address)) } else { Err(Fault::Permission) };
+        Ok(Outcome { got, from })
     }
 
     /// An address clears the pending fault; a fault is pending (anew).
     #[inline]
-    fn settle(&mut self, outcome: Result<u32, Fault>, address: u32, access: Access) -> Answer {
-        match outcome {
+    fn settle(&mut self, outcome: Outcome, address: u32, access: Access) -> Reply {
+        let answer = match outcome.got {
             Ok(physical) => {
                 self.pending = None;
                 Answer::Physical(physical)
@@ -257,7 +264,8 @@ impl Unit {
                 self.pending = Some(Pending { fault, access, address });
                 Answer::Faulted(fault)
             }
-        }
+        };
+        Reply { answer, from: outcome.from }
     }
 
     /// "The walk": a found page fills the larger of victim and lock base; the
@@ -284,7 +292,7 @@ impl Unit {
 
     /// Physical minus virtual, by a plain walk from the base register alone.
     /// Refusals in order: 1, 4, 3; then 21, which sets nothing.
-    pub fn shift_report(&self, memories: &Memories, address: u32) -> Answer {
+    pub fn shift_report(&self, memories: &Memories, address: u32) -> Reply {
         if address >= VIRTUAL_END {
             return Refusal::Address.into();
         }
@@ -293,9 +301,12 @@ impl Unit {
         }
         match walk(memories, self.base, address) {
             None => Refusal::Nowhere.into(),
-            Some(Walk { page: None, .. }) => Answer::Faulted(Fault::Translation),
-            Some(Walk { page: Some(page), .. }) => {
-                Answer::Distance(i64::from(page.physical(address)) - i64::from(address))
+            Some(Walk { last, page: None, .. }) => {
+                Answer::Faulted(Fault::Translation).beside(last.place)
+            }
+            Some(Walk { last, page: Some(page), .. }) => {
+                let distance = i64::from(page.physical(address)) - i64::from(address);
+                Answer::Distance(distance).beside(last.place)
             }
         }
     }
@@ -340,7 +351,7 @@ impl Unit {
 
     /// A register write. Refusals in order: 5, 6, 4 and 9 (prefetch and
     /// acknowledge only), 8, 2, 7, 3. Reserved bits are dropped.
-    pub fn write(&mut self, lent: &Lent, books: &mut Books, offset: u32, value: u16) -> Answer {
+    pub fn write(&mut self, lent: &Lent, books: &mut Books, offset: u32, value: u16) -> Reply {
         let register = match Register::at(offset) {
             Ok(register) => register,
             Err(refusal) => return refusal.into(),
@@ -356,8 +367,8 @@ impl Unit {
             | Register::ReadRamLow => return Refusal::Direction.into(),
             Register::Prefetch => return self.write_prefetch(lent, books, value),
             Register::Acknowledge => return self.write_acknowledge(lent, books, value),
-            Register::Lock => return self.write_lock(value),
-            Register::Load => return self.write_load(value),
+            Register::Lock => return self.write_lock(value).into(),
+            Register::Load => return self.write_load(value).into(),
             // With bit 0 clear the device is fresh; meters and bill stay.
             Register::Control if value & CONTROL_RUN == 0 => *self = Unit::fresh(),
             Register::Control => self.control = value & CONTROL_BITS,
@@ -371,7 +382,7 @@ impl Unit {
             Register::EntryFlush if value & 1 != 0 => self.flush_entry(),
             Register::GlobalFlush | Register::EntryFlush => {}
         }
-        Answer::Done
+        Answer::Done.into()
     }
 
     /// Lock: base in 15:10, victim in 9:4; 32 or more is refused 8.
@@ -424,7 +435,7 @@ impl Unit {
 
     /// Prefetch, bits 13:0 = address bits 23:10: no effect on a match, else a
     /// walk without access check. The register keeps each write that is not refused.
-    fn write_prefetch(&mut self, lent: &Lent, books: &mut Books, value: u16) -> Answer {
+    fn write_prefetch(&mut self, lent: &Lent, books: &mut Books, value: u16) -> Reply {
         if let Err(refusal) = lawful(lent, books) {
             return refusal.into();
         }
@@ -438,6 +449,7 @@ impl Unit {
             return Refusal::Moment.into();
         }
         let number = value & PREFETCH_BITS;
+        let mut reply = Reply::from(Answer::Done);
         if self.slots.find(number).is_none() {
             let address = u32::from(number) << 10;
             let Some(walk) = walk(&lent.memories, self.base, address) else {
@@ -445,35 +457,35 @@ impl Unit {
             };
             // Words count; the prefetch itself is no request and is not smoothed.
             post_words(&walk, lent, books);
+            reply.from = Some(walk.last.place);
             match walk.page {
                 Some(page) => self.fill(address, page),
                 None => {
-                    self.prefetch = number;
                     let fault = Fault::Prefetch;
                     self.pending = Some(Pending { fault, access: Access::Read, address });
-                    return Answer::Faulted(fault);
+                    reply.answer = Answer::Faulted(fault);
                 }
             }
         }
         self.prefetch = number;
-        Answer::Done
+        reply
     }
 
     /// Acknowledge, bit 0: retries the pending request under the device as it
     /// is now. A pending prefetch is only dropped.
-    fn write_acknowledge(&mut self, lent: &Lent, books: &mut Books, value: u16) -> Answer {
+    fn write_acknowledge(&mut self, lent: &Lent, books: &mut Books, value: u16) -> Reply {
         if let Err(refusal) = lawful(lent, books) {
             return refusal.into();
         }
         if value & 1 == 0 {
-            return Answer::Done;
+            return Answer::Done.into();
         }
         let Some(Pending { fault, access, address }) = self.pending else {
             return Refusal::Moment.into();
         };
         if fault == Fault::Prefetch {
             self.pending = None;
-            return Answer::Done;
+            return Answer::Done.into();
         }
         match self.attempt(lent, books, address, access) {
             Err(refusal) => refusal.into(),
@@ -509,12 +521,12 @@ fn lawful(lent: &Lent, books: &Books) -> Result<(), Refusal> {
 /// The words of a walk, metered and billed in order.
 #[inline]
 fn post_words(walk: &Walk, lent: &Lent, books: &mut Books) {
-    books.bill.post_word(walk.first.role, walk.first.physical, &lent.prices);
     let mut count = 1;
-    if let Some(second) = walk.second {
-        books.bill.post_word(second.role, second.physical, &lent.prices);
+    if let Some(before) = walk.before {
+        books.bill.post_word(before.place.role(), before.physical, &lent.prices);
         count = 2;
     }
+    books.bill.post_word(walk.last.place.role(), walk.last.physical, &lent.prices);
     books.meters.post_words(count);
 }
 

@@ -3,8 +3,10 @@
 use super::*;
 use crate::bill::{Price, NO_ROW};
 use crate::builder::build;
+use crate::memory::Role;
 
 const BASE: u32 = 0x2000_0000;
+const EXTERNAL: u32 = 0x1000_0000;
 
 /// Offsets of Table 3, typed from it.
 const PREFETCH: u32 = 0x00;
@@ -26,11 +28,13 @@ const ENTRY_FLUSH: u32 = 0x40;
 const READ_CAM_HIGH: u32 = 0x44;
 const READ_RAM_LOW: u32 = 0x50;
 
-/// A unit, its books, and an on-chip memory with the image of a list.
+/// A unit, its books, an on-chip memory with the image of a list, and an
+/// external memory.
 struct Bench {
     unit: Unit,
     books: Books,
     memory: Vec<u8>,
+    external: Vec<u8>,
     price: Price,
 }
 
@@ -43,41 +47,62 @@ fn record(virtual_start: u32, physical: u32, kind: u8, access: u8) -> [u8; 12] {
     bytes
 }
 
+fn list_a() -> [[u8; 12]; 3] {
+    [
+        record(0x01_0000, 0x1002_0000, 1, 3),
+        record(0x30_0000, 0x1120_0000, 0, 2),
+        record(0x50_0400, 0x1000_0C00, 3, 3),
+    ]
+}
+
 impl Bench {
     fn with(list: &[[u8; 12]]) -> Bench {
         let mut memory = vec![0xEE; 65_536];
         build(&list.concat(), BASE, &mut memory).unwrap();
-        let price = Price::Flat(1.0);
-        let mut bench = Bench { unit: Unit::fresh(), books: Books::default(), memory, price };
+        let mut bench = Bench {
+            unit: Unit::fresh(),
+            books: Books::default(),
+            memory,
+            external: Vec::new(),
+            price: Price::Flat(1.0),
+        };
         bench.done(BASE_HIGH, 0x2000);
         bench.done(CONTROL, 7);
         bench
     }
 
     fn list_a() -> Bench {
-        Bench::with(&[
-            record(0x01_0000, 0x1002_0000, 1, 3),
-            record(0x30_0000, 0x1120_0000, 0, 2),
-            record(0x50_0400, 0x1000_0C00, 3, 3),
-        ])
+        Bench::with(&list_a())
     }
 
     fn go<T>(&mut self, call: impl FnOnce(&mut Unit, &Lent, &mut Books) -> T) -> T {
-        let memories = Memories::new(&self.memory, BASE, &[], 0);
+        let memories = Memories::new(&self.memory, BASE, &self.external, EXTERNAL);
         let lent = Lent { memories, prices: Prices::new(self.price, Price::Flat(1.0)) };
         call(&mut self.unit, &lent, &mut self.books)
     }
 
+    fn request(&mut self, access: Access, address: u32) -> Reply {
+        self.go(|unit, lent, books| unit.request(lent, books, address, access))
+    }
+
+    fn write(&mut self, offset: u32, value: u16) -> Reply {
+        self.go(|unit, lent, books| unit.write(lent, books, offset, value))
+    }
+
+    fn report(&mut self, address: u32) -> Reply {
+        self.go(|unit, lent, _| unit.shift_report(&lent.memories, address))
+    }
+
     fn read_at(&mut self, address: u32) -> Answer {
-        self.go(|unit, lent, books| unit.request(lent, books, address, Access::Read))
+        self.request(Access::Read, address).answer
     }
 
     fn write_at(&mut self, address: u32) -> Answer {
-        self.go(|unit, lent, books| unit.request(lent, books, address, Access::Write))
+        self.request(Access::Write, address).answer
     }
 
     fn set(&mut self, offset: u32, value: u16) -> Answer {
-        self.go(|unit, lent, books| unit.write(lent, books, offset, value))
+        self.write(offset, value).answer
     }
 
     fn done(&mut self, offset: u32, value: u16) {
@@ -110,8 +135,13 @@ impl Bench {
     }
 }
 
-fn refused(number: u32) -> impl Fn(Answer) {
-    move |answer| assert_eq!(answer.number(), number, "{answer:?}")
+/// The answer has that number, and a refusal comes from no word.
+fn refused<T: Into<Reply>>(number: u32) -> impl Fn(T) {
+    move |reply| {
+        let Reply { answer, from } = reply.into();
+        assert_eq!(answer.number(), number, "{answer:?}");
+        assert!(from.is_none() || number >= 21, "{from:?}");
+    }
 }
 
 // "The unit", "The walk" and the bench sheet.
@@ -442,16 +472,263 @@ fn shift_reports() {
         Bench::with(&[record(0xFF_FC00, 0, 3, 2), record(0x00_0000, 0xFFF0_0000, 0, 3)]);
     bench.done(CONTROL, 1);
     let before = (bench.unit.image(), bench.books);
-    let report = |bench: &mut Bench, address| {
-        bench.go(|unit, lent, _| unit.shift_report(&lent.memories, address))
-    };
-    assert_eq!(report(&mut bench, 0xFF_FFFF), Answer::Distance(-16_776_192));
-    assert_eq!(report(&mut bench, 0x0F_FFFF), Answer::Distance(0xFFF0_0000));
-    assert_eq!(report(&mut bench, 0xFF_0000), Answer::Faulted(Fault::Translation));
-    refused(1)(report(&mut bench, 0x100_0000));
+    assert_eq!(bench.report(0xFF_FFFF).answer, Answer::Distance(-16_776_192));
+    assert_eq!(bench.report(0x0F_FFFF).answer, Answer::Distance(0xFFF0_0000));
+    assert_eq!(bench.report(0xFF_0000).answer, Answer::Faulted(Fault::Translation));
+    refused(1)(bench.report(0x100_0000));
     assert_eq!((bench.unit.image(), bench.books), before);
     bench.done(BASE_HIGH, 0x3000);
-    refused(3)(report(&mut bench, 0));
+    refused(3)(bench.report(0));
+}
+
+// "Say where the word came from" (P6).
+
+const TRANSLATION: Answer = Answer::Faulted(Fault::Translation);
+const MISS: Answer = Answer::Faulted(Fault::Miss);
+const PERMISSION: Answer = Answer::Faulted(Fault::Permission);
+const NOT_PREFETCHED: Answer = Answer::Faulted(Fault::Prefetch);
+
+fn physical(address: u32) -> Answer {
+    Answer::Physical(address)
+}
+
+/// An answer from the word at an offset of the on-chip memory.
+fn on_chip(answer: Answer, offset: u32) -> Reply {
+    answer.beside(Place::new(Role::OnChip, offset))
+}
+
+/// An answer from the word at an offset of the external memory.
+fn external(answer: Answer, offset: u32) -> Reply {
+    answer.beside(Place::new(Role::External, offset))
+}
+
+/// An answer without a walk.
+fn none(answer: Answer) -> Reply {
+    Reply { answer, from: None }
+}
+
+impl Bench {
+    /// Flushes the slots and drops what is pending.
+    fn flush(&mut self) {
+        self.done(GLOBAL_FLUSH, 1);
+        self.unit.drop_fault();
+    }
+
+    fn put_word(&mut self, offset: usize, word: u32) {
+        self.memory[offset..offset + 4].copy_from_slice(&word.to_le_bytes());
+    }
+}
+
+#[test]
+fn requests_say_their_walks_last_word() {
+    let mut bench = Bench::list_a();
+    let rows = [
+        // A large page: the coarse table is at 400, its word 12 hex.
+        (Access::Read, 0x01_2345, on_chip(physical(0x1002_2345), 0x448)),
+        (Access::Write, 0x01_0000, on_chip(physical(0x1002_0000), 0x440)),
+        // A section: its own word 3; also where it permits no write.
+        (Access::Read, 0x3A_BCDE, on_chip(physical(0x112A_BCDE), 0xC)),
+        (Access::Write, 0x3A_BCDE, on_chip(PERMISSION, 0xC)),
+        // A tiny page: the fine table is at 1000, its word 1; word 2 is no page.
+        (Access::Read, 0x50_07FF, on_chip(physical(0x1000_0FFF), 0x1004)),
+        (Access::Read, 0x50_0800, on_chip(TRANSLATION, 0x1008)),
+        // No page at the second level of megabyte 0, none at the first of F.
+        (Access::Read, 0x00_0000, on_chip(TRANSLATION, 0x400)),
+        (Access::Write, 0xFF_FFFF, on_chip(TRANSLATION, 0x3C)),
+    ];
+    for (access, address, expected) in rows {
+        assert_eq!(bench.request(access, address), expected, "{address:06x}");
+        bench.flush();
+    }
+}
+
+#[test]
+fn the_first_word_of_a_memory_is_a_place_too() {
+    let mut bench = Bench::with(&[]);
+    let reply = bench.request(Access::Read, 0);
+    assert_eq!(reply, on_chip(TRANSLATION, 0));
+    assert_eq!(reply.from.map(Place::number), Some(0x1000_0000));
+    bench.unit.drop_fault();
+    core::mem::swap(&mut bench.memory, &mut bench.external);
+    bench.done(BASE_HIGH, 0x1000);
+    let reply = bench.request(Access::Read, 0);
+    assert_eq!(reply, external(TRANSLATION, 0));
+    assert_eq!(reply.from.map(Place::number), Some(0x2000_0000));
+}
+
+#[test]
+fn the_last_word_may_be_in_the_other_memory() {
+    let mut bench = Bench::list_a();
+    // Word 1 points at a coarse table, word 2 at a fine one, at the start and
+    // 1,000 hex into the external memory.
+    bench.put_word(4, 0x1000_0001);
+    bench.put_word(8, 0x1000_1003);
+    bench.external = vec![0; 0x2000];
+    bench.external[8..12].copy_from_slice(&0x7654_3022_u32.to_le_bytes());
+    bench.external[0x1FFC..].copy_from_slice(&0x7654_3C33_u32.to_le_bytes());
+    assert_eq!(bench.request(Access::Read, 0x10_2ABC), external(physical(0x7654_3ABC), 8));
+    assert_eq!(bench.request(Access::Write, 0x2F_FFFF), external(physical(0x7654_3FFF), 0x1FFC));
+    assert_eq!(bench.report(0x10_2000), external(Answer::Distance(0x7644_1000), 8));
+    bench.flush();
+    assert_eq!(bench.request(Access::Write, 0x10_2ABC), external(PERMISSION, 8));
+    bench.flush();
+    assert_eq!(bench.request(Access::Read, 0x10_0000), external(TRANSLATION, 0));
+    bench.flush();
+    // And the other way about: the first level in the external memory, word 4
+    // of it pointing at list A's coarse table.
+    bench.external[0x90..0x94].copy_from_slice(&0x2000_0401_u32.to_le_bytes());
+    bench.done(BASE_HIGH, 0x1000);
+    bench.done(BASE_LOW, 0x80);
+    assert_eq!(bench.request(Access::Read, 0x41_2345), on_chip(physical(0x1002_2345), 0x448));
+    assert_eq!(bench.request(Access::Read, 0xFF_FFFF), external(TRANSLATION, 0xBC));
+}
+
+#[test]
+fn offsets_are_from_the_memorys_base() {
+    // List A's image at 20003000, in a memory lent from 20000000.
+    let mut bench = Bench::list_a();
+    build(&list_a().concat(), BASE + 0x3000, &mut bench.memory[0x3000..]).unwrap();
+    bench.done(BASE_LOW, 0x3000);
+    assert_eq!(bench.request(Access::Read, 0x01_2345), on_chip(physical(0x1002_2345), 0x3448));
+    assert_eq!(bench.request(Access::Read, 0x3A_BCDE), on_chip(physical(0x112A_BCDE), 0x300C));
+    assert_eq!(bench.write(PREFETCH, 0x1401), on_chip(Answer::Done, 0x4004));
+    assert_eq!(bench.report(0xFF_FFFF), on_chip(TRANSLATION, 0x303C));
+    assert_eq!(bench.request(Access::Read, 0xFF_FFFF), on_chip(TRANSLATION, 0x303C));
+    // Word F points at a coarse table at the end of the longest memory.
+    bench.memory.resize(131_072, 0);
+    bench.put_word(0x303C, 0x2001_FC01);
+    bench.put_word(0x1_FFFC, 0x7654_3032);
+    assert_eq!(bench.write(ACKNOWLEDGE, 1), on_chip(physical(0x7654_3FFF), 0x1_FFFC));
+    assert_eq!(bench.report(0xFF_E000), on_chip(TRANSLATION, 0x1_FFF8));
+}
+
+#[test]
+fn a_request_without_a_walk_says_none() {
+    let mut bench = Bench::list_a();
+    // A match, permitted and not.
+    bench.read_at(0x01_2345);
+    bench.read_at(0x30_0000);
+    assert_eq!(bench.request(Access::Write, 0x01_FFFF), none(physical(0x1002_FFFF)));
+    assert_eq!(bench.request(Access::Write, 0x3A_BCDE), none(PERMISSION));
+    // Refused 1 and 2 while that is pending.
+    refused(1)(bench.request(Access::Read, 0x100_0000));
+    refused(2)(bench.request(Access::Read, 0x50_0400));
+    bench.flush();
+    // No match and no walking; off.
+    bench.done(CONTROL, 3);
+    assert_eq!(bench.request(Access::Read, 0x01_2345), none(MISS));
+    bench.unit.drop_fault();
+    bench.done(CONTROL, 5);
+    assert_eq!(bench.request(Access::Read, 0x01_2345), none(physical(0x01_2345)));
+}
+
+#[test]
+fn prefetches_say_their_walks_last_word() {
+    let mut bench = Bench::list_a();
+    assert_eq!(bench.write(PREFETCH, 0x0048), on_chip(Answer::Done, 0x448));
+    assert_eq!(bench.write(PREFETCH, 0x0C00), on_chip(Answer::Done, 0xC));
+    // A match, and a bit out of range.
+    assert_eq!(bench.write(PREFETCH, 0x0049), none(Answer::Done));
+    refused(8)(bench.write(PREFETCH, 0x4048));
+    // No page at the second level; then one is pending, which is only dropped.
+    assert_eq!(bench.write(PREFETCH, 0x1402), on_chip(NOT_PREFETCHED, 0x1008));
+    refused(2)(bench.write(PREFETCH, 0x1402));
+    assert_eq!(bench.write(ACKNOWLEDGE, 0), none(Answer::Done));
+    assert_eq!(bench.write(ACKNOWLEDGE, 1), none(Answer::Done));
+    // No page at the first level; not walking.
+    assert_eq!(bench.write(PREFETCH, 0x3FFF), on_chip(NOT_PREFETCHED, 0x3C));
+    bench.unit.drop_fault();
+    bench.done(CONTROL, 3);
+    refused(7)(bench.write(PREFETCH, 0x1402));
+}
+
+#[test]
+fn retries_say_their_walks_last_word() {
+    let mut bench = Bench::list_a();
+    refused(7)(bench.write(ACKNOWLEDGE, 1));
+    assert_eq!(bench.write(ACKNOWLEDGE, 0xFFFE), none(Answer::Done));
+    // It walks again, and again finds no page.
+    assert_eq!(bench.request(Access::Read, 0x50_0800), on_chip(TRANSLATION, 0x1008));
+    assert_eq!(bench.write(ACKNOWLEDGE, 0), none(Answer::Done));
+    assert_eq!(bench.write(ACKNOWLEDGE, 1), on_chip(TRANSLATION, 0x1008));
+    // Without walking it is a miss.
+    bench.done(CONTROL, 3);
+    assert_eq!(bench.write(ACKNOWLEDGE, 1), none(MISS));
+    // Walking, it now finds a page that may be read.
+    bench.done(CONTROL, 7);
+    bench.put_word(0x1008, 0x1234_5423);
+    assert_eq!(bench.write(ACKNOWLEDGE, 1), on_chip(physical(0x1234_5400), 0x1008));
+    // A permission fault on a match, on a walk, and then an address on a match.
+    assert_eq!(bench.request(Access::Write, 0x50_0800), none(PERMISSION));
+    assert_eq!(bench.write(ACKNOWLEDGE, 1), none(PERMISSION));
+    bench.done(GLOBAL_FLUSH, 1);
+    assert_eq!(bench.write(ACKNOWLEDGE, 1), on_chip(PERMISSION, 0x1008));
+    bench.load(1, 0x0001_4027, 0x1234_5700);
+    assert_eq!(bench.write(ACKNOWLEDGE, 1), none(physical(0x1234_5400)));
+    // Off.
+    assert_eq!(bench.request(Access::Read, 0xFF_FFFF), on_chip(TRANSLATION, 0x3C));
+    bench.done(CONTROL, 5);
+    assert_eq!(bench.write(ACKNOWLEDGE, 1), none(physical(0xFF_FFFF)));
+}
+
+#[test]
+fn shift_reports_say_their_walks_last_word() {
+    let mut bench = Bench::list_a();
+    // Off, on without walking, walking, on a match and with a fault pending.
+    for control in [1, 3, 7] {
+        bench.done(CONTROL, control);
+        for _ in 0..2 {
+            assert_eq!(bench.report(0x01_2345), on_chip(Answer::Distance(0x1001_0000), 0x448));
+            assert_eq!(bench.report(0x3A_BCDE), on_chip(Answer::Distance(0x10F0_0000), 0xC));
+            assert_eq!(bench.report(0x50_0800), on_chip(TRANSLATION, 0x1008));
+            assert_eq!(bench.report(0xFF_FFFF), on_chip(TRANSLATION, 0x3C));
+            refused(1)(bench.report(0x100_0000));
+            bench.read_at(0x01_2345);
+            bench.read_at(0x50_0800);
+        }
+        bench.flush();
+    }
+    // Memories that share an address.
+    let shared = Memories::new(&bench.memory, BASE, &bench.memory, BASE);
+    refused(4)(bench.unit.shift_report(&shared, 0x01_2345));
+    // In neither memory: the second word, then the first.
+    bench.put_word(0, 0x4000_0001);
+    refused(3)(bench.report(0x01_2345));
+    bench.done(BASE_HIGH, 0x3000);
+    refused(3)(bench.report(0x01_2345));
+}
+
+#[test]
+fn a_refusal_3_says_none() {
+    let mut bench = Bench::list_a();
+    // The second word is in neither memory, then the first.
+    bench.put_word(0, 0x4000_0001);
+    for base in [0x2000, 0x4000] {
+        bench.done(BASE_HIGH, base);
+        refused(3)(bench.request(Access::Read, 0x01_0000));
+        refused(3)(bench.write(PREFETCH, 0x40));
+    }
+    bench.done(BASE_HIGH, 0x2000);
+    bench.done(CONTROL, 3);
+    bench.read_at(0x01_0000);
+    bench.done(CONTROL, 7);
+    for base in [0x2000, 0x4000] {
+        bench.done(BASE_HIGH, base);
+        refused(3)(bench.write(ACKNOWLEDGE, 1));
+    }
+}
+
+#[test]
+fn other_writes_say_none() {
+    let mut bench = Bench::list_a();
+    for offset in (0..=0x60).filter(|&offset| ![PREFETCH, ACKNOWLEDGE].contains(&offset)) {
+        for value in [0, 1, 2, 3, 7, 0x0403, 0xFFFF] {
+            for control in [3, 7] {
+                bench.done(CONTROL, control);
+                assert_eq!(bench.write(offset, value).from, None, "{offset:x} {value:x}");
+            }
+        }
+    }
 }
 
 // "When the unit says no".

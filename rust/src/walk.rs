@@ -1,6 +1,6 @@
 //! "The walk": from the base and a virtual address to a page, and what it permits.
 
-use crate::memory::{Memories, Role};
+use crate::memory::{Memories, Place};
 
 /// The four page types, by the number that a slot keeps.
 #[derive(Clone, Copy, PartialEq, Eq, Debug)]
@@ -74,19 +74,19 @@ impl Page {
     }
 }
 
-/// A descriptor word that was read: where.
+/// A descriptor word that was read: its place, and its physical address.
 #[derive(Clone, Copy, PartialEq, Eq, Debug)]
 pub struct Read {
-    pub role: Role,
+    pub place: Place,
     pub physical: u32,
 }
 
-/// What a walk read, in order, and what it found: no page is a translation
-/// fault.
+/// What a walk read, its last word and the one before it where there are two,
+/// and what it found: no page is a translation fault.
 #[derive(Clone, Copy, PartialEq, Eq, Debug)]
 pub struct Walk {
-    pub first: Read,
-    pub second: Option<Read>,
+    pub before: Option<Read>,
+    pub last: Read,
     pub page: Option<Page>,
 }
 
@@ -96,33 +96,33 @@ pub struct Walk {
 pub fn walk(memories: &Memories, base: u32, address: u32) -> Option<Walk> {
     // First level: base + 4 x bits 23:20.
     let at = base + (address >> 20) * 4;
-    let (role, word) = memories.word(at)?;
-    let first = Read { role, physical: at };
+    let (place, word) = memories.word(at)?;
+    let first = Read { place, physical: at };
     match word & 3 {
-        0 => Some(Walk { first, second: None, page: None }),
+        0 => Some(Walk { before: None, last: first, page: None }),
         // A coarse table holds large and small pages; its tiny word is a fault.
         1 => {
             let at = (word & 0xFFFF_FC00) + (address >> 12 & 0xFF) * 4;
-            let (role, word) = memories.word(at)?;
+            let (place, word) = memories.word(at)?;
             let page = match word & 3 {
                 1 => Some(second_level(Kind::Large, word)),
                 2 => Some(second_level(Kind::Small, word)),
                 _ => None,
             };
-            Some(Walk { first, second: Some(Read { role, physical: at }), page })
+            Some(Walk { before: Some(first), last: Read { place, physical: at }, page })
         }
         // A section: base 31:20, access 11:10.
         2 => {
             let frame = word & 0xFFF0_0000;
             let page = Page { kind: Kind::Section, frame, access: (word >> 10 & 3) as u8 };
-            Some(Walk { first, second: None, page: Some(page) })
+            Some(Walk { before: None, last: first, page: Some(page) })
         }
         // A fine table holds tiny pages; its large or small word is a fault (house).
         _ => {
             let at = (word & 0xFFFF_F000) + (address >> 10 & 0x3FF) * 4;
-            let (role, word) = memories.word(at)?;
+            let (place, word) = memories.word(at)?;
             let page = (word & 3 == 3).then(|| second_level(Kind::Tiny, word));
-            Some(Walk { first, second: Some(Read { role, physical: at }), page })
+            Some(Walk { before: Some(first), last: Read { place, physical: at }, page })
         }
     }
 }
@@ -136,6 +136,7 @@ fn second_level(kind: Kind, word: u32) -> Page {
 #[cfg(test)]
 mod tests {
     use super::*;
+    use crate::memory::Role;
 
     fn words(words: &[(usize, u32)], length: usize) -> Vec<u8> {
         let mut bytes = vec![0; length];
@@ -145,8 +146,8 @@ mod tests {
         bytes
     }
 
-    fn at(role: Role, physical: u32) -> Read {
-        Read { role, physical }
+    fn at(role: Role, offset: u32, physical: u32) -> Read {
+        Read { place: Place::new(role, offset), physical }
     }
 
     #[test]
@@ -155,8 +156,7 @@ mod tests {
         let on = words(&[(12, 0x112F_FBFE)], 64);
         let memories = Memories::new(&on, 0x80, &[], 0);
         let walk = walk(&memories, 0x80, 0x3A_BCDE).unwrap();
-        assert_eq!(walk.first, at(Role::OnChip, 0x8C));
-        assert_eq!(walk.second, None);
+        assert_eq!((walk.before, walk.last), (None, at(Role::OnChip, 0xC, 0x8C)));
         let page = walk.page.unwrap();
         assert_eq!(page, Page { kind: Kind::Section, frame: 0x1120_0000, access: 2 });
         assert_eq!(page.physical(0x3A_BCDE), 0x112A_BCDE);
@@ -190,11 +190,35 @@ mod tests {
         assert_eq!(go(0x100_400).page, None);
         assert_eq!(go(0x100_800).page, None);
         assert_eq!(go(0x1FF_C00).page, page(Kind::Tiny, 0xABCD_EC00, 0));
-        assert_eq!(go(0x002_000).first, at(Role::OnChip, 0x2000_0000));
-        assert_eq!(go(0x002_000).second, Some(at(Role::External, 0x1000_0408)));
-        assert_eq!(go(0x1FF_C00).second, Some(at(Role::External, 0x1000_1FFC)));
-        assert_eq!(go(0x200_000).second, None);
+        let read = |address| (go(address).before, go(address).last);
+        let word_0 = Some(at(Role::OnChip, 0, 0x2000_0000));
+        let word_1 = Some(at(Role::OnChip, 4, 0x2000_0004));
+        assert_eq!(read(0x000_FFF), (word_0, at(Role::External, 0x400, 0x1000_0400)));
+        assert_eq!(read(0x002_000), (word_0, at(Role::External, 0x408, 0x1000_0408)));
+        assert_eq!(read(0x100_000), (word_1, at(Role::External, 0x1000, 0x1000_1000)));
+        assert_eq!(read(0x1FF_C00), (word_1, at(Role::External, 0x1FFC, 0x1000_1FFC)));
+        assert_eq!(read(0x200_000), (None, at(Role::OnChip, 8, 0x2000_0008)));
         assert_eq!(go(0x200_000).page, None);
+    }
+
+    #[test]
+    fn tables_within_a_memory() {
+        // The base is 180 into the external memory; word 2 points at a coarse
+        // table in it, word 3 at one in the on-chip memory.
+        let external = words(&[(0x188, 0x1000_0401), (0x18C, 0x2000_0001)], 0x800);
+        let on = words(&[], 0x40);
+        let memories = Memories::new(&on, 0x2000_0000, &external, 0x1000_0000);
+        let read = |address| {
+            let walk = walk(&memories, 0x1000_0180, address).unwrap();
+            (walk.before, walk.last)
+        };
+        assert_eq!(read(0x000_000), (None, at(Role::External, 0x180, 0x1000_0180)));
+        let word_2 = Some(at(Role::External, 0x188, 0x1000_0188));
+        assert_eq!(read(0x201_000), (word_2, at(Role::External, 0x404, 0x1000_0404)));
+        let word_3 = Some(at(Role::External, 0x18C, 0x1000_018C));
+        assert_eq!(read(0x300_000), (word_3, at(Role::OnChip, 0, 0x2000_0000)));
+        assert_eq!(read(0x30F_000), (word_3, at(Role::OnChip, 0x3C, 0x2000_003C)));
+        assert_eq!(walk(&memories, 0x1000_0180, 0x310_000), None);
     }
 
     #[test]

@@ -9,11 +9,13 @@ mod common;
 
 use common::callers::{self, Caller};
 use common::coverage::{see_step, Coverage};
+use common::places::{self, Told};
 use common::states;
 use common::worlds::{self, World};
 use common::*;
-use second::boundary::{Program, Second, ANSWER, CALL, STATE};
+use second::boundary::{Program, Second, ANSWER, BILL_AT, CALL, STATE};
 use second::dice::Dice;
+use second::memory::Memories;
 use std::collections::BTreeMap;
 use std::fmt::Write as _;
 
@@ -52,6 +54,32 @@ impl Step<'_> {
             panic!("{}", self.difference(rival, place, first, second, out, other));
         }
         first
+    }
+
+    /// Each call on its own, from the state that the one before it left: what it
+    /// says is what the whole list said, and its place is right.
+    fn check_places(&self, out: &[u8], rival: &dyn Program, seen: &mut Coverage, title: &str) {
+        let mut before = self.state.to_vec();
+        put_double(&mut before, BILL_AT, self.bill.0.to_bits());
+        put_double(&mut before, BILL_AT + 8, self.bill.1.to_bits());
+        let mut one = [0; ANSWER + STATE];
+        for (call, said) in self.calls.chunks(CALL).zip(out.chunks(ANSWER)) {
+            rival.from(&self.lending, &before, bill_of(&before), call, &mut one);
+            let (got, after) = one.split_at(ANSWER);
+            assert_eq!(got, said, "{title}: {} alone", describe(call));
+            let told = Told {
+                title,
+                lending: self.lending,
+                before: &before,
+                call,
+                answer: answer(got, 0),
+                from: from(got, 0),
+                after,
+            };
+            told.check([&Second, rival]);
+            told.see(seen, rival);
+            before.copy_from_slice(after);
+        }
     }
 
     fn difference(
@@ -94,6 +122,12 @@ impl Step<'_> {
     }
 }
 
+/// Memories that are not refused 4.
+fn lawful(lending: &Lending) -> bool {
+    let Lending { on, on_base, external, external_base, .. } = *lending;
+    Memories::new(on, on_base, external, external_base).lawful()
+}
+
 /// The bill of a state.
 fn bill_of(state: &[u8]) -> (f64, f64) {
     (View(state).total(), View(state).misses())
@@ -113,7 +147,8 @@ fn sheet() {
 }
 
 /// Sessions, one call at a time: after each the answer and the whole state are
-/// compared. Memories, prices, bill and state may be exchanged at any call.
+/// compared, and the place that it says is checked. Memories, prices, bill and
+/// state may be exchanged at any call.
 #[test]
 fn sessions() {
     let _turn = turn();
@@ -204,11 +239,12 @@ fn sessions() {
             }
             assert_eq!(written, need);
             assert!(out[need..].iter().all(|byte| byte == dirt));
+            step.check_places(out, &*rival, &mut seen, &place);
             let after = &out[need - STATE..need];
             if call.len() == CALL {
                 // As it was handed in, to see what has changed.
-                given[304..312].copy_from_slice(&bill.0.to_bits().to_le_bytes());
-                given[312..320].copy_from_slice(&bill.1.to_bits().to_le_bytes());
+                put_double(&mut given, BILL_AT, bill.0.to_bits());
+                put_double(&mut given, BILL_AT + 8, bill.1.to_bits());
                 see_step(&mut seen, &call, answer(out, 0), &given, after);
             } else {
                 seen.see("a few calls at once");
@@ -295,6 +331,7 @@ fn sessions() {
         ]
         .map(String::from),
     );
+    names.extend(places::KINDS.map(String::from));
     seen.demand(20, &names);
 }
 
@@ -348,6 +385,89 @@ fn whole_lists() {
     }
     println!("{calls_made} calls in lists; answers {numbers:?}");
     assert!(calls_made as u64 >= 20_000 * u64::from(long()));
+}
+
+/// The same bytes, lent with 4,096 others before them from a base 4,096 lower:
+/// of all that a list writes, only the offsets of that memory's places change,
+/// by 4,096. No call of the list is refused 3, for the bytes before might hold
+/// the word that it needs.
+#[test]
+fn places_shift_with_the_base() {
+    const MORE: u32 = 4_096;
+    let _turn = turn();
+    let rival = rival();
+    let mut seen = Coverage::default();
+    for round in 0..600 * long() {
+        let mut dice = Dice::new(seed(0x91AC_0000_0000 + u64::from(round)));
+        let world = World::new(&mut dice);
+        let lending = world.lending(worlds::good_quote(&mut dice), worlds::good_quote(&mut dice));
+        let mut caller = Caller::new();
+        let mut list: Vec<u8> = Vec::new();
+        let mut state = states::fresh_state();
+        let mut out = [0; ANSWER + STATE];
+        for _ in 0..1 + dice.below(300) {
+            let call = caller.next(&mut dice, &world, View(&state));
+            Second.from(&lending, &state, bill_of(&state), &call, &mut out);
+            if answer(&out, 0).0 != 3 {
+                state.copy_from_slice(&out[ANSWER..]);
+                list.extend(call);
+            }
+        }
+        let count = list.len() / CALL;
+        let [on, external] = [lending.on, lending.external].map(|memory| {
+            let mut bytes = vec![0; MORE as usize + memory.len()];
+            let (more, same) = bytes.split_at_mut(MORE as usize);
+            dice.fill(more);
+            same.copy_from_slice(memory);
+            bytes
+        });
+        // The on-chip memory, the external one, both: by the sum of their numbers.
+        for lowered in 1..=3 {
+            let mut other = lending;
+            if lowered & 1 != 0 {
+                other.on = &on;
+                other.on_base = other.on_base.wrapping_sub(MORE);
+            }
+            if lowered & 2 != 0 {
+                other.external = &external;
+                other.external_base = other.external_base.wrapping_sub(MORE);
+            }
+            if !lawful(&other) {
+                continue;
+            }
+            for program in [&Second as &dyn Program, &*rival] {
+                let play = |lending: &Lending| {
+                    let mut out = vec![0x3C; count * ANSWER + STATE];
+                    assert_eq!(program.run(lending, &list, &mut out), out.len() as u64);
+                    out
+                };
+                let (plain, got) = (play(&lending), play(&other));
+                let mut expected = plain.clone();
+                for (index, call) in list.chunks(CALL).enumerate() {
+                    let place = from(&plain, index);
+                    let moves = place >> 28 & lowered != 0;
+                    if moves {
+                        put_word(&mut expected, index * ANSWER + 4, place + MORE);
+                    }
+                    let at = index * ANSWER..(index + 1) * ANSWER;
+                    let title = format!("list {round}, call {index} of {}", program.name());
+                    assert_eq!(got[at.clone()], expected[at], "{title}: {}", describe(call));
+                    let memory = ["no", "on-chip", "external"][(place >> 28) as usize];
+                    let how = if moves { "moved" } else { "where it was" };
+                    seen.see(format!("{memory} place {how}"));
+                }
+                assert!(got == expected, "list {round}, {}: the states differ", program.name());
+            }
+        }
+    }
+    let names = [
+        "on-chip place moved",
+        "external place moved",
+        "on-chip place where it was",
+        "external place where it was",
+        "no place where it was",
+    ];
+    seen.demand(1_000, &names.map(String::from));
 }
 
 /// Lists, prices, buffers and states that are not as said: 0, and `out` unchanged.

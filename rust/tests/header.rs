@@ -15,13 +15,13 @@ const EXPECTED: &str = "\
 image of 8192 bytes
 call 0: 0 0
 call 1: 0 0
-call 2: 100 10022345
+call 2: 100 10022345, from on-chip offset 448
 call 3: 1 0
-call 4: 23 0
+call 4: 23 0, from on-chip offset C
 call 5: 0 0
 call 6: 100 112ABCDE
 call 7: 101 2000
-call 8: 102 FB00800
+call 8: 102 FB00800, from on-chip offset 1004
 fresh 3, retries 0, words 3
 word at 20000448: memory 1, offset 448, 10020031
 ";

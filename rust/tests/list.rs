@@ -50,12 +50,12 @@ fn every_page_of_many_lists() {
             let address = page << 10 | dice.below(1 << 10);
             let access = if dice.once_in(2) { Access::Read } else { Access::Write };
             let expected = by_the_list(&list, address, access);
-            let got = unit.request(&lent, &mut books, address, access);
+            let got = unit.request(&lent, &mut books, address, access).answer;
             assert_eq!((got.number(), got.value()), expected, "list {round}, {address:06x}");
             if expected.0 != 100 {
                 assert_eq!(unit.drop_fault().number(), 0);
             }
-            let report = unit.shift_report(&lent.memories, address);
+            let report = unit.shift_report(&lent.memories, address).answer;
             let distance = by_the_list(&list, address, Access::Read);
             let expected = match distance {
                 (100, physical) => (102, physical - i64::from(address)),

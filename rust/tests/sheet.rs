@@ -50,3 +50,8 @@ fn a_fill_below_the_lock_base() {
 fn distances_below_and_above_zero() {
     rows::distances(&Second);
 }
+
+#[test]
+fn where_the_word_came_from() {
+    rows::words_come_from(&Second);
+}

@@ -1,3 +1,3 @@
 pub mod Names
 pub mod Indices
-pub mod Offsets
+pub mod Fetched

@@ -9,6 +9,7 @@ pub use Rattle.memory.specs.declared.Place.{Place}
 pub use Rattle.page.specs.Ground.{List, _%_, _*_, _+_, _^_, _≡_, _≤_, length, ℕ}
 unfoldable pub use Rattle.page.specs.Pick.{pick}
 pub use Rattle.prices.specs.declared.Prices.{Prices}
+pub use Rattle.run.specs.Answers.{cutPlace, placeCode}
 pub use Rattle.run.specs.Run.{Ran, ran}
 unfoldable pub use Rattle.run.specs.Run.{runWith}
 pub use Rattle.session.specs.Bench.{freshBench}

@@ -1,17 +1,9 @@
 -- What the byte boundary answers in one number.
-use Rattle.capi.specs.Names.{ℕ, _+_, _*_, _%_, _^_, Place, Built, builtNumber, builtValue}
+use Rattle.capi.specs.Names.{ℕ, _+_, _*_, _%_, _^_, Place, placeCode, Built, builtNumber, builtValue}
 
--- where four bytes lie and the word they are: memory * 2^60 + offset * 2^32 + word
+-- where four bytes lie and the word they are: memory * 2^60 + offset * 2^32 + word; 0 of no bytes, whose word is 0
 abbrev pub placeNumber : Place → ℕ → ℕ
-placeNumber (Place.OnChip k) w = 1 * 2 ^ 60 + k * 2 ^ 32 + w
-placeNumber (Place.External k) w = 2 * 2 ^ 60 + k * 2 ^ 32 + w
-placeNumber Place.Nowhere w = 0
-
--- the offset in the bits that there are for it
-abbrev pub cutPlace : Place → Place
-cutPlace (Place.OnChip k) = Place.OnChip (k % 2 ^ 28)
-cutPlace (Place.External k) = Place.External (k % 2 ^ 28)
-cutPlace Place.Nowhere = Place.Nowhere
+placeNumber p w = placeCode p * 2 ^ 32 + w
 
 -- a refusal: 2^63 + number * 2^32 + index or count
 abbrev pub refusalWord : Built → ℕ

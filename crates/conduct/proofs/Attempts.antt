@@ -104,7 +104,7 @@ module _ (m : Lent) (d : Device) (va : VirtualAddress) where
   does-walk h x e f = record { fill = e ∙ sym (pick-yes _ _ _ h); reads = f ∙ sym (pick-yes _ _ _ h) }
 
   -- a walk that lacks no descriptor misses none
-  walked-found : lacks m d va ≡ false → walksFor d va ≡ true → isMissing (look m d va .found) ≡ false
+  pub walked-found : lacks m d va ≡ false → walksFor d va ≡ true → isMissing (look m d va .found) ≡ false
   unfolding lacks walksFor
   walked-found h e =
       let f = and-right (isOn (d .registers .control)) _ e in

@@ -1,5 +1,5 @@
 -- A call that is not refused does what it asks, and no more: what holds of that holds of its step. Assumes nothing.
-use Rattle.conduct.specs.Names.{_≡_, Bool, true, false, ℕ, wordCount, readsPosted, seenPosted, pageAt, Clear, look, prefetchAt, requestRefusals}
+use Rattle.conduct.specs.Names.{_≡_, Bool, true, false, ℕ, lastPlace, wordCount, readsPosted, seenPosted, pageAt, Clear, look, prefetchAt, requestRefusals}
 use Rattle.conduct.specs.Names.{writeRefusals, request, write, Said, Access, VirtualAddress, Lent, Bill, Prices, Reads, Seen, Decision, Device}
 use Rattle.conduct.specs.Names.{Outcome}
 use Rattle.conduct.proofs.Names.{refl, sym, _∙_, ap, ap₂, entryFilled, commandOf, meteredOnce, prefetchDecided, refusedWith, decidedBy}
@@ -32,6 +32,9 @@ module _ (m : Lent) (p : Prices) (b : Bill) (d : Device) where
     pub attempt-bank : attemptOf m p b again d va a .device .bank ≡ entryFilled (d .bank) (fillFor m d va)
     attempt-bank = ap (entryFilled (d .bank)) (attempt-does m d va a h .fill)
 
+    pub attempt-from : attemptOf m p b again d va a .from ≡ lastPlace (readsFor m d va)
+    attempt-from = ap lastPlace (attempt-does m d va a h .reads)
+
   module _ (v : ℕ) (c : Clear (writeRefusals m p b d prefetchAt v)) where
     abbrev y : Decision
     y = prefetchDecided (look m d (pageAt v)) (d .bank .cam) (pageAt v)
@@ -48,6 +51,9 @@ module _ (m : Lent) (p : Prices) (b : Bill) (d : Device) where
 
     pub prefetch-bank : prefetched m p b d v .device .bank ≡ entryFilled (d .bank) (fillFor m d (pageAt v))
     prefetch-bank = ap (entryFilled (d .bank)) (prefetch-meets .fill)
+
+    pub prefetch-from : prefetched m p b d v .from ≡ lastPlace (readsFor m d (pageAt v))
+    prefetch-from = ap lastPlace (prefetch-meets .reads)
 
   abbrev saidOut : Outcome → Said
   saidOut o = Said.Answered (o .answer)

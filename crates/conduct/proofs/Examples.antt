@@ -1,24 +1,30 @@
 -- The theorems are not empty: small devices, computed by hand and here. Assumes nothing.
-use Rattle.conduct.specs.Names.{_≡_, [], _∷_, ℕ, pick, _and_, physical, wordMatches, wordAddress, slotAt, nextSlot, nextVictim, camAddress}
-use Rattle.conduct.specs.Names.{listed, Pending, Answer, Fault, freshDevice, inRange, acknowledgeAt, flushAt, entryFlushAt, request, write}
+use Rattle.conduct.specs.Names.{_≡_, Bool, true, false, [], _∷_, ℕ, _+_, _*_, _/_, _%_, _^_, _<_, length, pick, _and_, lentOk, Place}
+use Rattle.conduct.specs.Names.{movedWalked, physical, wordMatches, wordAddress, slotAt, nextSlot, nextVictim, camAddress}
+use Rattle.conduct.specs.Names.{listed, Pending, Answer, Fault, freshDevice, inRange, acknowledgeAt, flushAt, entryFlushAt, request, write, shift}
 use Rattle.conduct.specs.Names.{Said, Step, step, Access, Words, Lent, Prices, Device}
-use Rattle.conduct.proofs.Names.{refl, take, _or_, wordFlushed, wordFlushedAt, placeIn, wordOf, readIn, walkFrom, bankOk, firstOf, allFrom}
+use Rattle.conduct.proofs.Names.{refl, sym, _∙_, ap, arith, leb, pick-by, pick-no, take, _or_, wordFlushed, wordFlushedAt, placeIn, wordOf, readIn, walkFrom, bankOk, firstOf, allFrom}
 use Rattle.conduct.proofs.Names.{registersOk, noRegister, whenBit, commandOf, byAccess, byFound, decided, refuses, setBank, lacks, isMalformed}
 use Rattle.conduct.proofs.Names.{isUntimely, writeLacks, requestOf, writeOf}
 use lib.Count.{trailingZeros}
 use lib.Ieee.{ofBits, ofFields, odd, le, lt, eq}
 use Rattle.page.specs.Low.{upper, joined}
 use Rattle.page.specs.Words.{virtual, kindOf, wordDropped, madeCam, madeRam}
-use Rattle.memory.specs.Memory.{lent, memoryOk, apart, memoriesOk, liesIn, placeWithin}
-use Rattle.walk.specs.Walk.{firstAt}
+use Prim.Native.Nat.{zero, suc}
+use borrow.Author.Tests.{lt-leb}
+use Rattle.memory.specs.Memory.{lent, memoryOk, apart, memoriesOk, liesIn, placeWithin, partAt}
+use Rattle.walk.specs.Walk.{firstAt, readAt, afterFirst}
+use Rattle.walk.specs.declared.Read.{Read}
 use Rattle.prices.specs.Prices.{f0, figureOk, every}
 use Rattle.bill.specs.Bill.{freshBill, moneyOk}
 use Rattle.prices.specs.declared.Price.{Price}
 use Rattle.bank.specs.Slots.{freshBank}
 use Rattle.bank.specs.Changes.{storedAt, lockedAt, filled}
 use Rattle.lanes.specs.Lanes.{lookedFrom, flushedAll, flushedEntry}
-use Rattle.registers.specs.Fields.{entryOk, freshRegisters, withControl, withStaged}
+use Rattle.registers.specs.Fields.{entryOk, freshRegisters, withBase, withControl, withStaged}
 use Rattle.unit.specs.Device.{setRegisters}
+use Rattle.unit.specs.Calls.{shiftFrom}
+use Rattle.conduct.specs.Placed.{memoryOf, AlikeBut}
 use Rattle.conduct.specs.Metered.{oneFresh, oneRetry}
 
 abbrev free : Prices
@@ -101,3 +107,61 @@ flushed :
 unfolding writeOf refuses pick _and_ _or_ inRange registersOk entryOk bankOk allFrom noRegister isMalformed isUntimely writeLacks commandOf listed
     whenBit flushedAll flushedEntry camAddress wordFlushed wordFlushedAt wordDropped wordMatches kindOf
 flushed = (refl, refl)
+
+-- a walk that finds a page and one that finds none come from their word; a refusal, and a unit that is off, from nowhere
+walk-from :
+    (asking running 0x012345 Access.Write .from ≡ Place.OnChip 0)
+    × (asking running 0x112345 Access.Read .from ≡ Place.OnChip 4)
+    × (asking running 0x212345 Access.Read .from ≡ Place.Nowhere)
+    × (asking freshDevice 0x012345 Access.Read .from ≡ Place.Nowhere)
+    × (step twoWords running freshBill (shift (virtual 0x012345)) .from ≡ Place.OnChip 0)
+unfolding requestOf shiftFrom refuses pick _and_ _or_ inRange registersOk entryOk bankOk allFrom memoriesOk memoryOk apart moneyOk every figureOk le lt
+    eq ofBits ofFields odd trailingZeros lacks decided lookedFrom wordMatches kindOf walkFrom firstAt upper joined readIn placeIn placeWithin liesIn
+    wordOf firstOf byFound byAccess
+walk-from = (refl, refl, refl, refl, refl)
+
+-- the same word four bytes further into a memory that starts four bytes earlier
+abbrev atStart : Lent
+atStart = lent (0x02 ∷ 0x08 ∷ 0x20 ∷ 0x11 ∷ []) 0x80 [] 0
+
+abbrev further : Lent
+further = lent (0 ∷ 0 ∷ 0 ∷ 0 ∷ 0x02 ∷ 0x08 ∷ 0x20 ∷ 0x11 ∷ []) 0x7c [] 0
+
+-- on and walking from base 80
+abbrev based : Device
+based = setRegisters freshDevice (withBase (withControl freshRegisters 7) 0x80)
+
+fails : (s t : Bool) → t ≡ false → (s and t) ≡ false
+unfolding _and_
+fails true t e = e
+fails false t e = refl
+
+-- no memory holds an address behind its end
+behind : (b n a : ℕ) → b + n < a + 4 → liesIn b n a ≡ false
+unfolding liesIn
+behind b n a h = fails (leb b a) (leb (a + 4) (b + n)) (lt-leb (a + 4) (b + n) h)
+
+read-behind : (m : Lent) (a : ℕ) → m .onbase + length (m .on) < a + 4 → m .extbase + length (m .ext) < a + 4 → readIn m a ≡ Read.Missing
+unfolding readIn placeIn placeWithin
+read-behind m a h k =
+    ap (λ (p : Place). readAt (wordOf (partAt m p)) p)
+    (pick-by (λ (p : Place). p ≡ Place.Nowhere) (lentOk m) _ _ (λ _. pick-no _ _ _ (behind _ _ a h) ∙ pick-no _ _ _ (behind _ _ a k)) (λ _. refl))
+
+-- the two are walked alike but for the offset, and come from different places
+alike-further : AlikeBut memoryOf atStart further based
+unfolding memoriesOk memoryOk apart _and_ _or_ firstAt upper walkFrom readIn placeIn placeWithin liesIn wordOf firstOf pick
+alike-further = record { refused = refl; walks = λ va. by (va .0) (va .0 / 2 ^ 20 % 16) }
+  where
+    by : (v i : ℕ) → movedWalked memoryOf (walkFrom (readIn atStart) firstOf v (0x80 + 4 * i)) ≡ movedWalked memoryOf (walkFrom (readIn further) firstOf v (0x80 + 4 * i))
+    by v zero = refl
+    by v (suc i) =
+        ap (λ (r : Read). movedWalked memoryOf (afterFirst (readIn atStart) firstOf v (0x80 + 4 * suc i) r)) (read-behind atStart (0x80 + 4 * suc i) (omega arith) (omega arith))
+        ∙ ap (λ (r : Read). movedWalked memoryOf (afterFirst (readIn further) firstOf v (0x80 + 4 * suc i) r)) (sym (read-behind further (0x80 + 4 * suc i) (omega arith) (omega arith)))
+
+from-further :
+    (step atStart based freshBill (request (virtual 0x012345) Access.Read free) .from ≡ Place.OnChip 0)
+    × (step further based freshBill (request (virtual 0x012345) Access.Read free) .from ≡ Place.OnChip 4)
+unfolding requestOf refuses pick _and_ _or_ inRange registersOk entryOk bankOk allFrom memoriesOk memoryOk apart moneyOk every figureOk le lt eq ofBits
+    ofFields odd trailingZeros lacks decided lookedFrom wordMatches kindOf walkFrom firstAt upper joined readIn placeIn placeWithin liesIn wordOf
+    firstOf byFound byAccess
+from-further = (refl, refl)

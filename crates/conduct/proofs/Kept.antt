@@ -1,6 +1,6 @@
 -- Demand 2: what each call leaves alone. Assumes nothing.
 use Rattle.conduct.specs.Names.{_≡_, Bool, true, false, _≢_, ℕ, _+_, _*_, _/_, _%_, _^_, _<_, eqb, pick, _and_, listed, Answer, Tending, pageAt}
-use Rattle.conduct.specs.Names.{Clear, look, cleared, prefetchAt, controlAt, acknowledgeAt, baseHighAt, baseLowAt, lockAt, loadAt, camHighAt}
+use Rattle.conduct.specs.Names.{Clear, look, cleared, doneWith, prefetchAt, controlAt, acknowledgeAt, baseHighAt, baseLowAt, lockAt, loadAt, camHighAt}
 use Rattle.conduct.specs.Names.{camLowAt, ramHighAt, ramLowAt, flushAt, entryFlushAt, mayWalk, requestRefusals, writeRefusals, readRefusals}
 use Rattle.conduct.specs.Names.{dropRefusals, request, write, read, shift, Access, VirtualAddress, Lent, Bill, Prices, Bank, Fill, Pending}
 use Rattle.conduct.specs.Names.{Command, Device, Outcome, Told}
@@ -110,7 +110,7 @@ module _ (m : Lent) (p : Prices) (b : Bill) (d : Device) (v : ℕ) where
       keeps-bank acknowledgeAt d _ refl (λ n. absurd (true≢false n)) (λ n. absurd (true≢false n))
       (λ _. fill-lock-kept (d .bank) (decidedBy (look m d va) d va a .fill)) (λ n. absurd (true≢false n)) (λ n. absurd (true≢false n))
 
-  drop-keeps : Keeps acknowledgeAt (record { device = cleared d; bill = b; tally = carried m p b d Command.Nothing .tally; answer = Answer.Done })
+  drop-keeps : Keeps acknowledgeAt (doneWith b (cleared d))
   unfolding _or_
   drop-keeps = keeps-bank acknowledgeAt d _ refl (λ _ _ _ _. refl) (λ _ _. refl) (λ _. refl) (λ _ _. refl) (λ n. absurd (true≢false n))
 

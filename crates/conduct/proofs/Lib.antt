@@ -7,6 +7,8 @@ pub mod Writes
 pub mod Refused
 pub mod Calls
 pub mod Metered
+pub mod Placed
+pub mod Beside
 pub mod Filled
 pub mod Cached
 pub mod Flushed

@@ -6,6 +6,8 @@ use Rattle.conduct.specs.Names.{Shift, Device, Outcome}
 use Rattle.conduct.proofs.Names.{refl, sym, _∙_, true≢false, not-false, isMissing, commandOf, valueAt, by-offset, shiftBy, refuses, told}
 use Rattle.conduct.proofs.Names.{toldRefused, refusedWith, decidedBy, attemptOf, lacks, requestOf, carried, writeOf, readOf, dropOf, shiftOf}
 use Rattle.conduct.proofs.Names.{saidRefused, Accepted, Unchanged, Attempted}
+use Rattle.memory.specs.declared.Place.{Place}
+use Rattle.unit.specs.Calls.{shiftFrom}
 use Rattle.unit.specs.Machine.{stepTold}
 use Rattle.conduct.specs.Refused.{refusalsOf, shiftRefused, RefusedWith, ExactlyWhen, AcceptedWhen, NothingChanges}
 use Rattle.conduct.proofs.Firsts.{exactly-first, accepted-clear, refused-by}
@@ -58,8 +60,8 @@ module _ (d : Device) (b : Bill) where
     still = refused-by say else rs (λ x. saidRefused (out x .said)) (λ x. saidNumber (out x .said)) goes-on (λ x. Unchanged d b (out x)) still;
   }
 
-  abbrev saidShift : Shift → Step
-  saidShift s = record { device = d; bill = b; tally = noTally; said = Said.Reported s }
+  abbrev saidShift : Place → Shift → Step
+  saidShift f s = record { device = d; bill = b; tally = noTally; said = Said.Reported s; from = f }
 
   same : (s : Step) → s .device ≡ d → s .bill ≡ b → s .tally ≡ noTally → Unchanged d b s
   same s e f g = record { device = e; bill = f; tally = g }
@@ -79,7 +81,7 @@ settled m d b drop-fault =
     settles d b (stepTold b) (toldRefused d) (told (cleared d) Answer.Done) (dropRefusals d)
     (λ k. (refl, refl)) (λ k. same d b _ refl refl refl) (λ _. refl)
 settled m d b (shift va) =
-    settles d b (saidShift d b) Shift.Refused (shiftBy va (look m d va .found)) (shiftRefusals m d va)
+    settles d b (saidShift d b (shiftFrom m d va)) Shift.Refused (shiftBy va (look m d va .found)) (shiftRefusals m d va)
     (λ k. (refl, refl)) (λ k. same d b _ refl refl refl) (λ c. shift-answers va (look m d va .found) (c .1 .1 .1 .0))
 
 pub exactly-when : ExactlyWhen

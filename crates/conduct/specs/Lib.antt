@@ -8,3 +8,4 @@ pub mod Kept
 pub mod Written
 pub mod Names
 pub mod Attempted
+pub mod Placed

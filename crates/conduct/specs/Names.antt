@@ -5,13 +5,14 @@ pub use Rattle.unit.specs.declared.Device.{Device}
 pub use Rattle.unit.specs.declared.Outcome.{Outcome}
 pub use Rattle.unit.specs.declared.Told.{Told}
 pub use lib.IntN.{ℤ}
-pub use mathlib.Core.Logic.{_≢_}
+pub use mathlib.Core.Logic.{_≢_, _⊎_}
 unfoldable pub use Rattle.bank.specs.Changes.{nextSlot, nextVictim}
 pub use Rattle.bank.specs.Slots.{slotAt}
 pub use Rattle.bill.specs.Bill.{Good, readsPosted, seenPosted}
 pub use Rattle.decision.specs.Prefetches.{pageAt, shiftNumber, shiftValues}
 pub use Rattle.lanes.specs.Lanes.{lookedUp, slots}
-pub use Rattle.memory.specs.Reads.{wordCount}
+pub use Rattle.memory.specs.Reads.{lastPlace, wordCount}
+pub use Rattle.memory.specs.declared.Place.{Place}
 pub use Rattle.meters.specs.Posted.{BelowStop, noTally}
 unfoldable pub use Rattle.meters.specs.Posted.{posted}
 pub use Rattle.page.specs.Ground.{Bool, List, [], _%_, _*_, _+_, _/_, _<_, _^_, _∷_, _≡_, eqb, false, getD, length, not, true, ℕ}
@@ -31,3 +32,4 @@ pub use Rattle.registers.specs.Offsets.{faultStatusAt, flushAt, loadAt, lockAt,
 pub use Rattle.registers.specs.Offsets.{readRamHighAt, readRamLowAt, walkStatusAt}
 pub use Rattle.unit.specs.Refusals.{Clear, First, Refusals}
 pub use Rattle.walk.specs.Descriptors.{distanceOf, foundNumber, physicalOf}
+pub use Rattle.walk.specs.Statements.{LastLies, movedWalked, nowhere}

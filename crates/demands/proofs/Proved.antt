@@ -10,6 +10,8 @@ use Rattle.conduct.proofs.Filled.{locked-kept, one-slot-filled, no-page-no-fill
 use Rattle.conduct.proofs.Cached.{fault-not-cached}
 use Rattle.conduct.proofs.Flushed.{flush-exact}
 use Rattle.conduct.proofs.Metered.{metered, billed, posted-meters, bench-stays, good-kept}
+use Rattle.conduct.proofs.Placed.{comes-from-last, from-nowhere}
+use Rattle.conduct.proofs.Beside.{place-beside}
 use Rattle.conduct.proofs.Answered.{one-acknowledgement, off-is-virtual}
 use Rattle.conduct.proofs.Answering.{answers-on, prefetch-answered, shift-answered, nothing-said}
 use Rattle.conduct.proofs.Held.{fault-held, fault-dropped}
@@ -40,6 +42,9 @@ demand-2 = record {
   metered = metered;
   billed = billed;
   posted = posted-meters;
+  comes-from = comes-from-last;
+  from-nowhere = from-nowhere;
+  beside = place-beside;
   held = fault-held;
   dropped = fault-dropped;
   on = answers-on;

@@ -17,7 +17,8 @@ pub record Demand1 : Type 0 where
   pub builds : BuildRefuses
 
 -- 2. Answer and state after each call are those of the tables and the house rules (the contracts of the code are these very
--- definitions); a walk never touches a locked slot, a flush keeps exactly the preserved entries, a retry is metered as a retry
+-- definitions); a walk never touches a locked slot, a flush keeps exactly the preserved entries, a retry is metered as a retry;
+-- each walk says where its last word came from, and nothing else depends on it
 pub record Demand2 : Type 0 where
   pub locked : LockedKept
   pub filled : OneSlotFilled
@@ -27,6 +28,9 @@ pub record Demand2 : Type 0 where
   pub metered : Metered
   pub billed : WordsBilled
   pub posted : PostedMeters
+  pub comes-from : ComesFromLast
+  pub from-nowhere : FromNowhere
+  pub beside : PlaceBeside
   pub held : FaultHeld
   pub dropped : FaultDropped
   pub on : AnswersOn

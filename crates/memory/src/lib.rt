@@ -3,7 +3,7 @@ mod spans;
 
 use page::PhysicalAddress;
 ghost use Rattle.memory.specs.Names.{_≡_, _+_, _≤_, length, take, drop};
-ghost use Rattle.memory.specs.Reads.{wordCount};
+ghost use Rattle.memory.specs.Reads.{wordCount, lastPlace};
 ghost use Rattle.memory.specs.Memory.{memoryOk, lent, lentOk, placeOf, placeWithin, placeIn, fetchedWithin, fetchedIn, sourceOf};
 
 // Where four bytes lie: at an offset of the on-chip memory, of the external one, or in neither.
@@ -37,6 +37,17 @@ pub fn count(reads: Reads) -> u32
         Reads::Nothing => 0,
         Reads::One(_) => 1,
         Reads::Two(_, _) => 2,
+    }
+}
+
+// Where the last of them lies.
+pub fn last_place(reads: Reads) -> Place
+    ensures { λ r. ⌜ r ≡ lastPlace reads ⌝ }
+{
+    match reads {
+        Reads::Nothing => Place::Nowhere,
+        Reads::One(a) => a.place,
+        Reads::Two(_, b) => b.place,
     }
 }
 

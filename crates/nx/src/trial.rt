@@ -10,6 +10,7 @@ use crate::text;
 use bill::Bill;
 use calls::Call;
 use decision::Said;
+use memory::Place;
 use meters::Meters;
 use page::Access;
 use page::PhysicalAddress;
@@ -82,7 +83,7 @@ fn price_shown(line: &[u8], width: usize) -> bool {
             & text::shown(text::OUT, parse::trimmed(c))
             & remark(line, 0);
     }
-    call_shown(c, width) & remark(line, 41)
+    call_shown(c, width) & remark(line, 56)
 }
 
 // The larger of two widths.
@@ -268,7 +269,7 @@ fn signed_distance(x: u64) -> bool {
 // What a call said.
 fn told(said: Said) -> bool {
     let mut out = [0u8; 16];
-    run::answers::put_said(&mut out, 0, said);
+    run::answers::put_said(&mut out, 0, said, Place::Nowhere);
     answer(
         wire::word_at(&out, 0),
         joined(wire::word_at(&out, 8), wire::word_at(&out, 12)),
@@ -308,8 +309,30 @@ fn remark(line: &[u8], indent: usize) -> bool {
     text::blanks(text::OUT, indent) & text::shown(text::OUT, c) & text::put(text::OUT, b"\n")
 }
 
-// A line's row: a call with what the list says, what the unit answered and how many words it read; or a price.
-fn row(records: &[u8], line: &[u8], said: Said, read: u32, width: usize) -> bool {
+// Where the last word of a walk lies: its memory and its offset there.
+fn source(from: Place) -> bool {
+    match from {
+        Place::OnChip(k) => {
+            return text::put(text::OUT, b"on-chip  ") & text::hex(text::OUT, k as u64, 4);
+        }
+        Place::External(k) => {
+            return text::put(text::OUT, b"external ") & text::hex(text::OUT, k as u64, 4);
+        }
+        Place::Nowhere => return text::put(text::OUT, b"-"),
+    }
+}
+
+// How many blanks stand behind that, up to the column's end.
+fn behind(from: Place) -> usize {
+    match from {
+        Place::OnChip(_) => 2,
+        Place::External(_) => 2,
+        Place::Nowhere => 14,
+    }
+}
+
+// A line's row: a call with what the list says, what the unit answered, how many words it read and where the last one lies; or a price.
+fn row(records: &[u8], line: &[u8], said: Said, read: u32, from: Place, width: usize) -> bool {
     let s = script::said(line);
     match s {
         Step::Make(call) => {
@@ -318,7 +341,9 @@ fn row(records: &[u8], line: &[u8], said: Said, read: u32, width: usize) -> bool
                 & meant(records, call)
                 & told(said)
                 & text::decimal(text::OUT, read as u64)
-                & remark(line, 6);
+                & text::blanks(text::OUT, 6)
+                & source(from)
+                & remark(line, behind(from));
         }
         Step::OnChip(_) => return price_shown(line, width),
         Step::External(_) => return price_shown(line, width),
@@ -341,8 +366,17 @@ fn session(records: &[u8], ext: &[u8], t: &[u8], prices: Prices, width: usize) -
         let line = parse::line(t, at);
         let s = stepped(b, ext, call_of(script::said(line)), prices);
         let said = s.said;
+        let from = s.from;
         let next = s.bench;
-        ok = ok & row(records, line, said, metered(b.meters, next.meters), width);
+        ok = ok
+            & row(
+                records,
+                line,
+                said,
+                metered(b.meters, next.meters),
+                from,
+                width,
+            );
         b = next;
         at = parse::next_line(t, at);
     }
@@ -409,7 +443,7 @@ fn page(records: &[u8], ext: &[u8], t: &[u8]) -> bool {
         & text::pad(text::OUT, 5, width)
         & text::put(
             text::OUT,
-            b" list says  unit answers          words  remark\n",
+            b" list says  unit answers          words  from           remark\n",
         )
         & session(records, ext, t, prices_of(t), width)
 }

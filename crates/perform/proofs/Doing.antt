@@ -4,7 +4,7 @@ use Rattle.perform.specs.Names.{freshRegisters, Answer, Pending, Registe
 use Rattle.perform.proofs.Names.{sym, _∙_, ap, subst, afterOf, quietly, quietPerformed, doneOf, registersFor, decidedFor, Fit}
 use Rattle.bank.specs.InPlace.{Stands}
 use Rattle.perform.specs.Attempts.{Searchable}
-use Rattle.perform.specs.Performed.{performed, Fits, Performs}
+use Rattle.perform.specs.Performed.{Done, performed, Fits, Performs}
 
 module _ (m : Lent) (p : Prices) (b : Bill) (r : Registers) (cam ram lows highs : List ℕ) (lock victim : ℕ) (q : Pending) (plan : Plan) where
   abbrev bank : Bank
@@ -17,6 +17,10 @@ module _ (m : Lent) (p : Prices) (b : Bill) (r : Registers) (cam ram lows highs 
     is = ap (λ (z : Performed). doneOf z cm rm) xe ∙ h ∙ ap (performed m p b r bank q) (sym e);
     spanned = s;
   }
+
+  -- registers and slots, with the rest of what an attempt leaves
+  abbrev leaving : Registers → Bank → After → Done
+  leaving s k x = record { registers = s; bank = k; pending = x .pending; bill = x .bill; tally = x .tally; said = Said.Answered (x .answer); from = x .from }
 
   -- an attempt: what it leaves, then the slot that it fills
   pub attempt-performs : (a : Access) (e : Reason) (va : VirtualAddress) → plan ≡ Plan.Attempt a e va → Spanned cam lows highs → Fit (r .control) cam lock victim plan
@@ -32,6 +36,7 @@ module _ (m : Lent) (p : Prices) (b : Bill) (r : Registers) (cam ram lows highs 
         tally = x .tally;
         said = Said.Answered
             (x .answer);
+        from = x .from;
       }) cm rm ls hs
   attempt-performs a e va pe sp fit x xe next cm rm ls hs taken s se =
       let f : Fits (r .control) cam lock victim e va = subst (Fit (r .control) cam lock victim) pe fit in
@@ -39,17 +44,9 @@ module _ (m : Lent) (p : Prices) (b : Bill) (r : Registers) (cam ram lows highs 
       let o : Searchable cam lows highs (r .control) e va = record { ready = f .ready; cams = f .cams; spanned = sp; virtual = f .virtual } in
       record {
         is =
-            ap (λ (z : Registers). record { registers = z; bank = bankOf cm rm lock next; pending = x .pending; bill = x .bill; tally = x .tally; said = Said.Answered (x .answer) }) se
-            ∙ ap (λ (z : Bank). record { registers = registersFor e r va (x .answer); bank = z; pending = x .pending; bill = x .bill; tally = x .tally; said = Said.Answered (x .answer) }) (t .bank-is)
-            ∙ ap (λ (z : After). record {
-              registers = registersFor e r va (z .answer);
-              bank = entryFilled bank
-                  (z .fill);
-              pending = z .pending;
-              bill = z .bill;
-              tally = z .tally;
-              said = Said.Answered (z .answer);
-            }) (xe o)
+            ap (λ (z : Registers). leaving z (bankOf cm rm lock next) x) se
+            ∙ ap (λ (z : Bank). leaving (registersFor e r va (x .answer)) z x) (t .bank-is)
+            ∙ ap (λ (z : After). leaving (registersFor e r va (z .answer)) (entryFilled bank (z .fill)) z) (xe o)
             ∙ ap (performed m p b r bank q) (sym pe);
         spanned = t .spanned;
       }

@@ -1,5 +1,5 @@
 -- What an attempt leaves on each of its ways is what its decision leaves, whatever the reason; a prefetch is tried by a unit that is on and walks. Assumes nothing.
-use Rattle.perform.specs.Names.{_≡_, true, false, List, ℕ, pick, Access, VirtualAddress, wordCount, Prices, readsPosted, Bill, Seen, lookedUp}
+use Rattle.perform.specs.Names.{_≡_, true, false, List, ℕ, pick, Access, VirtualAddress, wordCount, lastPlace, Prices, readsPosted, Bill, Seen, lookedUp}
 use Rattle.perform.specs.Names.{Matched, Found, Walked, isOn, isWalking, Answer, Fault, Pending, plainly, Decision, Reason}
 use Rattle.perform.proofs.Names.{refl, sym, _∙_, ap, getD, decidedFor, afterOf, wordlessOf, walkedOf}
 use mathlib.Core.Bool.{true≢false}
@@ -18,7 +18,7 @@ foundFor Reason.Retry va a r f = byFound va a r f
 foundFor Reason.Prefetch va a r f = prefetchFound va r f
 
 module _ (p : Prices) (b : Bill) (q : Pending) (va : VirtualAddress) (a : Access) where
-  found-after : (e : Reason) (r : Reads) (f : Found) → walkedOf b e q va a (wordCount r) (readsPosted p b r) f ≡ afterOf p b e q va a (foundFor e va a r f)
+  found-after : (e : Reason) (r : Reads) (f : Found) → walkedOf b e q va a (wordCount r) (lastPlace r) (readsPosted p b r) f ≡ afterOf p b e q va a (foundFor e va a r f)
   unfolding pick byFound prefetchFound
   found-after Reason.Request r Found.Missing = refl
   found-after Reason.Request r Found.NoPage = refl
@@ -56,5 +56,5 @@ module _ (p : Prices) (b : Bill) (q : Pending) (va : VirtualAddress) (a : Access
     walk-found Reason.Prefetch h m k = prefetch-on w cam va Matched.Nothing m
 
     pub walk-after : (e : Reason) → isOn c ≡ true → lookedUp cam va ≡ Matched.Nothing → isWalking c ≡ true
-        → walkedOf b e q va a (wordCount (w .reads)) (readsPosted p b (w .reads)) (w .found) ≡ afterOf p b e q va a (decidedFor e w c cam ram va a)
+        → walkedOf b e q va a (wordCount (w .reads)) (lastPlace (w .reads)) (readsPosted p b (w .reads)) (w .found) ≡ afterOf p b e q va a (decidedFor e w c cam ram va a)
     walk-after e h m k = found-after e (w .reads) (w .found) ∙ ap (afterOf p b e q va a) (sym (walk-found e h m k))

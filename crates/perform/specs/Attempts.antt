@@ -1,7 +1,7 @@
 -- What an attempt leaves: by the slot that matches, or by what the walk finds.
 -- Internal, for the code: the machine that is signed is unit/specs/Calls.antt and Machine.antt.
 use Rattle.perform.specs.Names.{ℕ, _<_, _≡_, Bool, true, false, List, pick, limit, madeWords, Access, PhysicalAddress, VirtualAddress}
-use Rattle.perform.specs.Names.{wordCount, noTally, Prices, attemptPosted, seenPosted, Bill, Seen, camLimit, camsOk, lookedUp, Matched, Fill}
+use Rattle.perform.specs.Names.{wordCount, lastPlace, Place, noTally, Prices, attemptPosted, seenPosted, Bill, Seen, camLimit, camsOk, lookedUp, Matched, Fill}
 use Rattle.perform.specs.Names.{physicalOf, Found, Answer, Fault, Pending, plainly, byMatch, byAccess, settled, billed, Decision, Reason}
 use Rattle.perform.specs.Names.{Spanned, After}
 use Rattle.perform.specs.Performed.{tallyFor, TriedOn}
@@ -33,6 +33,7 @@ afterOf p b e q va a d = record {
   bill = billed p b d;
   tally = tallyFor e (wordCount (d .reads)) (d .answer);
   answer = d .answer;
+  from = lastPlace (d .reads);
 }
 
 -- the same of one that reads no word and fills nothing
@@ -43,24 +44,34 @@ wordlessOf b e q va a d = record {
   bill = seenPosted b (d .seen);
   tally = tallyFor e 0 (d .answer);
   answer = d .answer;
+  from = Place.Nowhere;
 }
 
--- and of a walk that read n words, with the bill after them
-abbrev pub walkedOf : Bill → Reason → Pending → VirtualAddress → Access → ℕ → Bill → Found → After
-walkedOf before e q va a n b Found.Missing = record { fill = Fill.Nothing; pending = q; bill = before; tally = noTally; answer = Answer.Refused 3 }
-walkedOf before e q va a n b Found.NoPage = record {
+-- and of a walk that read n words, the last one at a place, with the bill after them
+abbrev pub walkedOf : Bill → Reason → Pending → VirtualAddress → Access → ℕ → Place → Bill → Found → After
+walkedOf before e q va a n from b Found.Missing = record {
+  fill = Fill.Nothing;
+  pending = q;
+  bill = before;
+  tally = noTally;
+  answer = Answer.Refused 3;
+  from = Place.Nowhere;
+}
+walkedOf before e q va a n from b Found.NoPage = record {
   fill = Fill.Nothing;
   pending = Pending.Held (faultFor e) va a;
   bill = missedFor e b;
   tally = tallyFor e n (Answer.Fault (faultFor e));
   answer = Answer.Fault (faultFor e);
+  from = from;
 }
-walkedOf before e q va a n b (Found.Page p) = record {
+walkedOf before e q va a n from b (Found.Page p) = record {
   fill = Fill.Slot (madeWords (p .kind) (p .frame) (p .access) va);
   pending = settled va a q (answerFor e (p .access) (physicalOf p va) a);
   bill = missedFor e b;
   tally = tallyFor e n (answerFor e (p .access) (physicalOf p va) a);
   answer = answerFor e (p .access) (physicalOf p va) a;
+  from = from;
 }
 
 -- what an attempt asks of the slots, of the control register and of its address

@@ -18,7 +18,8 @@ pub use Rattle.decision.specs.declared.Shift.{Shift}
 pub use Rattle.lanes.specs.Lanes.{camLimit, camsOk, lookedUp}
 pub use Rattle.lanes.specs.declared.Matched.{Matched}
 pub use Rattle.memory.specs.Memory.{Lent, lent}
-pub use Rattle.memory.specs.Reads.{wordCount}
+pub use Rattle.memory.specs.Reads.{lastPlace, wordCount}
+pub use Rattle.memory.specs.declared.Place.{Place}
 pub use Rattle.meters.specs.Posted.{noTally}
 pub use Rattle.meters.specs.declared.Tally.{Tally}
 pub use Rattle.page.specs.Ground.{Bool, List, _%_, _/_, _<_, _≡_, false, true, ℕ}

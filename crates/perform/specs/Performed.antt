@@ -1,12 +1,12 @@
 -- What a plan leaves of a device's parts, and says (01, "The unit", "The walk", "Registers").
 -- Internal, for the code: the machine that is signed is unit/specs/Calls.antt and Machine.antt.
-use Rattle.perform.specs.Names.{ℕ, _<_, _≡_, _/_, _%_, List, true, false, limit, Access, VirtualAddress, Lent, wordCount, noTally, Tally}
+use Rattle.perform.specs.Names.{ℕ, _<_, _≡_, _/_, _%_, List, true, false, limit, Access, VirtualAddress, Lent, Place, wordCount, lastPlace, noTally, Tally}
 use Rattle.perform.specs.Names.{Prices, Bill, camLimit, camsOk, freshBank, entryFilled, lockedAt, bankFlushed, bankFlushedAt, loaded, copied}
 use Rattle.perform.specs.Names.{Bank, walkWithin, Walked, isOn, isWalking, freshRegisters, setting, withPrefetch, withCopied, wordsOf, entryOf}
 use Rattle.perform.specs.Names.{camAddress, valueAt, Answer, Pending, Registers, decided, settled, tallyOf, billed, prefetchDecided}
 use Rattle.perform.specs.Names.{prefetchKept, shiftBy, Decision, Said, Shift, settingAt, Plan, Reason, bankOf, Spanned, Performed}
 
--- what a call leaves of the parts, and says
+-- what a call leaves of the parts, and says; from is where the last word of its walk lies, nowhere where it made none
 pub record Done : Type 0 where
   pub registers : Registers
   pub bank : Bank
@@ -14,10 +14,15 @@ pub record Done : Type 0 where
   pub bill : Bill
   pub tally : Tally
   pub said : Said
+  pub from : Place
 
--- a call that reads no word leaves the bill as it is and adds nothing to the meters
+-- a call that charges nothing leaves the bill as it is and adds nothing to the meters
+abbrev pub uncharged : Registers → Bank → Pending → Bill → Said → Place → Done
+uncharged r k q b s f = record { registers = r; bank = k; pending = q; bill = b; tally = noTally; said = s; from = f }
+
+-- as one that reads no word
 abbrev pub quietly : Registers → Bank → Pending → Bill → Said → Done
-quietly r k q b s = record { registers = r; bank = k; pending = q; bill = b; tally = noTally; said = s }
+quietly r k q b s = uncharged r k q b s Place.Nowhere
 
 -- what an attempt comes to, where w is what the plain walk of its address gives
 abbrev pub decidedFor : Reason → Walked → ℕ → List ℕ → List ℕ → VirtualAddress → Access → Decision
@@ -46,12 +51,17 @@ endedFor p b e r k q va a x = record {
   bill = billed p b x;
   tally = tallyFor e (wordCount (x .reads)) (x .answer);
   said = Said.Answered (x .answer);
+  from = lastPlace (x .reads);
 }
 
 -- over memories that were tried
 abbrev pub attemptDone : Lent → Prices → Bill → Reason → Registers → Bank → Pending → VirtualAddress → Access → Done
 attemptDone m p b e r k q va a =
     endedFor p b e r k q va a (decidedFor e (walkWithin m (r .base .0) (va .0)) (r .control) (k .cam) (k .ram) va a)
+
+-- a shift report, where w is what the plain walk of its address gives
+abbrev pub reportDone : Bill → Registers → Bank → Pending → VirtualAddress → Walked → Done
+reportDone b r k q va w = uncharged r k q b (Said.Reported (shiftBy va (w .found))) (lastPlace (w .reads))
 
 -- what is planned, done
 abbrev pub performed : Lent → Prices → Bill → Registers → Bank → Pending → Plan → Done
@@ -67,12 +77,24 @@ performed m p b r k q Plan.Copy = quietly (withCopied r (entryOf (copied k))) k 
 performed m p b r k q Plan.Reset = quietly freshRegisters freshBank Pending.Nothing b (Said.Answered Answer.Done)
 performed m p b r k q Plan.Drop = quietly r k Pending.Nothing b (Said.Answered Answer.Done)
 performed m p b r k q (Plan.Attempt a e va) = attemptDone m p b e r k q va a
-performed m p b r k q (Plan.Shift va) = quietly r k q b (Said.Reported (shiftBy va (walkWithin m (r .base .0) (va .0) .found)))
+performed m p b r k q (Plan.Shift va) = reportDone b r k q va (walkWithin m (r .base .0) (va .0))
 performed m p b r k q (Plan.Unreported n) = quietly r k q b (Said.Reported (Shift.Refused n))
 
--- what reads no word, handed back by value
+-- what charges nothing, handed back by value, and what reads no word
+abbrev pub unchargedPerformed : Registers → ℕ → ℕ → Pending → Bill → Said → Place → Performed
+unchargedPerformed r lock victim q b s f = record {
+  registers = r;
+  lock = lock;
+  victim = victim;
+  pending = q;
+  bill = b;
+  tally = noTally;
+  said = s;
+  from = f;
+}
+
 abbrev pub quietPerformed : Registers → ℕ → ℕ → Pending → Bill → Said → Performed
-quietPerformed r lock victim q b s = record { registers = r; lock = lock; victim = victim; pending = q; bill = b; tally = noTally; said = s }
+quietPerformed r lock victim q b s = unchargedPerformed r lock victim q b s Place.Nowhere
 
 -- what is handed back by value, with the lanes as they then are
 abbrev pub doneOf : Performed → List ℕ → List ℕ → Done
@@ -83,6 +105,7 @@ doneOf x cam ram = record {
   bill = x .bill;
   tally = x .tally;
   said = x .said;
+  from = x .from;
 }
 
 -- a prefetch is tried by a unit that is on and walks

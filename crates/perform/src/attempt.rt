@@ -8,6 +8,7 @@ use bill::Seen;
 use decision::Decision;
 use lanes::Matched;
 use lanes::SLOTS;
+use memory::Place;
 use meters::Tally;
 use page::Access;
 use page::PhysicalAddress;
@@ -82,12 +83,14 @@ fn wordless(
 {
     let answer = d.answer;
     let seen = d.seen;
+    let nowhere = Place::Nowhere;
     After {
         fill: Fill::Nothing,
         pending: decision::settle(p, answer, va, a),
         bill: bill.post_seen(seen),
         tally: tally_for(reason, 0, answer),
         answer: answer,
+        from: nowhere,
     }
 }
 
@@ -140,9 +143,10 @@ fn walked(
     va: VirtualAddress,
     a: Access,
 ) -> After
-    ensures { λ r. ⌜ r ≡ walkedOf before reason q va a (w .words) (w .bill) (w .found) ⌝ }
+    ensures { λ r. ⌜ r ≡ walkedOf before reason q va a (w .words) (w .from) (w .bill) (w .found) ⌝ }
 {
     let found = w.found;
+    let from = w.from;
     let bill = w.bill;
     match found {
         Found::Missing => {
@@ -152,6 +156,7 @@ fn walked(
                 bill: before,
                 tally: Tally::zero(),
                 answer: Answer::Refused(3),
+                from: Place::Nowhere,
             };
         }
         Found::NoPage => {
@@ -163,6 +168,7 @@ fn walked(
                 bill: missed(reason, bill),
                 tally: tally_for(reason, w.words, says),
                 answer: says,
+                from: from,
             };
         }
         Found::Page(p) => {
@@ -176,6 +182,7 @@ fn walked(
                 bill: missed(reason, bill),
                 tally: tally_for(reason, w.words, says),
                 answer: says,
+                from: from,
             };
         }
     }

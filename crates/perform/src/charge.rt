@@ -1,6 +1,7 @@
 // The plain walk, each word charged to the bill as it is read.
 use crate::Charged;
 use bill::Bill;
+use memory::Place;
 use memory::Source;
 use page::PhysicalAddress;
 use page::VirtualAddress;
@@ -34,6 +35,7 @@ fn second<'a>(
             return Charged {
                 found: Found::Missing,
                 words: 0,
+                from: Place::Nowhere,
                 bill: before,
             };
         }
@@ -45,6 +47,7 @@ fn second<'a>(
             return Charged {
                 found: walk::descriptors::decode_second(table, w),
                 words: 2,
+                from: place,
                 bill: bill.post_word(source, prices),
             };
         }
@@ -68,11 +71,13 @@ fn rest<'a>(
     ensures { λ r. ⌜ r ≡ chargedOf prices before (byFirst (readWithin (lent (now (on .entry)) (onbase .0) (now (ext .entry)) (extbase .0))) (va .0) first d) ⌝ }
 {
     let v = va.0;
+    let only = first.place;
     match d {
         First::Fault => {
             return Charged {
                 found: Found::NoPage,
                 words: 1,
+                from: only,
                 bill: bill,
             };
         }
@@ -80,6 +85,7 @@ fn rest<'a>(
             return Charged {
                 found: Found::Page(p),
                 words: 1,
+                from: only,
                 bill: bill,
             };
         }
@@ -136,6 +142,7 @@ pub(crate) fn walk<'a>(
             return Charged {
                 found: Found::Missing,
                 words: 0,
+                from: Place::Nowhere,
                 bill: bill,
             };
         }

@@ -4,6 +4,7 @@ use bill::Bill;
 use decision::Said;
 use decision::Shift;
 use lanes::SLOTS;
+use memory::Place;
 use meters::Tally;
 use page::PhysicalAddress;
 use page::Words;
@@ -15,15 +16,16 @@ use registers::Registers;
 use registers::offsets;
 use walk::Found;
 ghost use Rattle.perform.specs.Names.{_≡_, lent, setting, bankOf, Spanned, settingAt};
-ghost use Rattle.perform.specs.Performed.{performed, quietPerformed, Fit, Performs};
+ghost use Rattle.perform.specs.Performed.{performed, unchargedPerformed, quietPerformed, Fit, Performs};
 
 mod attempt;
 mod charge;
 
-// What a walk finds, how many words it read, and the bill after them.
+// What a walk finds, how many words it read, where the last one lies, and the bill after them.
 pub(crate) struct Charged {
     found: Found,
     words: u32,
+    from: Place,
     bill: Bill,
 }
 
@@ -34,9 +36,10 @@ pub(crate) struct After {
     bill: Bill,
     tally: Tally,
     answer: Answer,
+    from: Place,
 }
 
-// What a plan leaves of the parts beside the lanes, and says.
+// What a plan leaves of the parts beside the lanes, and says: from is where the last word of a walk lies, nowhere where none was made.
 pub struct Performed {
     pub registers: Registers,
     pub lock: u8,
@@ -45,6 +48,7 @@ pub struct Performed {
     pub bill: Bill,
     pub tally: Tally,
     pub said: Said,
+    pub from: Place,
 }
 
 // A register set, by its offset and the bits that are kept.
@@ -86,9 +90,17 @@ fn set(r: Registers, offset: u32, v: u16) -> Registers
     }
 }
 
-// What reads no word.
-fn quietly(r: Registers, lock: u8, victim: u8, p: Pending, bill: Bill, said: Said) -> Performed
-    ensures { λ x. ⌜ x ≡ quietPerformed r lock victim p bill said ⌝ }
+// What charges nothing.
+fn uncharged(
+    r: Registers,
+    lock: u8,
+    victim: u8,
+    p: Pending,
+    bill: Bill,
+    said: Said,
+    from: Place,
+) -> Performed
+    ensures { λ x. ⌜ x ≡ unchargedPerformed r lock victim p bill said from ⌝ }
 {
     Performed {
         registers: r,
@@ -98,7 +110,15 @@ fn quietly(r: Registers, lock: u8, victim: u8, p: Pending, bill: Bill, said: Sai
         bill: bill,
         tally: Tally::zero(),
         said: said,
+        from: from,
     }
+}
+
+// What reads no word.
+fn quietly(r: Registers, lock: u8, victim: u8, p: Pending, bill: Bill, said: Said) -> Performed
+    ensures { λ x. ⌜ x ≡ quietPerformed r lock victim p bill said ⌝ }
+{
+    uncharged(r, lock, victim, p, bill, said, Place::Nowhere)
 }
 
 // What is planned, done. For a caller that has tried the memories, whose lanes of ends are those of the slots.
@@ -150,6 +170,7 @@ pub fn perform<'a>(
             let charged = x.bill;
             let tally = x.tally;
             let answer = x.answer;
+            let from = x.from;
             let next = bank::slots::take(cam, ram, lows, highs, lock, victim, fill);
             return Performed {
                 registers: attempt::registers_after(reason, r, va, answer),
@@ -159,6 +180,7 @@ pub fn perform<'a>(
                 bill: charged,
                 tally: tally,
                 said: Said::Answered(answer),
+                from: from,
             };
         }
         Plan::Refused(k) => {
@@ -230,9 +252,11 @@ pub fn perform<'a>(
         }
         Plan::Shift(va) => {
             let w = walk::walk_within(on, onbase, ext, extbase, base, va);
+            let reads = w.reads;
+            let from = memory::last_place(reads);
             let found = w.found;
             let shift = decision::shift_by(found, va);
-            return quietly(r, lock, victim, p, bill, Said::Reported(shift));
+            return uncharged(r, lock, victim, p, bill, Said::Reported(shift), from);
         }
         Plan::Unreported(k) => {
             return quietly(r, lock, victim, p, bill, Said::Reported(Shift::Refused(k)));

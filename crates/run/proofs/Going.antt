@@ -1,6 +1,6 @@
 -- What holds before each call of a run. Assumes nothing.
 use Rattle.run.specs.Names.{_≡_, Bool, true, List, ℕ, _+_, _*_, _≤_, length, _and_, Lent, posted, Meters, Prices, billOk, Bill, Bank, Pending}
-use Rattle.run.specs.Names.{Registers, Plan, Done, Call, stepped, Bench, Stepped, placed, wordsPut}
+use Rattle.run.specs.Names.{Registers, Place, Plan, Done, Call, stepped, Bench, Stepped, placed, wordsPut}
 use Rattle.run.proofs.Names.{sym, _∙_, ap, ap₂, arith, _<_, lentOk, moneyOk, bankOf, Fit, performed, BytesFit, callAt, isGood, saidWords}
 use Rattle.run.proofs.Names.{partsOk, planOf, benchOf, benchDone}
 use mathlib.Core.Path.{subst}
@@ -8,6 +8,8 @@ use Rattle.prices.specs.Prices.{pricesOk}
 use Rattle.bank.specs.InPlace.{Spanned}
 use Rattle.perform.specs.Performed.{Performs, doneOf}
 use Rattle.perform.specs.declared.Performed.{Performed}
+use Rattle.run.specs.Answers.{cutPlace}
+use Rattle.run.proofs.Offsets.{stepped-whole}
 use Rattle.run.proofs.Turns.{left, run-turn}
 use Rattle.run.proofs.Planned.{Narrow, narrow-at, planned, planned-stepped, planned-fits, range-same}
 
@@ -43,19 +45,21 @@ module _ (m : Lent) (p : Prices) (handed : ℕ) (calls : List ℕ) (n : ℕ) (st
   pub going-on : BytesFit m → c ≡ callAt calls (12 * i) → isGood c ≡ true
       → (y : Performed) (cm rm ls hs o : List ℕ) (tm : Meters)
       → Performs (performed m p b r bank q x) y cm rm ls hs
-      → tm ≡ posted t (y .tally) → length o ≡ length out → o ≡ wordsPut out (16 * i) (saidWords (y .said))
+      → tm ≡ posted t (y .tally) → length o ≡ length out → o ≡ wordsPut out (16 * i) (saidWords (y .said) (cutPlace (y .from)))
       → Going m p handed calls n start first o (y .registers) cm rm (y .lock) (y .victim) (y .pending) (y .bill) tm ls hs ok (i + 1)
   going-on bytes ce good y cm rm ls hs o tm done te ol w =
       let e : doneOf y cm rm ≡ performed m p b r bank q (planned m p r bank q b c) = done .is ∙ ap (performed m p b r bank q) plan-is in
-      let s : Stepped = record { bench = benchOf (y .registers) (bankOf cm rm (y .lock) (y .victim)) (y .pending) (y .bill) tm; said = y .said } in
+      let s : Stepped = record { bench = benchOf (y .registers) (bankOf cm rm (y .lock) (y .victim)) (y .pending) (y .bill) tm; said = y .said; from = y .from } in
       let se : s ≡ stepped m p (benchOf r bank q b t) c =
-      ap (λ (z : Meters). record { bench = benchOf (y .registers) (bankOf cm rm (y .lock) (y .victim)) (y .pending) (y .bill) z; said = y .said }) te
+      ap (λ (z : Meters). record { bench = benchOf (y .registers) (bankOf cm rm (y .lock) (y .victim)) (y .pending) (y .bill) z; said = y .said; from = y .from }) te
       ∙ ap (benchDone t) e
       ∙ planned-stepped m p r bank q b t c good in
+      let whole : cutPlace (y .from) ≡ y .from = subst (λ (z : Stepped). cutPlace (z .from) ≡ z .from) (sym se) (stepped-whole m p (benchOf r bank q b t) c) in
       record {
         below = omega arith;
         long = ol ∙ g .long;
-        same = g .same ∙ run-turn m p handed calls n out o (benchOf r bank q b t) i s h (omega (arith, g .long)) (se ∙ ap (stepped m p (benchOf r bank q b t)) ce) w;
+        same = g .same ∙ run-turn m p handed calls n out o (benchOf r bank q b t) i s h (omega (arith, g .long)) (se ∙ ap (stepped m p (benchOf r bank q b t)) ce)
+            (w ∙ ap (λ (f : Place). wordsPut out (16 * i) (saidWords (y .said) f)) whole);
         ranged =
             g .ranged
             ∙ sym (range-same m p r bank q b c good (subst Narrow (sym ce) (narrow-at calls (12 * i))) bytes)

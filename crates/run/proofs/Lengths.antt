@@ -9,7 +9,7 @@ pub session-length : (m : Lent) (p : Prices) (handed : ℕ) (b : Bench) (cs : Li
 unfolding sessionWords
 session-length m p handed b [] = state-length handed b
 session-length m p handed b (c ∷ cs) =
-    let w = length-append (saidWords (stepped m p b c .said)) (sessionWords m p handed (stepped m p b c .bench) cs) in
-    let u = said-length (stepped m p b c .said) in
+    let w = length-append (saidWords (stepped m p b c .said) (stepped m p b c .from)) (sessionWords m p handed (stepped m p b c .bench) cs) in
+    let u = said-length (stepped m p b c .said) (stepped m p b c .from) in
     let v = session-length m p handed (stepped m p b c .bench) cs in
     omega arith

@@ -20,19 +20,19 @@ module _ (m : Lent) (p : Prices) (handed : ℕ) (l : List ℕ) (n : ℕ) where
   calls-length i (suc k) = ap suc (calls-length (i + 1) k)
 
   pub run-turn : (out o : List ℕ) (b : Bench) (i : ℕ) (s : Stepped) → i < n → 16 * n + 328 ≤ length out
-      → s ≡ stepped m p b (callAt l (callSize * i)) → o ≡ wordsPut out (16 * i) (saidWords (s .said))
+      → s ≡ stepped m p b (callAt l (callSize * i)) → o ≡ wordsPut out (16 * i) (saidWords (s .said) (s .from))
       → placed out (16 * i) (left b i) ≡ placed o (16 * (i + 1)) (left (s .bench) (i + 1))
   unfolding sessionWords
   run-turn out o b i s h fits e q =
       let rest = left (s .bench) (i + 1) in
-      let u = said-length (s .said) in
+      let u = said-length (s .said) (s .from) in
       let v = session-length m p handed (s .bench) (callsFrom l (i + 1) (n - (i + 1))) in
       let w = calls-length (i + 1) (n - (i + 1)) in
       ap (λ (cs : List Call). placed out (16 * i) (sessionWords m p handed b cs)) (calls-next l n i h)
-      ∙ ap (λ (x : Stepped). placed out (16 * i) (saidWords (x .said) ++ sessionWords m p handed (x .bench) (callsFrom l (i + 1) (n - (i + 1))))) (sym e)
-      ∙ sym (placed-then out (16 * i) (saidWords (s .said)) (omega arith) rest (omega arith))
-      ∙ ap₂ (λ (x : List ℕ) (j : ℕ). placed x j rest) (sym (q ∙ written-fits out (16 * i) (saidWords (s .said)) (omega arith)))
-      (let d : 16 * i + 4 * length (saidWords (s .said)) ≡ 16 * (i + 1) = omega arith in d)
+      ∙ ap (λ (x : Stepped). placed out (16 * i) (saidWords (x .said) (x .from) ++ sessionWords m p handed (x .bench) (callsFrom l (i + 1) (n - (i + 1))))) (sym e)
+      ∙ sym (placed-then out (16 * i) (saidWords (s .said) (s .from)) (omega arith) rest (omega arith))
+      ∙ ap₂ (λ (x : List ℕ) (j : ℕ). placed x j rest) (sym (q ∙ written-fits out (16 * i) (saidWords (s .said) (s .from)) (omega arith)))
+      (let d : 16 * i + 4 * length (saidWords (s .said) (s .from)) ≡ 16 * (i + 1) = omega arith in d)
 
   pub run-end : (out : List ℕ) (b : Bench) (i : ℕ) → n ≤ i → i ≤ n → 16 * n + 328 ≤ length out
       → placed out (16 * i) (left b i) ≡ wordsPut out (16 * n) (stateWords handed b)

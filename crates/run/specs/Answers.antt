@@ -1,5 +1,5 @@
--- What a call said as 16 bytes: a number, a zero word, and a value of 8 bytes in two's complement.
-use Rattle.run.specs.Names.{ℕ, List, _∷_, answerNumber, shiftNumber, Answer, Shift, Said, twos, wide}
+-- What a call said as 16 bytes: a number, where the last word of its walk lies (02, P6), and a value of 8 bytes in two's complement.
+use Rattle.run.specs.Names.{ℕ, _+_, _*_, _%_, _^_, List, _∷_, Place, answerNumber, shiftNumber, Answer, Shift, Said, twos, wide}
 
 -- the numbers of what the paper gives none: a physical address, a register's value, a distance
 abbrev pub anAddress : ℕ
@@ -35,10 +35,22 @@ shiftWord (Shift.Distance z) = twos z
 shiftWord Shift.Fault = 0
 shiftWord (Shift.Refused k) = 0
 
--- a number and its value
-abbrev pub pairWords : ℕ → ℕ → List ℕ
-pairWords number value = number ∷ 0 ∷ wide value
+-- a place: memory * 2^28 + offset, the memories being 1 on chip and 2 external; 0 is nowhere
+abbrev pub placeCode : Place → ℕ
+placeCode (Place.OnChip k) = 1 * 2 ^ 28 + k
+placeCode (Place.External k) = 2 * 2 ^ 28 + k
+placeCode Place.Nowhere = 0
 
-abbrev pub saidWords : Said → List ℕ
-saidWords (Said.Answered r) = pairWords (answerCode r) (answerWord r)
-saidWords (Said.Reported s) = pairWords (shiftCode s) (shiftWord s)
+-- the offset in the bits that there are for it
+abbrev pub cutPlace : Place → Place
+cutPlace (Place.OnChip k) = Place.OnChip (k % 2 ^ 28)
+cutPlace (Place.External k) = Place.External (k % 2 ^ 28)
+cutPlace Place.Nowhere = Place.Nowhere
+
+-- a number, a place and a value
+abbrev pub answerWords : ℕ → Place → ℕ → List ℕ
+answerWords number place value = number ∷ placeCode place ∷ wide value
+
+abbrev pub saidWords : Said → Place → List ℕ
+saidWords (Said.Answered r) f = answerWords (answerCode r) f (answerWord r)
+saidWords (Said.Reported s) f = answerWords (shiftCode s) f (shiftWord s)

@@ -10,7 +10,8 @@ pub use Rattle.decision.specs.declared.Shift.{Shift}
 pub use Rattle.memory.specs.Memory.{Lent, lent}
 unfoldable pub use Rattle.meters.specs.Posted.{posted}
 pub use Rattle.meters.specs.declared.Meters.{Meters}
-pub use Rattle.page.specs.Ground.{Bool, List, [], _*_, _++_, _+_, _∷_, _≡_, _≤_, leb, length, true, ℕ}
+pub use Rattle.memory.specs.declared.Place.{Place}
+pub use Rattle.page.specs.Ground.{Bool, List, [], _%_, _*_, _++_, _+_, _^_, _∷_, _≡_, _≤_, leb, length, true, ℕ}
 unfoldable pub use Rattle.page.specs.Pick.{_and_, pick}
 pub use Rattle.perform.specs.Performed.{Done}
 pub use Rattle.plan.specs.Plans.{dropPlan, readPlan, requestPlan, shiftPlan, writePlan}

@@ -23,7 +23,7 @@ benchOf r k q b t = record { device = record { registers = r; bank = k; pending 
 
 -- the bench after a plan, and what it says
 abbrev pub benchDone : Meters → Done → Stepped
-benchDone t x = record { bench = benchOf (x .registers) (x .bank) (x .pending) (x .bill) (posted t (x .tally)); said = x .said }
+benchDone t x = record { bench = benchOf (x .registers) (x .bank) (x .pending) (x .bill) (posted t (x .tally)); said = x .said; from = x .from }
 
 -- every record is a call, and there is room for what a run writes
 pub record Runnable (calls out : List ℕ) : Type 0 where

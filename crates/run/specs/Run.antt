@@ -6,7 +6,7 @@ use Rattle.run.specs.MayRun.{runSize, mayRun}
 -- what is written: an answer for each call, then the state
 unfoldable pub sessionWords : Lent → Prices → ℕ → Bench → List Call → List ℕ
 sessionWords m p handed b [] = stateWords handed b
-sessionWords m p handed b (c ∷ cs) = saidWords (stepped m p b c .said) ++ sessionWords m p handed (stepped m p b c .bench) cs
+sessionWords m p handed b (c ∷ cs) = saidWords (stepped m p b c .said) (stepped m p b c .from) ++ sessionWords m p handed (stepped m p b c .bench) cs
 
 -- a number and the bytes beside it
 pub record Ran : Type 0 where

@@ -1,10 +1,14 @@
-// What a call said as 16 bytes: a number, a zero word and a value.
+// What a call said as 16 bytes: a number, where the last word of its walk lies, and a value.
 use decision::Said;
 use decision::Shift;
+use memory::Place;
 use registers::Answer;
 use registers::Fault;
 ghost use Rattle.run.specs.Names.{_≡_, faultNumber, wordsPut};
-ghost use Rattle.run.specs.Answers.{answerCode, answerWord, shiftCode, shiftWord, pairWords, saidWords};
+ghost use Rattle.run.specs.Answers.{answerCode, answerWord, shiftCode, shiftWord, placeCode, cutPlace, answerWords, saidWords};
+
+// A place's offset is below this, and its memory's number stands above it.
+const OFFSETS: usize = 268435456;
 
 // The number of a fault.
 fn fault_number(k: Fault) -> u32
@@ -66,32 +70,43 @@ fn shift_value(s: Shift) -> u64
     }
 }
 
-// A number and its value, as an answer's four words.
-fn pair(number: u32, value: u64) -> [u32; 4]
-    ensures { λ r. ⌜ r ≡ pairWords number value ⌝ }
+// A place in one word: the number of its memory and the offset there.
+pub fn place_code(p: Place) -> u32
+    ensures { λ r. ⌜ r ≡ placeCode (cutPlace p) ⌝ }
+{
+    match p {
+        Place::OnChip(k) => (OFFSETS + k % OFFSETS) as u32,
+        Place::External(k) => (2 * OFFSETS + k % OFFSETS) as u32,
+        Place::Nowhere => 0,
+    }
+}
+
+// A number, a place and a value, as an answer's four words.
+fn answer_words(number: u32, from: Place, value: u64) -> [u32; 4]
+    ensures { λ r. ⌜ r ≡ answerWords number (cutPlace from) value ⌝ }
 {
     [
         number,
-        0,
+        place_code(from),
         (value % 4294967296) as u32,
         (value / 4294967296) as u32,
     ]
 }
 
-// What a call said, as four words.
-fn said_words(said: Said) -> [u32; 4]
-    ensures { λ r. ⌜ r ≡ saidWords said ⌝ }
+// What a call said and where the last word of its walk lies, as four words.
+fn said_words(said: Said, from: Place) -> [u32; 4]
+    ensures { λ r. ⌜ r ≡ saidWords said (cutPlace from) ⌝ }
 {
     match said {
-        Said::Answered(r) => pair(answer_number(r), answer_value(r)),
-        Said::Reported(s) => pair(shift_number(s), shift_value(s)),
+        Said::Answered(r) => answer_words(answer_number(r), from, answer_value(r)),
+        Said::Reported(s) => answer_words(shift_number(s), from, shift_value(s)),
     }
 }
 
-// What a call said, at an offset, where there is room.
-pub fn put_said(out: &mut [u8], at: usize, said: Said)
-    ensures { λ _. ⌜ now (out .exit) ≡ wordsPut (now (out .entry)) at (saidWords said) ⌝ }
+// What a call said and where the last word of its walk lies, at an offset, where there is room.
+pub fn put_said(out: &mut [u8], at: usize, said: Said, from: Place)
+    ensures { λ _. ⌜ now (out .exit) ≡ wordsPut (now (out .entry)) at (saidWords said (cutPlace from)) ⌝ }
 {
-    let words = said_words(said);
+    let words = said_words(said, from);
     wire::put(out, at, &words);
 }

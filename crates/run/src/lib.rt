@@ -94,6 +94,7 @@ fn run_all<'a>(
             prices,
         );
         let said = x.said;
+        let from = x.from;
         let tally = x.tally;
         r = x.registers;
         lock = x.lock;
@@ -101,7 +102,7 @@ fn run_all<'a>(
         p = x.pending;
         bill = x.bill;
         meters = meters.posted(tally);
-        answers::put_said(out, ANSWER * i, said);
+        answers::put_said(out, ANSWER * i, said, from);
         i += 1;
     }
     let last = Bench {

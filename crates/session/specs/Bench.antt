@@ -1,4 +1,5 @@
 -- A bench in the middle of a session: what a call of a record makes of it and says, by the machine's own step (01, demand 2; 02, P1).
+use Rattle.memory.specs.declared.Place.{Place}
 use Rattle.meters.specs.Posted.{noMeters, posted}
 use Rattle.meters.specs.declared.Meters.{Meters}
 use Rattle.bill.specs.Bill.{freshBill}
@@ -21,6 +22,7 @@ abbrev pub made : Meters → Step → Stepped
 made t s = record {
   bench = record { device = s .device; bill = s .bill; meters = posted t (s .tally) };
   said = s .said;
+  from = s .from;
 }
 
 -- a call with its prices; a record that is none changes nothing
@@ -30,4 +32,4 @@ stepped m p b (Call.Read o) = made (b .meters) (step m (b .device) (b .bill) (Ma
 stepped m p b (Call.Request va a) = made (b .meters) (step m (b .device) (b .bill) (Machine.request va a p))
 stepped m p b Call.Drop = made (b .meters) (step m (b .device) (b .bill) Machine.drop-fault)
 stepped m p b (Call.Shift va) = made (b .meters) (step m (b .device) (b .bill) (Machine.shift va))
-stepped m p b Call.Bad = record { bench = b; said = Said.Answered Answer.Done }
+stepped m p b Call.Bad = record { bench = b; said = Said.Answered Answer.Done; from = Place.Nowhere }

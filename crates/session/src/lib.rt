@@ -2,6 +2,7 @@
 use bill::Bill;
 use calls::Call;
 use decision::Said;
+use memory::Place;
 use meters::Meters;
 use meters::Tally;
 use page::PhysicalAddress;
@@ -22,10 +23,11 @@ pub struct Bench {
     pub meters: Meters,
 }
 
-// The bench after a call, and what the call said.
+// The bench after a call, what the call said, and where the last word of its walk lies, nowhere where it made none.
 pub struct Stepped {
     pub bench: Bench,
     pub said: Said,
+    pub from: Place,
 }
 
 // The bench after a call that may walk.
@@ -36,6 +38,7 @@ fn posted(meters: Meters, outcome: Outcome) -> Stepped
     let bill = outcome.bill;
     let tally = outcome.tally;
     let answer = outcome.answer;
+    let from = outcome.from;
     Stepped {
         bench: Bench {
             device: device,
@@ -43,6 +46,7 @@ fn posted(meters: Meters, outcome: Outcome) -> Stepped
             meters: meters::after(meters, tally),
         },
         said: Said::Answered(answer),
+        from: from,
     }
 }
 
@@ -59,6 +63,7 @@ fn kept(meters: Meters, bill: Bill, told: Told) -> Stepped
             bill: bill,
             tally: Tally::zero(),
             answer: answer,
+            from: Place::Nowhere,
         },
     )
 }
@@ -105,6 +110,7 @@ impl Bench {
                 let reported = device.shift_report(va, on, onbase, ext, extbase);
                 let same = reported.device;
                 let shift = reported.shift;
+                let from = reported.from;
                 Stepped {
                     bench: Bench {
                         device: same,
@@ -112,11 +118,13 @@ impl Bench {
                         meters: meters::after(meters, Tally::zero()),
                     },
                     said: Said::Reported(shift),
+                    from: from,
                 }
             }
             Call::Bad => Stepped {
                 bench: self,
                 said: Said::Answered(Answer::Done),
+                from: Place::Nowhere,
             },
         }
     }

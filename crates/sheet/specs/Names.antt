@@ -6,8 +6,7 @@ pub use Rattle.builder.specs.declared.Built.{Built}
 pub use Rattle.demands.specs.Buyer.{lentAlone, pricesA, roomA, startA}
 pub use Rattle.lanes.specs.Lanes.{slots}
 pub use Rattle.memory.specs.Memory.{Lent}
-pub use Rattle.memory.specs.Reads.{sources}
-pub use Rattle.memory.specs.declared.Source.{Source}
+pub use Rattle.memory.specs.declared.Place.{Place}
 pub use Rattle.page.specs.Ground.{Bool, List, [], _*_, _++_, _+_, _-_, _/_, _∷_, _≡_, drop, eqb, false, getD, replicate, suc, take, true, zero, ℕ}
 unfoldable pub use Rattle.page.specs.Pick.{_and_}
 pub use Rattle.page.specs.Words.{virtual, wordValid}
@@ -15,7 +14,6 @@ pub use Rattle.registers.specs.Answers.{answerNumber, answerValues}
 pub use Rattle.registers.specs.Fields.{entryOf}
 pub use Rattle.translates.specs.ListA.{baseA, recordsA}
 unfoldable pub use Rattle.unit.specs.Calls.{requestOf, writeOf}
-pub use Rattle.unit.specs.Device.{decidedBy, look}
 pub use Rattle.unit.specs.Names.{Access, Answer, Bank, Entry}
 pub use Rattle.registers.specs.Offsets.{lockAt}
 pub use Rattle.unit.specs.declared.Device.{Device}

@@ -1,7 +1,7 @@
 -- The proved lines of the bench sheet as one table (01, "Bench sheet"): a question to the bench, and the numbers that answer it.
 use Rattle.sheet.specs.Names.{ℕ, zero, suc, _+_, _-_, _*_, _/_, _≡_, Bool, true, false, List, [], _∷_, _++_, eqb, getD, take, drop, replicate}
-use Rattle.sheet.specs.Names.{_and_, virtual, wordValid, wordOf, sources, Source, firstOf, First, Built, answerOf, builtNumber, builtValue}
-use Rattle.sheet.specs.Names.{freshBill, slots, answerNumber, answerValues, entryOf, Access, Bank, Answer, Entry, Device, Outcome, look, decidedBy}
+use Rattle.sheet.specs.Names.{_and_, virtual, wordValid, wordOf, Lent, Place, firstOf, First, Built, answerOf, builtNumber, builtValue}
+use Rattle.sheet.specs.Names.{freshBill, slots, answerNumber, answerValues, entryOf, Access, Bank, Answer, Entry, Device, Outcome}
 use Rattle.sheet.specs.Names.{requestOf, recordsA, baseA, pricesA, startA}
 use Rattle.sheet.specs.Bench.{builtA, lentA, lockedA}
 
@@ -14,7 +14,7 @@ pub data Question : Type 0 where
   fine : ℕ → ℕ → ℕ → Question
   -- the answer to a request
   request : ℕ → Access → Question
-  -- the address of the last word that a request reads
+  -- the address of the word that a request's answer came from
   lastWord : ℕ → Access → Question
   -- slot i in register form after a request
   slot : ℕ → ℕ → Access → Question
@@ -83,11 +83,11 @@ sheet =
     ++ both (lockedValid 31 0 0x012345) (31 ∷ [])
     ++ both (lockedSlot 31 0 31 0x012345) largeA
 
--- where the last of some words stands
-abbrev pub lastAt : List Source → List ℕ
-lastAt [] = []
-lastAt (s ∷ []) = s .at .0 ∷ []
-lastAt (s ∷ t ∷ ss) = lastAt (t ∷ ss)
+-- the address of a place; nowhere has none
+abbrev pub addressIn : Lent → Place → List ℕ
+addressIn m (Place.OnChip k) = (m .onbase + k) ∷ []
+addressIn m (Place.External k) = (m .extbase + k) ∷ []
+addressIn m Place.Nowhere = []
 
 -- slot i in register form: CAM high, CAM low, RAM high, RAM low
 abbrev pub entryHalves : Entry → List ℕ
@@ -148,12 +148,9 @@ module _ (bytes : List ℕ) where
   abbrev pub locked : ℕ → ℕ → Device
   locked lock victim = lockedA (lentA bytes) lock victim
 
-  -- a request of a device, and the words that its decision reads
+  -- a request of a device
   abbrev pub asked : Device → ℕ → Access → Outcome
   asked d va a = requestOf (lentA bytes) pricesA freshBill d (virtual va) a
-
-  abbrev pub readFor : Device → ℕ → Access → List Source
-  readFor d va a = sources (decidedBy (look (lentA bytes) d (virtual va)) d (virtual va) a .reads)
 
   -- what the bench answers
   unfoldable pub answeredIn : Question → List ℕ
@@ -161,7 +158,7 @@ module _ (bytes : List ℕ) where
   answeredIn (coarse i j k) = coarseWords (firstOf (wordIn i)) j k
   answeredIn (fine i j k) = fineWords (firstOf (wordIn i)) j k
   answeredIn (request va a) = saidNumbers (asked begun va a .answer)
-  answeredIn (lastWord va a) = lastAt (readFor begun va a)
+  answeredIn (lastWord va a) = addressIn (lentA bytes) (asked begun va a .from)
   answeredIn (slot i va a) = slotHalves (asked begun va a .device .bank) i
   answeredIn (lockedValid lock victim va a) = validFrom slots 0 (asked (locked lock victim) va a .device .bank)
   answeredIn (lockedSlot lock victim i va a) = slotHalves (asked (locked lock victim) va a .device .bank) i

@@ -5,6 +5,7 @@ use builder::Built;
 use calls::Call;
 use decision::Said;
 use libc::STDOUT_FILENO;
+use memory::Place;
 use page::Access;
 use page::PhysicalAddress;
 use page::VirtualAddress;
@@ -74,7 +75,7 @@ fn built(b: Built) {
 fn label(n: u32) {
     show::part(
         b"list A in 8192 bytes|list A in 8188 bytes|empty list in 64 bytes|word |coarse word|fine word \
-          |read |write |locked read |  words read|  slot 0|  slot 31",
+          |read |write |locked read |  words read|  slot 0|  slot 31|  from the word at|  from no word",
         n,
     );
 }
@@ -184,20 +185,20 @@ fn request(n: u32, va: u32) -> Call {
     Call::Request(VirtualAddress(va), Access::Read)
 }
 
-// A request of such a device, shown with what it said, and the device then.
-fn asked(ext: &[u8], n: u32, lock: u16, va: u32) -> Bench {
+// A request of such a device, shown with what it said, and what it left.
+fn asked(ext: &[u8], n: u32, lock: u16, va: u32) -> Stepped {
     label(n);
     io::print_hex(STDOUT_FILENO, va as u64, 6);
     let s = stepped(start(ext, lock), ext, request(n, va));
     let said = s.said;
     tell(said);
-    s.bench
+    s
 }
 
 // What a call said, as a number and a value.
 fn tell(said: Said) {
     let mut out = [0u8; 16];
-    run::answers::put_said(&mut out, 0, said);
+    run::answers::put_said(&mut out, 0, said, Place::Nowhere);
     show::said(
         number(wire::word_at(&out, 0)),
         wire::word_at(&out, 8) as u64,
@@ -212,11 +213,32 @@ fn number(n: u32) -> u64 {
     n as u64
 }
 
-// How many words were read, and CAM and RAM of the first and the last slot.
-fn slots(b: Bench) {
+// The address of a word in a memory at a base.
+fn word_at(base: u32, k: usize) {
+    label(12);
+    show::value(std::num::wrapping_add_u64(base as u64, k as u64));
+}
+
+// Where the last word came from.
+fn source(from: Place) {
+    match from {
+        Place::OnChip(k) => word_at(0, k),
+        Place::External(k) => word_at(BASE, k),
+        Place::Nowhere => {
+            label(13);
+            show::end();
+        }
+    }
+}
+
+// How many words were read, where the last one came from, and CAM and RAM of the first and the last slot.
+fn slots(s: Stepped) {
+    let from = s.from;
+    let b = s.bench;
     let m = b.meters;
     label(9);
     show::value(m.words as u64);
+    source(from);
     let d = b.device;
     let k = d.bank;
     slot(k, 10, 0);

@@ -1,7 +1,7 @@
 -- A plan by what was tested, done to a device, is the call. Assumes nothing.
 use Rattle.unit.specs.Names.{_≡_, Bool, ℕ, _and_, moneyOk, commandOf, Plan, Done, performed, Access, VirtualAddress, Lent, lentOk, Bill, Prices, Device}
 use Rattle.unit.proofs.Names.{sym, _∙_, ap, requestPlan, writePlan, readPlan, dropPlan, shiftPlan, inRange, toldOf, requestOf, writeOf, readOf}
-use Rattle.unit.proofs.Names.{dropOf, shiftOf}
+use Rattle.unit.proofs.Names.{dropOf, shiftOf, shiftFrom}
 use mathlib.Core.Path.{ap₂, subst}
 use Rattle.prices.specs.Prices.{pricesOk}
 use Rattle.bill.specs.Bill.{billOk}
@@ -34,7 +34,7 @@ module _ (m : Lent) (p : Prices) (b : Bill) (d : Device) (x : Plan) where
         (write-fits d (lentOk m) (moneyOk p b) (commandOf o v)) y _ h (write-done m p b d v o))
 
   pub shift-acts : (va : VirtualAddress) (ok l : Bool) → ok ≡ inRange d → l ≡ lentOk m → x ≡ shiftPlan ok l va
-      → (y : Done) → (Fitted d x → y ≡ run x) → y ≡ reporting m p b d (shiftOf m d va)
+      → (y : Done) → (Fitted d x → y ≡ run x) → y ≡ reporting m p b d (shiftOf m d va) (shiftFrom m d va)
   shift-acts va ok l oe le e y h =
       acts _ (e ∙ ap₂ (λ (u v : Bool). shiftPlan u v va) oe le) (shift-fits d (inRange d) (lentOk m) va) y _ h (shift-done m p b d va)
 

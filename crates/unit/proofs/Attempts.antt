@@ -1,11 +1,13 @@
 -- A walk over memories that were tried, and an attempt that lacks a word: it says 3 of itself. Assumes nothing.
-use Rattle.unit.specs.Names.{_≡_, Bool, true, not, [], _∷_, ℕ, _and_, isMissing, lookedUp, Pending, isPrefetch, isOn, isWalking, pageAt}
+use Rattle.unit.specs.Names.{_≡_, Bool, true, not, [], _∷_, ℕ, eqb, _and_, Place, Reads, wordCount, lastPlace, isMissing, lookedUp, Pending, isPrefetch, isOn, isWalking, pageAt}
 use Rattle.unit.specs.Names.{shiftBy, Shift, Access, VirtualAddress, Lent, lentOk, Found, Walked, Bill, Prices, Matched, Fault, Device}
 use Rattle.unit.proofs.Names.{refl, sym, _∙_, ap, not-true, pick-no, and-left, and-right, refuses, refusedWith, look, attemptOf, lacks}
 use Rattle.unit.proofs.Names.{retryLacks, prefetched, heldRetried}
 use mathlib.Core.Bool.{false≢true}
-use Rattle.walk.specs.Walk.{walkWithin}
+use Rattle.walk.specs.Descriptors.{firstOf}
+use Rattle.walk.specs.Walk.{readIn, walkWithin}
 use Rattle.walk.proofs.Walks.{walk-ok}
+use Rattle.walk.proofs.Words.{none-where-missing}
 use Rattle.decision.specs.Decisions.{byFound}
 use Rattle.decision.specs.Prefetches.{prefetchFound}
 use Rattle.decision.proofs.Joins.{decided-walk, prefetch-on}
@@ -21,6 +23,11 @@ found-missing : (f : Found) → isMissing f ≡ true → f ≡ Found.Missing
 found-missing (Found.Page p) h = absurd (false≢true h)
 found-missing Found.NoPage h = absurd (false≢true h)
 found-missing Found.Missing h = refl
+
+none-read : (r : Reads) → eqb (wordCount r) 0 ≡ true → lastPlace r ≡ Place.Nowhere
+none-read Reads.Nothing h = refl
+none-read (Reads.One s) h = absurd (false≢true h)
+none-read (Reads.Two s t) h = absurd (false≢true h)
 
 -- memories that were tried lose nothing by being tried again
 pub look-ok : (m : Lent) (d : Device) (va : VirtualAddress) → lentOk m ≡ true → walkWithin m (d .registers .base .0) (va .0) ≡ look m d va
@@ -73,3 +80,11 @@ module _ (m : Lent) (d : Device) (va : VirtualAddress) where
   shift-last h =
       last-same _ _ _ _ _ (ap (λ (w : Walked). shiftBy va (w .found)) (look-ok m d va h))
       (λ q. ap (shiftBy va) (found-missing (look m d va .found) q))
+
+  -- a walk that misses a word counts none as read
+  pub from-last : lentOk m ≡ true
+      → lastPlace (walkWithin m (d .registers .base .0) (va .0) .reads)
+      ≡ refuses ((isMissing (look m d va .found), 3) ∷ []) (λ (k : ℕ). Place.Nowhere) (lastPlace (look m d va .reads))
+  from-last h =
+      last-same _ _ _ _ _ (ap (λ (w : Walked). lastPlace (w .reads)) (look-ok m d va h))
+      (λ q. none-read (look m d va .reads) (none-where-missing (readIn m) (va .0) firstOf _ ∙ q))

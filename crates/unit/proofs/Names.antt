@@ -9,7 +9,7 @@ pub use Rattle.page.specs.Ground.{_<_}
 pub use Rattle.plan.specs.Plans.{commandPlan, dropPlan, pendingPlan, readPlan, requestPlan, shiftPlan, writePlan}
 pub use Rattle.plan.specs.declared.Reason.{Reason}
 pub use Rattle.unit.specs.Acts.{toldOf}
-unfoldable pub use Rattle.unit.specs.Calls.{dropOf, lacks, readOf, requestOf, shiftOf, writeOf}
+unfoldable pub use Rattle.unit.specs.Calls.{dropOf, lacks, readOf, requestOf, shiftFrom, shiftOf, writeOf}
 pub use Rattle.unit.specs.Calls.{heldRetried, prefetched, retryLacks}
 pub use Rattle.unit.specs.Device.{attemptOf, look, refusedWith}
 unfoldable pub use Rattle.unit.specs.Device.{inRange}

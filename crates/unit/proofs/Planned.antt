@@ -1,12 +1,13 @@
 -- Each call is its plan, performed on the parts of the device. Assumes nothing.
 use Rattle.unit.specs.Names.{_≡_, Bool, true, false, not, [], _∷_, ℕ, _/_, _%_, _^_, eqb, leb, pick, _and_, _or_, limit, moneyOk, slots, idle}
 use Rattle.unit.specs.Names.{isPrefetch, isOn, isWalking, withPrefetch, noRegister, commandOf, valueAt, Setting, isMissing, pageAt}
-use Rattle.unit.specs.Names.{prefetchDecided, prefetchKept, shiftBy, Said, Plan, Done, quietly, performed, Access, VirtualAddress, Lent, lentOk}
+use Rattle.unit.specs.Names.{prefetchDecided, prefetchKept, shiftBy, Said, Plan, Done, uncharged, performed, Place, lastPlace, Access, VirtualAddress, Lent, lentOk}
 use Rattle.unit.specs.Names.{Walked, Bill, Prices, Fault, Pending, Answer, Tending, Command, Shift, Device, Outcome}
 use Rattle.unit.proofs.Names.{refl, sym, _∙_, ap, _<_, arith, ltb-true, pick-yes, pick-no, pick-by, and-left, and-right, requestPlan}
-use Rattle.unit.proofs.Names.{pendingPlan, commandPlan, writePlan, readPlan, dropPlan, shiftPlan, Reason, Refusing, Refusals, refuses, inRange}
-use Rattle.unit.proofs.Names.{refusedWith, look, attemptOf, lacks, retryLacks, requestOf, writeOf, readOf, dropOf, shiftOf, prefetched}
+use Rattle.unit.proofs.Names.{pendingPlan, commandPlan, writePlan, readPlan, dropPlan, shiftPlan, Reason, Refusals, refuses, inRange}
+use Rattle.unit.proofs.Names.{refusedWith, look, attemptOf, lacks, retryLacks, requestOf, writeOf, readOf, dropOf, shiftOf, shiftFrom, prefetched}
 use Rattle.unit.proofs.Names.{heldRetried}
+use mathlib.Core.Path.{ap₂}
 use Prim.Native.Nat.{zero, suc}
 use lib.Dec.{ltb}
 use borrow.Author.Tests.{eqb-true, eqb-false, lt-leb, eq-eqb, ne-eqb}
@@ -18,19 +19,8 @@ use Rattle.perform.specs.Performed.{endedFor, decidedFor}
 use Rattle.unit.specs.Device.{cleared, told, toldRefused, doneWith}
 use Rattle.unit.specs.Acts.{doneBy, doneTold}
 use Rattle.unit.specs.Calls.{writeLacks, isMalformed, isUntimely, writeRefusals, readRefusals, retried, carried}
-use Rattle.unit.proofs.Refusing.{refused-here, passed, last-same}
-use Rattle.unit.proofs.Attempts.{look-ok, lacks-attempt, lacks-retry, prefetchLacks, lacks-prefetch, shift-last}
-
-pick-map : {A B : Type 0} (f : A → B) (t : Bool) (x y : A) → f (pick t x y) ≡ pick t (f x) (f y)
-unfolding pick
-pick-map f true x y = refl
-pick-map f false x y = refl
-
--- a list of refusals, seen through what is made of the call
-refuses-map : {K A B : Type 0} (f : A → B) (rs : Refusing K) (say : K → A) (y : A) → f (refuses rs say y) ≡ refuses rs (λ k. f (say k)) (f y)
-unfolding refuses
-refuses-map f [] say y = refl
-refuses-map f (r ∷ rs) say y = pick-map f (r .0) (say (r .1)) (refuses rs say y) ∙ ap (pick (r .0) (f (say (r .1)))) (refuses-map f rs say y)
+use Rattle.unit.proofs.Refusing.{refuses-map, refused-here, passed, last-same}
+use Rattle.unit.proofs.Attempts.{look-ok, lacks-attempt, lacks-retry, prefetchLacks, lacks-prefetch, shift-last, from-last}
 
 -- a bit is clear where it is not set
 bit-clear : (n : ℕ) → eqb (n % 2) 0 ≡ not (eqb (n % 2) 1)
@@ -135,6 +125,7 @@ module _ (m : Lent) (p : Prices) (b : Bill) (d : Device) where
         bill = y .bill;
         tally = y .tally;
         said = y .said;
+        from = y .from;
       }) e
 
   -- a request: its list of refusals
@@ -310,17 +301,18 @@ module _ (m : Lent) (p : Prices) (b : Bill) (d : Device) where
       by false i = refl
 
   -- a shift report
-  abbrev pub reporting : Shift → Done
-  reporting s = quietly (d .registers) (d .bank) (d .pending) b (Said.Reported s)
+  abbrev pub reporting : Shift → Place → Done
+  reporting s f = uncharged (d .registers) (d .bank) (d .pending) b (Said.Reported s) f
 
-  pub shift-done : (va : VirtualAddress) → run m p b d (shiftPlan (inRange d) (lentOk m) va) ≡ reporting (shiftOf m d va)
-  unfolding shiftOf pick refuses
+  pub shift-done : (va : VirtualAddress) → run m p b d (shiftPlan (inRange d) (lentOk m) va) ≡ reporting (shiftOf m d va) (shiftFrom m d va)
+  unfolding shiftOf shiftFrom pick refuses
   shift-done va = by (inRange d) (leb limit (va .0)) (lentOk m) refl
     where
       by : (ok v l : Bool) → lentOk m ≡ l
-          → run m p b d (pick ok (pick v (Plan.Unreported 1) (pick l (Plan.Shift va) (Plan.Unreported 4))) (Plan.Unreported 8))
-          ≡ reporting (refuses ((not ok, 8) ∷ (v, 1) ∷ (not l, 4) ∷ (isMissing (look m d va .found), 3) ∷ []) Shift.Refused (shiftBy va (look m d va .found)))
+          → let rs : Refusals = (not ok, 8) ∷ (v, 1) ∷ (not l, 4) ∷ (isMissing (look m d va .found), 3) ∷ [] in
+          run m p b d (pick ok (pick v (Plan.Unreported 1) (pick l (Plan.Shift va) (Plan.Unreported 4))) (Plan.Unreported 8))
+          ≡ reporting (refuses rs Shift.Refused (shiftBy va (look m d va .found))) (refuses rs (λ (k : ℕ). Place.Nowhere) (lastPlace (look m d va .reads)))
       by false v l h = refl
       by true true l h = refl
       by true false false h = refl
-      by true false true h = ap reporting (shift-last m d va h)
+      by true false true h = ap₂ reporting (shift-last m d va h) (from-last m d va h)

@@ -1,7 +1,18 @@
 -- A list of refusals: the first condition that holds is answered, one that does not hold is passed. Assumes nothing.
-use Rattle.unit.specs.Names.{_≡_, Bool, true, false, [], _∷_, ℕ}
-use Rattle.unit.proofs.Names.{refl, _∙_, pick-yes, pick-no, pick-by, Refusing, Refusals, refuses}
+use Rattle.unit.specs.Names.{_≡_, Bool, true, false, [], _∷_, ℕ, pick}
+use Rattle.unit.proofs.Names.{refl, _∙_, ap, pick-yes, pick-no, pick-by, Refusing, Refusals, refuses}
 use Rattle.unit.specs.Refusals.{Clear}
+
+pick-map : {A B : Type 0} (f : A → B) (t : Bool) (x y : A) → f (pick t x y) ≡ pick t (f x) (f y)
+unfolding pick
+pick-map f true x y = refl
+pick-map f false x y = refl
+
+-- a list of refusals, seen through what is made of the call
+pub refuses-map : {K A B : Type 0} (f : A → B) (rs : Refusing K) (say : K → A) (y : A) → f (refuses rs say y) ≡ refuses rs (λ k. f (say k)) (f y)
+unfolding refuses
+refuses-map f [] say y = refl
+refuses-map f (r ∷ rs) say y = pick-map f (r .0) (say (r .1)) (refuses rs say y) ∙ ap (pick (r .0) (f (say (r .1)))) (refuses-map f rs say y)
 
 module _ {A : Type 0} (t : Bool) (k : ℕ) (rs : Refusals) (say : ℕ → A) (else : A) where
   pub refused-here : t ≡ true → refuses ((t, k) ∷ rs) say else ≡ say k

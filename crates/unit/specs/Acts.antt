@@ -10,6 +10,7 @@ doneActed x = record {
   bill = x .bill;
   tally = x .tally;
   said = x .said;
+  from = x .from;
 }
 
 -- what a plan asks of a device
@@ -41,6 +42,7 @@ outcomeOf x = record {
   bill = x .bill;
   tally = x .tally;
   answer = answerIn (x .said);
+  from = x .from;
 }
 
 -- and back
@@ -52,6 +54,7 @@ doneBy x = record {
   bill = x .bill;
   tally = x .tally;
   said = Said.Answered (x .answer);
+  from = x .from;
 }
 
 abbrev pub doneTold : Bill → Told → Done

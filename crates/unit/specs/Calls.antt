@@ -1,5 +1,5 @@
 -- Each call: its refusals in the paper's order, then what it does (01, "Registers", "When the unit says no").
-use Rattle.unit.specs.Names.{ℕ, _/_, _%_, _^_, Bool, true, false, not, List, [], _∷_, eqb, leb, pick, _and_, _or_, wordCount, isMissing, loaded}
+use Rattle.unit.specs.Names.{ℕ, _/_, _%_, _^_, Bool, true, false, not, List, [], _∷_, eqb, leb, pick, _and_, _or_, Place, wordCount, lastPlace, isMissing, loaded}
 use Rattle.unit.specs.Names.{copied, moneyOk, slots, lookedUp, idle, isPrefetch, limit, isOn, isWalking, setting, withPrefetch, withCopied}
 use Rattle.unit.specs.Names.{wordsOf, entryOf, noRegister, commandOf, valueAt, tended, Answer, billed, pageAt, prefetchDecided, prefetchKept}
 use Rattle.unit.specs.Names.{shiftBy, Access, VirtualAddress, Lent, lentOk, Bill, Prices, Matched, Fault, Pending, Decision, Shift, Command}
@@ -93,6 +93,7 @@ prefetchEnds p b d v x = record {
   bill = billed p b x;
   tally = record { fresh = 0; retries = 0; words = wordCount (x .reads) };
   answer = x .answer;
+  from = lastPlace (x .reads);
 }
 
 abbrev pub prefetched : Lent → Prices → Bill → Device → ℕ → Outcome
@@ -155,3 +156,7 @@ shiftRefusals m d va =
 
 unfoldable pub shiftOf : Lent → Device → VirtualAddress → Shift
 shiftOf m d va = refuses (shiftRefusals m d va) Shift.Refused (shiftBy va (look m d va .found))
+
+-- and where the last word that its walk read lies, nowhere where it is refused (02, P6)
+unfoldable pub shiftFrom : Lent → Device → VirtualAddress → Place
+shiftFrom m d va = refuses (shiftRefusals m d va) (λ (k : ℕ). Place.Nowhere) (lastPlace (look m d va .reads))

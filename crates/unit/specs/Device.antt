@@ -1,5 +1,5 @@
 -- The device: fresh, in range, with parts set, and after an attempt (01, "The unit", "The walk").
-use Rattle.unit.specs.Names.{ℕ, Bool, _and_, wordCount, walkIn, noTally, freshBank, bankOk, entryFilled, freshRegisters, registersOk, pendingOk}
+use Rattle.unit.specs.Names.{ℕ, Bool, _and_, Place, wordCount, lastPlace, walkIn, noTally, freshBank, bankOk, entryFilled, freshRegisters, registersOk, pendingOk}
 use Rattle.unit.specs.Names.{Pending, decided, settled, tallyOf, billed, Access, VirtualAddress, Lent, Walked, Bill, Prices, Bank, Fill, Answer}
 use Rattle.unit.specs.Names.{Decision, Shift, Registers, Device, Outcome, Told, Reported}
 
@@ -31,12 +31,12 @@ toldRefused d k = told d (Answer.Refused k)
 abbrev pub toldDone : Device → Told
 toldDone d = told d Answer.Done
 
-abbrev pub reported : Device → Shift → Reported
-reported d s = record { device = d; shift = s }
+abbrev pub reported : Device → Shift → Place → Reported
+reported d s f = record { device = d; shift = s; from = f }
 
--- a call that reads no word leaves the bill as it is and adds nothing to the meters
+-- a call that reads no word leaves the bill as it is, adds nothing to the meters, and comes from nowhere
 abbrev pub unbilled : Bill → Told → Outcome
-unbilled b t = record { device = t .device; bill = b; tally = noTally; answer = t .answer }
+unbilled b t = record { device = t .device; bill = b; tally = noTally; answer = t .answer; from = Place.Nowhere }
 
 abbrev pub doneWith : Bill → Device → Outcome
 doneWith b d = unbilled b (toldDone d)
@@ -52,13 +52,14 @@ look m d va = walkIn m (d .registers .base .0) (va .0)
 abbrev pub applied : Device → Fill → Answer → VirtualAddress → Access → Device
 applied d f r va a = record { registers = d .registers; bank = entryFilled (d .bank) f; pending = settled va a (d .pending) r }
 
--- an attempt with its decision: again says whether it is a retry
+-- an attempt with its decision: again says whether it is a retry; it comes from where the last word that it read lies (02, P6)
 abbrev pub concluded : Prices → Bill → Bool → Device → VirtualAddress → Access → Decision → Outcome
 concluded p b again d va a x = record {
   device = applied d (x .fill) (x .answer) va a;
   bill = billed p b x;
   tally = tallyOf again (wordCount (x .reads)) (x .answer);
   answer = x .answer;
+  from = lastPlace (x .reads);
 }
 
 -- what a request or a retry comes to where w is what the plain walk of its address gives

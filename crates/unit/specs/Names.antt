@@ -23,14 +23,15 @@ pub use Rattle.decision.specs.Prefetches.{pageAt, prefetchKept, shiftBy, shiftN
 unfoldable pub use Rattle.decision.specs.Prefetches.{prefetchDecided}
 pub use Rattle.decision.specs.declared.Said.{Said}
 pub use Rattle.lanes.specs.Lanes.{lookedUp, slots}
-pub use Rattle.memory.specs.Reads.{wordCount}
+pub use Rattle.memory.specs.Reads.{lastPlace, wordCount}
+pub use Rattle.memory.specs.declared.Place.{Place}
 pub use Rattle.meters.specs.Posted.{noTally}
 unfoldable pub use Rattle.meters.specs.Posted.{posted}
 pub use Rattle.meters.specs.declared.Meters.{Meters}
 pub use Rattle.page.specs.Ground.{Bool, List, [], _%_, _/_, _^_, _∷_, _≡_, eqb, false, leb, not, true, ℕ}
 unfoldable pub use Rattle.page.specs.Pick.{_and_, _or_, pick}
 pub use Rattle.page.specs.Words.{limit}
-pub use Rattle.perform.specs.Performed.{Done, Fit, performed, quietly}
+pub use Rattle.perform.specs.Performed.{Done, Fit, performed, quietly, uncharged}
 pub use Rattle.plan.specs.declared.Plan.{Plan}
 pub use Rattle.registers.specs.Answers.{idle, isPrefetch, answerNumber}
 pub use Rattle.registers.specs.Fields.{entryOf, freshRegisters, isOn, isWalking, pendingOk, setting, withCopied, withPrefetch, wordsOf}

@@ -3,6 +3,7 @@ use bank::Bank;
 use bill::Bill;
 use decision::Said;
 use decision::Shift;
+use memory::Place;
 use meters::Tally;
 use page::Access;
 use page::PhysicalAddress;
@@ -16,7 +17,7 @@ use registers::Registers;
 ghost use Rattle.unit.specs.Names.{_≡_, lent, performed};
 ghost use Rattle.unit.specs.Device.{freshDevice, inRange, reported};
 ghost use Rattle.unit.specs.Acts.{doneActed, answerIn, shiftIn, outcomeOf, toldOf, Fitted, Alone};
-ghost use Rattle.unit.specs.Calls.{requestOf, writeOf, readOf, dropOf, shiftOf};
+ghost use Rattle.unit.specs.Calls.{requestOf, writeOf, readOf, dropOf, shiftOf, shiftFrom};
 
 // The registers, the slots, and perhaps one pending fault.
 pub struct Device {
@@ -25,12 +26,13 @@ pub struct Device {
     pub pending: Pending,
 }
 
-// What a call that may walk hands back.
+// What a call that may walk hands back: from is where the last word of its walk lies, nowhere where it made none.
 pub struct Outcome {
     pub device: Device,
     pub bill: Bill,
     pub tally: Tally,
     pub answer: Answer,
+    pub from: Place,
 }
 
 // What a call that never walks hands back.
@@ -39,10 +41,11 @@ pub struct Told {
     pub answer: Answer,
 }
 
-// What a shift report hands back.
+// What a shift report hands back: from is where the last word of its walk lies, nowhere where it is refused.
 pub struct Reported {
     pub device: Device,
     pub shift: Shift,
+    pub from: Place,
 }
 
 // What a plan leaves and says.
@@ -51,6 +54,7 @@ struct Acted {
     bill: Bill,
     tally: Tally,
     said: Said,
+    from: Place,
 }
 
 // What is planned, done to a device.
@@ -95,6 +99,7 @@ fn act<'a>(
     let charged = x.bill;
     let tally = x.tally;
     let said = x.said;
+    let from = x.from;
     Acted {
         device: Device {
             registers: registers,
@@ -109,6 +114,7 @@ fn act<'a>(
         bill: charged,
         tally: tally,
         said: said,
+        from: from,
     }
 }
 
@@ -161,11 +167,13 @@ fn outcome_of(x: Acted) -> Outcome
     let bill = x.bill;
     let tally = x.tally;
     let said = x.said;
+    let from = x.from;
     Outcome {
         device: device,
         bill: bill,
         tally: tally,
         answer: answer_of(said),
+        from: from,
     }
 }
 
@@ -281,7 +289,8 @@ impl Device {
         ext: &'a [u8],
         extbase: PhysicalAddress,
     ) -> Reported
-        ensures { λ r. ⌜ r ≡ reported self (shiftOf (lent (now (on .entry)) (onbase .0) (now (ext .entry)) (extbase .0)) self va) ⌝ }
+        ensures { λ r. ⌜ r ≡ reported self (shiftOf (lent (now (on .entry)) (onbase .0) (now (ext .entry)) (extbase .0)) self va)
+            (shiftFrom (lent (now (on .entry)) (onbase .0) (now (ext .entry)) (extbase .0)) self va) ⌝ }
     {
         let memories = memory::memories_ok(on, onbase, ext, extbase);
         let plan = plan::shift(self.in_range(), memories, va);
@@ -292,9 +301,11 @@ impl Device {
         let x = act(self, plan, on, onbase, ext, extbase, free, Bill::fresh());
         let device = x.device;
         let said = x.said;
+        let from = x.from;
         Reported {
             device: device,
             shift: shift_in(said),
+            from: from,
         }
     }
 }

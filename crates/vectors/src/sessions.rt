@@ -1,7 +1,10 @@
 // A scripted session on the device: every register, every refusal from 1 to 9 and every fault. Its file `stdout` was worked out by hand.
-// A line has the call, a number (0 accepted, 100 an address, 101 a value, 102 a distance, else the paper's) and a value.
+// A line has the call, a number (0 accepted, 100 an address, 101 a value, 102 a distance, else the paper's) and a value. A call that made a
+// walk has a line more: 1 and the offset of its last word on chip, 2 and the offset in the external memory.
+use crate::walks;
 use calls::Call;
 use decision::Said;
+use memory::Place;
 use page::Access;
 use page::PhysicalAddress;
 use page::VirtualAddress;
@@ -255,11 +258,16 @@ fn call_of(what: u32, x: u32, v: u16) -> Call {
     }
 }
 
-// What a call said, as a number and a value.
-fn tell(said: Said) {
+// What a call said, as a number and a value, and where the last word of its walk lies.
+fn tell(said: Said, from: Place) {
     let mut out = [0u8; 16];
-    run::answers::put_said(&mut out, 0, said);
+    run::answers::put_said(&mut out, 0, said, from);
     show::said(wire::word_at(&out, 0) as u64, wire::word_at(&out, 8) as u64);
+    if wire::word_at(&out, 4) != 0 {
+        show::text(b"  from");
+        walks::place(from);
+        show::end();
+    }
 }
 
 // The victim set to 32, which no call does.
@@ -290,7 +298,8 @@ fn asked(b: Bench, ext: &[u8], what: u32, x: u32, v: u16) -> Bench {
     show::numbers(x as u64, v as u64);
     let s = stepped(b, ext, what, call_of(what, x, v));
     let said = s.said;
-    tell(said);
+    let from = s.from;
+    tell(said, from);
     s.bench
 }
 

@@ -132,9 +132,14 @@ fn page(p: Page, va: u32) {
 
 // A word's address and the place that holds it.
 fn source(s: Source) {
-    let place = s.place;
+    let at = s.place;
     show::number(s.at.0 as u64);
-    match place {
+    place(at);
+}
+
+// A place: 1 and an offset on chip, 2 and an offset in the external memory.
+pub(crate) fn place(p: Place) {
+    match p {
         Place::OnChip(k) => show::numbers(1, k as u64),
         Place::External(k) => show::numbers(2, k as u64),
         Place::Nowhere => show::numbers(0, 0),

@@ -5,7 +5,7 @@ use Rattle.walk.proofs.Names.{afterFirst, walkFrom, walkIn, walkWithin,
 use Rattle.memory.specs.Memory.{lentOk, partAt}
 use Rattle.memory.proofs.Places.{place-ok, place-refused}
 use Rattle.walk.specs.Walk.{missing, walkOf}
-use Rattle.walk.specs.Statements.{bare, AgreeBelow, AgreeAfter}
+use Rattle.walk.specs.Statements.{nowhere, bare, movedRead, movedSource, movedWalked, AgreeBelow, AgreeAfter}
 use Rattle.walk.proofs.Laws.{first-proper, second-proper}
 
 -- readings that agree at the words read walk alike
@@ -39,31 +39,34 @@ module _ (rd rd′ : ℕ → Read) (e : (x : ℕ) → rd x ≡ rd′ x) (dec : �
   pub alike : walkFrom rd dec va a ≡ walkFrom rd′ dec va a
   alike = alike-at rd rd′ dec va a (e a) (agree-after (rd a))
 
+-- words that lie elsewhere are walked alike: what is found is the same, and each word read lies there
+module _ (f : Place → Place) (dec : ℕ → First) (va a : ℕ) where
+  second-moved : (t : Table) (s : Source) (b : ℕ) (r : Read) → afterSecond t (movedSource f s) b (movedRead f r) ≡ movedWalked f (afterSecond t s b r)
+  second-moved t s b Read.Missing = refl
+  second-moved t s b (Read.Word w p) = refl
+
+  module _ (rd : ℕ → Read) where
+    first-moved : (s : Source) (d : First) → byFirst (λ x. movedRead f (rd x)) va (movedSource f s) d ≡ movedWalked f (byFirst rd va s d)
+    first-moved s First.Fault = refl
+    first-moved s (First.Whole p) = refl
+    first-moved s (First.Coarse t) = second-moved Table.Coarse s (coarseAt t va) (rd (coarseAt t va))
+    first-moved s (First.Fine t) = second-moved Table.Fine s (fineAt t va) (rd (fineAt t va))
+
+    after-moved : (r : Read) → afterFirst (λ x. movedRead f (rd x)) dec va a (movedRead f r) ≡ movedWalked f (afterFirst rd dec va a r)
+    after-moved Read.Missing = refl
+    after-moved (Read.Word w p) = first-moved (sourceAt a p) (dec w)
+
+    walk-moved : walkFrom (λ x. movedRead f (rd x)) dec va a ≡ movedWalked f (walkFrom rd dec va a)
+    unfolding walkFrom
+    walk-moved = after-moved (rd a)
+
+  -- readings that agree but for places walk alike but for places
+  pub same-moved : (rd rd′ : ℕ → Read) → ((x : ℕ) → movedRead f (rd x) ≡ movedRead f (rd′ x)) → movedWalked f (walkFrom rd dec va a) ≡ movedWalked f (walkFrom rd′ dec va a)
+  same-moved rd rd′ e = sym (walk-moved rd) ∙ alike (λ x. movedRead f (rd x)) (λ x. movedRead f (rd′ x)) e dec va a ∙ walk-moved rd′
+
 -- what a walk finds depends on the words alone, not on the places that hold them
-module _ (rd : ℕ → Read) (dec : ℕ → First) (va a : ℕ) where
-  second-bare : (t : Table) (s s′ : Source) (b : ℕ) (r : Read) → afterSecond t s b r .found ≡ afterSecond t s′ b (bare r) .found
-  second-bare t s s′ b Read.Missing = refl
-  second-bare t s s′ b (Read.Word w p) = refl
-
-  first-bare : (s s′ : Source) (d : First) → byFirst rd va s d .found ≡ byFirst (λ x. bare (rd x)) va s′ d .found
-  first-bare s s′ First.Fault = refl
-  first-bare s s′ (First.Whole p) = refl
-  first-bare s s′ (First.Coarse t) = second-bare Table.Coarse s s′ (coarseAt t va) (rd (coarseAt t va))
-  first-bare s s′ (First.Fine t) = second-bare Table.Fine s s′ (fineAt t va) (rd (fineAt t va))
-
-  after-bare : (r : Read) → afterFirst rd dec va a r .found ≡ afterFirst (λ x. bare (rd x)) dec va a (bare r) .found
-  after-bare Read.Missing = refl
-  after-bare (Read.Word w p) = first-bare _ _ (dec w)
-
-  pub found-bare : walkFrom rd dec va a .found ≡ walkFrom (λ x. bare (rd x)) dec va a .found
-  unfolding walkFrom
-  found-bare = after-bare (rd a)
-
 pub same-words : (rd rd′ : ℕ → Read) → ((x : ℕ) → bare (rd x) ≡ bare (rd′ x)) → (dec : ℕ → First) (va a : ℕ) → walkFrom rd dec va a .found ≡ walkFrom rd′ dec va a .found
-same-words rd rd′ e dec va a =
-    found-bare rd dec va a
-    ∙ ap (λ w. w .found) (alike (λ x. bare (rd x)) (λ x. bare (rd′ x)) e dec va a)
-    ∙ sym (found-bare rd′ dec va a)
+same-words rd rd′ e dec va a = ap (λ w. w .found) (same-moved nowhere dec va a rd rd′ e)
 
 -- a page that a walk finds starts at its frame and has two bits of access
 module _ (rd : ℕ → Read) (va : ℕ) where

@@ -1,49 +1,47 @@
 -- The words that a walk read. Assumes nothing.
-use Rattle.walk.specs.Names.{_≡_, ℕ, eqb, Lent, placeIn, placeWithin, Place, Source, First, Read, Table}
-use Rattle.walk.proofs.Names.{refl, firstOf, coarseAt, fineAt, readAt, readIn, readWithin, sourceAt, afterSecond, byFirst, afterFirst}
-use Rattle.walk.proofs.Names.{walkFrom, walkIn, walkWithin, isMissing}
-use Rattle.memory.specs.Reads.{wordCount}
+use Rattle.walk.specs.Names.{_≡_, ℕ, eqb, Lent, placeIn, wordOf, Place, Source, Reads, First, Read, Table}
+use Rattle.walk.proofs.Names.{refl, ap, subst, firstOf, coarseAt, fineAt, readAt, readIn, sourceAt, afterSecond, byFirst, afterFirst}
+use Rattle.walk.proofs.Names.{walkFrom, walkIn, isMissing}
+use Rattle.memory.specs.Memory.{Inside, partAt}
+use Rattle.memory.specs.Reads.{lastPlace, wordCount}
+use Rattle.memory.proofs.Places.{inside}
 use Rattle.walk.proofs.Laws.{second-there}
-use Rattle.walk.specs.Statements.{PlacedRead, PlacedAt, ReadsPlaced}
+use Rattle.walk.specs.Statements.{LiesAt, ReadLies, LastLies}
 
--- a word lies where the reading found it
-module _ (place : ℕ → Place) (rd : ℕ → Read) (h : (x : ℕ) → PlacedRead place x (rd x)) (va : ℕ) where
-  placed-second : (t : Table) (s : Source) (b : ℕ) (r : Read) → PlacedAt place s → PlacedRead place b r → ReadsPlaced place (afterSecond t s b r .reads)
-  placed-second t s b Read.Missing e f = tt
-  placed-second t s b (Read.Word w p) e f = (e, f)
+-- a word that is read lies where it is said to
+module _ (m : Lent) (a : ℕ) where
+  lies-by : (p : Place) → placeIn m a ≡ p → ReadLies m a (readAt (wordOf (partAt m p)) p)
+  unfolding readIn
+  lies-by (Place.OnChip k) e = record { inside = subst (Inside m a) e (inside m a); word = ap (λ (p : Place). readAt (wordOf (partAt m p)) p) e }
+  lies-by (Place.External k) e = record { inside = subst (Inside m a) e (inside m a); word = ap (λ (p : Place). readAt (wordOf (partAt m p)) p) e }
+  lies-by Place.Nowhere e = tt
 
-  placed-first : (s : Source) (d : First) → PlacedAt place s → ReadsPlaced place (byFirst rd va s d .reads)
-  placed-first s First.Fault e = e
-  placed-first s (First.Whole p) e = e
-  placed-first s (First.Coarse t) e = placed-second Table.Coarse s (coarseAt t va) (rd (coarseAt t va)) e (h (coarseAt t va))
-  placed-first s (First.Fine t) e = placed-second Table.Fine s (fineAt t va) (rd (fineAt t va)) e (h (fineAt t va))
+  read-lies : ReadLies m a (readIn m a)
+  unfolding readIn
+  read-lies = lies-by (placeIn m a) refl
 
-  placed-after : (dec : ℕ → First) (a : ℕ) (r : Read) → PlacedRead place a r → ReadsPlaced place (afterFirst rd dec va a r .reads)
-  placed-after dec a Read.Missing e = tt
-  placed-after dec a (Read.Word w p) e = placed-first (sourceAt a p) (dec w) e
+-- so does the last word of a walk
+module _ (m : Lent) (va : ℕ) where
+  abbrev Last : Reads → Type 0
+  Last r = LastLies m r (lastPlace r)
 
-  pub placed : (dec : ℕ → First) (a : ℕ) → ReadsPlaced place (walkFrom rd dec va a .reads)
+  last-second : (t : Table) (s : Source) (b : ℕ) (r : Read) → ReadLies m b r → Last (afterSecond t s b r .reads)
+  last-second t s b Read.Missing h = refl
+  last-second t s b (Read.Word w p) h = (refl, h)
+
+  last-first : (s : Source) (d : First) → LiesAt m (s .at .0) (s .place) → Last (byFirst (readIn m) va s d .reads)
+  last-first s First.Fault h = (refl, h)
+  last-first s (First.Whole p) h = (refl, h)
+  last-first s (First.Coarse t) h = last-second Table.Coarse s (coarseAt t va) (readIn m (coarseAt t va)) (read-lies m (coarseAt t va))
+  last-first s (First.Fine t) h = last-second Table.Fine s (fineAt t va) (readIn m (fineAt t va)) (read-lies m (fineAt t va))
+
+  last-after : (a : ℕ) (r : Read) → ReadLies m a r → Last (afterFirst (readIn m) firstOf va a r .reads)
+  last-after a Read.Missing h = refl
+  last-after a (Read.Word w p) h = last-first (sourceAt a p) (firstOf w) h
+
+  pub walk-lies : (base : ℕ) → Last (walkIn m base va .reads)
   unfolding walkFrom
-  placed dec a = placed-after dec a (rd a) (h a)
-
-read-placed : (place : ℕ → Place) (a w : ℕ) (p : Place) → p ≡ place a → PlacedRead place a (readAt w p)
-read-placed place a w (Place.OnChip k) e = e
-read-placed place a w (Place.External k) e = e
-read-placed place a w Place.Nowhere e = tt
-
-read-in-placed : (m : Lent) (x : ℕ) → PlacedRead (placeIn m) x (readIn m x)
-unfolding readIn
-read-in-placed m x = read-placed (placeIn m) x _ (placeIn m x) refl
-
-pub walk-placed : (m : Lent) (base va : ℕ) → ReadsPlaced (placeIn m) (walkIn m base va .reads)
-walk-placed m base va = placed (placeIn m) (readIn m) (read-in-placed m) va firstOf _
-
-read-within-placed : (m : Lent) (x : ℕ) → PlacedRead (placeWithin m) x (readWithin m x)
-unfolding readWithin
-read-within-placed m x = read-placed (placeWithin m) x _ (placeWithin m x) refl
-
-pub walk-within-placed : (m : Lent) (base va : ℕ) → ReadsPlaced (placeWithin m) (walkWithin m base va .reads)
-walk-within-placed m base va = placed (placeWithin m) (readWithin m) (read-within-placed m) va firstOf _
+  walk-lies base = last-after _ (readIn m _) (read-lies m _)
 
 -- no word counts as read exactly where one is missing
 module _ (rd : ℕ → Read) (va : ℕ) where

@@ -6,6 +6,7 @@
 pub mod callers;
 pub mod coverage;
 pub mod lists;
+pub mod places;
 pub mod rows;
 pub mod states;
 pub mod worlds;
@@ -139,11 +140,19 @@ pub fn put_word(bytes: &mut [u8], at: usize, word: u32) {
     bytes[at..at + 4].copy_from_slice(&word.to_le_bytes());
 }
 
+pub fn put_double(bytes: &mut [u8], at: usize, double: u64) {
+    bytes[at..at + 8].copy_from_slice(&double.to_le_bytes());
+}
+
 /// Number and value of an answer.
 pub fn answer(bytes: &[u8], index: usize) -> (u32, i64) {
     let at = index * boundary::ANSWER;
-    assert_eq!(word(bytes, at + 4), 0);
     (word(bytes, at), double(bytes, at + 8) as i64)
+}
+
+/// Where an answer's word came from: memory * 2^28 + offset, or 0.
+pub fn from(bytes: &[u8], index: usize) -> u32 {
+    word(bytes, index * boundary::ANSWER + 4)
 }
 
 /// A state's bytes with names.

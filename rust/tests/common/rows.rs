@@ -22,20 +22,33 @@ pub fn image(program: &dyn Program, list: &[Record], room: usize) -> Vec<u8> {
     memory
 }
 
-/// Runs the start and then these calls. Their answers, and the state.
-pub fn play(
-    program: &dyn Program,
-    lending: &Lending,
-    calls: &[Call],
-) -> (Vec<(u32, i64)>, Vec<u8>) {
+/// Runs the start and then these calls. What is written for them: answers and state.
+fn run(program: &dyn Program, lending: &Lending, calls: &[Call]) -> Vec<u8> {
     let start = start();
     let all = [&start[..], calls].concat();
     let mut out = vec![0xA5; all.len() * 16 + STATE];
     let written = program.run(&lending, &all.concat(), &mut out);
     assert_eq!(written, out.len() as u64);
-    let answers: Vec<(u32, i64)> = (0..all.len()).map(|index| answer(&out, index)).collect();
-    assert!(answers[..start.len()].iter().all(|&answer| answer == (0, 0)));
-    (answers[start.len()..].to_vec(), out[all.len() * 16..].to_vec())
+    let rest = out.split_off(start.len() * 16);
+    assert!(out.iter().all(|&byte| byte == 0));
+    rest
+}
+
+/// The answers of these calls, and the state.
+pub fn play(
+    program: &dyn Program,
+    lending: &Lending,
+    calls: &[Call],
+) -> (Vec<(u32, i64)>, Vec<u8>) {
+    let mut out = run(program, lending, calls);
+    let answers = (0..calls.len()).map(|index| answer(&out, index)).collect();
+    (answers, out.split_off(calls.len() * 16))
+}
+
+/// Where the words of these calls came from.
+fn froms(program: &dyn Program, lending: &Lending, calls: &[Call]) -> Vec<u32> {
+    let out = run(program, lending, calls);
+    (0..calls.len()).map(|index| from(&out, index)).collect()
 }
 
 /// Answers alone, on an on-chip memory.
@@ -259,11 +272,53 @@ pub fn distances(program: &dyn Program) {
     assert_eq!(after, begun, "a shift report changes nothing");
 }
 
+/// "Say where the word came from" (P6): list A on-chip at 20000000, then as the
+/// external memory, then at the end of the longest on-chip memory.
+pub fn words_come_from(program: &dyn Program) {
+    let memory = image(program, &lists::list_a(), 65_536);
+    let plain = Lending::plain(&memory, BASE);
+    let external = Lending { external: &memory, external_base: BASE, ..Lending::plain(&[], 0) };
+    let longest = [vec![0xA5; 122_880], memory.clone()].concat();
+    let at_the_end = Lending::plain(&longest, BASE - 122_880);
+    // By lending: large page, section, tiny page, fault at the second level and
+    // at the first.
+    let rows = [
+        (plain, [0x1000_0448, 0x1000_000C, 0x1000_1004, 0x1000_1008, 0x1000_003C]),
+        (external, [0x2000_0448, 0x2000_000C, 0x2000_1004, 0x2000_1008, 0x2000_003C]),
+        (at_the_end, [0x1001_E448, 0x1001_E00C, 0x1001_F004, 0x1001_F008, 0x1001_E03C]),
+    ];
+    let addresses = [0x01_2345, 0x3A_BCDE, 0x50_07FF, 0x50_0800, 0xFF_FFFF];
+    for (lending, expected) in rows {
+        let from = |calls: &[Call]| froms(program, &lending, calls);
+        for (address, place) in addresses.into_iter().zip(expected) {
+            assert_eq!(from(&[request(0, address)]), [place], "{address:06x}");
+            assert_eq!(from(&[request(1, address)]), [place], "{address:06x}");
+            assert_eq!(from(&[shift(address)]), [place], "{address:06x}");
+            // The second prefetch is a match, or refused 2.
+            let prefetch = write(PREFETCH, (address >> 10) as u16);
+            assert_eq!(from(&[prefetch, prefetch]), [place, 0], "{address:06x}");
+        }
+        let [large, section, .., fault] = expected;
+        // Refused; a second request of the page, and a write to the section: matches.
+        assert_eq!(from(&[request(0, 0x100_0000)]), [0]);
+        assert_eq!(from(&[request(0, 0x01_2345), request(1, 0x01_F000)]), [large, 0]);
+        let denied = [request(0, 0x3A_BCDE), request(1, 0x30_0000), write(ACKNOWLEDGE, 1)];
+        assert_eq!(from(&denied), [section, 0, 0]);
+        // A retry that walks again; then a request refused 2, a read and a drop.
+        let retried = [request(0, 0xFF_FFFF), write(ACKNOWLEDGE, 1)];
+        let after = [request(0, 0x01_2345), read(CONTROL), drop_fault()];
+        assert_eq!(from(&[&retried[..], &after].concat()), [fault, fault, 0, 0, 0]);
+        // Without walking, and off.
+        assert_eq!(from(&[write(CONTROL, 3), request(0, 0x01_2345)]), [0, 0]);
+        assert_eq!(from(&[write(CONTROL, 5), request(0, 0x01_2345)]), [0, 0]);
+    }
+}
+
 /// A row of the sheet: its name, and the test.
 pub type Row = (&'static str, fn(&dyn Program));
 
 /// Every row.
-pub const ROWS: [Row; 9] = [
+pub const ROWS: [Row; 10] = [
     ("bench sheet", bench_sheet),
     ("empty list", empty_list),
     ("flushing by lock base", flush_goes_by_p),
@@ -273,4 +328,5 @@ pub const ROWS: [Row; 9] = [
     ("a cached fault", faults_are_not_cached),
     ("a fill below the lock base", fills_stay_above_the_lock_base),
     ("distances", distances),
+    ("where the word came from", words_come_from),
 ];

@@ -1,6 +1,6 @@
 use Rattle.capi.specs.Names.{lent, wordOf}
 use Rattle.capi.proofs.Names.{_∙_, ap, now, needs}
-use Rattle.capi.proofs.Offsets.{fetched-number}
+use Rattle.capi.proofs.Fetched.{fetched-number}
 use Rattle.capi.proofs.nx_fetch.Statement.{statement}
 use Rattle.capi.proofs.nx_fetch.Tie as tie
 

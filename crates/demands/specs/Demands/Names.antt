@@ -14,6 +14,7 @@ pub use Rattle.conduct.specs.Flushed.{FlushExact}
 pub use Rattle.conduct.specs.Held.{FaultDropped, FaultHeld}
 pub use Rattle.conduct.specs.Kept.{Frames}
 pub use Rattle.conduct.specs.Metered.{WordsBilled, Metered, PostedMeters}
+pub use Rattle.conduct.specs.Placed.{ComesFromLast, FromNowhere, PlaceBeside}
 pub use Rattle.conduct.specs.Refused.{AcceptedWhen, BenchStays, BytesFit, ExactlyWhen, GoodKept, NothingChanges, RangeKept, ValueFits}
 pub use Rattle.conduct.specs.Written.{LoadCopied, LoadThenCopy, ReadBack, ReadShown, ResetFresh}
 pub use Rattle.decision.specs.Names.{Access, Answer, Bill, Fault, PhysicalAddress, Prices, VirtualAddress}

@@ -1,5 +1,7 @@
-use Rattle.perform.specs.Names.{lent, bankOf, _≡_, ℕ, _%_, _<_, Bank, Walked, withCopied, entryOf, shiftBy, Shift, Answer, Said}
+use Rattle.perform.specs.Names.{lent, bankOf, _≡_, ℕ, _%_, _<_, Place, Bank, withCopied, entryOf, Shift, Answer, Said}
 use Rattle.perform.proofs.Names.{doneOf, quietPerformed, quietly, Fit, refl, _∙_, ap, subst, now, arith, getD, needs}
+use mathlib.Core.Path.{ap₂}
+use Rattle.perform.specs.Performed.{uncharged, reportDone}
 use Rattle.perform.proofs.Doing.{plan-performs, attempt-performs, reset-performs}
 use Rattle.bank.specs.Changes.{storedAt}
 use Rattle.registers.specs.declared.Entry.{Entry}
@@ -184,17 +186,17 @@ returns-9 c = λ sp fit.
 enum-told-5 : tie.Need-enum-told-5
 enum-told-5 c = search needs
 
-mul-t84 : tie.Need-mul-t84
-mul-t84 c = search needs
+mul-t87 : tie.Need-mul-t87
+mul-t87 c = search needs
 
-element-copy-out-t87 : tie.Need-element-copy-out-t87
-element-copy-out-t87 c = search needs
+element-copy-out-t90 : tie.Need-element-copy-out-t90
+element-copy-out-t90 c = search needs
 
-mul-t88 : tie.Need-mul-t88
-mul-t88 c = search needs
+mul-t91 : tie.Need-mul-t91
+mul-t91 c = search needs
 
-element-copy-out-t91 : tie.Need-element-copy-out-t91
-element-copy-out-t91 c = search needs
+element-copy-out-t94 : tie.Need-element-copy-out-t94
+element-copy-out-t94 c = search needs
 
 entry-of-requires : tie.Need-entry-of-requires
 entry-of-requires c κs = search needs
@@ -257,29 +259,33 @@ enum-known-plan-6 c = search needs
 walk-within-requires : tie.Need-walk-within-requires
 walk-within-requires c κs = search needs
 
+last-place-requires : tie.Need-last-place-requires
+last-place-requires c κs = search needs
+
 shift-by-requires : tie.Need-shift-by-requires
 shift-by-requires c κs = search needs
 
-quietly-requires-12 : tie.Need-quietly-requires-12
-quietly-requires-12 c κs = search needs
+uncharged-requires : tie.Need-uncharged-requires
+uncharged-requires c κs = search needs
 
 returns-13 : tie.Need-returns-13
 returns-13 c = λ sp fit.
-    let s2 = c .before .before in
-    let s4 = s2 .before .before in
-    let s10 = s4 .before .before .before .before .before .before in
-    let x = s10 .args in
+    let s3 = c .before .before .before in
+    let s5 = s3 .before .before in
+    let s11 = s5 .before .before .before .before .before .before in
+    let x = s11 .args in
     let m = lent (now (x .on)) (x .onbase .0) (now (x .ext)) (x .extbase .0) in
-    plan-performs m (x .prices) (x .bill) (x .r) (now (x .cam)) (now (x .ram)) (now (x .lows)) (now (x .highs)) (x .lock) (x .victim) (x .p) (x .plan) _ (s4 .plan6 .given .1) _ _
-    (c .quietly12 .ensures) _ _ _ _
-    (ap (λ (y : Shift). quietly (x .r) (bankOf (now (x .cam)) (now (x .ram)) (x .lock) (x .victim)) (x .p) (x .bill) (Said.Reported y))
-    (c .before .shift-by .ensures ∙ ap (λ (w : Walked). shiftBy (s4 .plan6 .given .0 .0) (w .found)) (s2 .walk-within .ensures))) (sp)
+    let bank = bankOf (now (x .cam)) (now (x .ram)) (x .lock) (x .victim) in
+    plan-performs m (x .prices) (x .bill) (x .r) (now (x .cam)) (now (x .ram)) (now (x .lows)) (now (x .highs)) (x .lock) (x .victim) (x .p) (x .plan) _ (s5 .plan6 .given .1) _ _
+    (c .uncharged .ensures) _ _ _ _
+    (ap₂ (λ (y : Shift) (f : Place). uncharged (x .r) bank (x .p) (x .bill) (Said.Reported y) f) (c .before .shift-by .ensures) (c .before .before .last-place .ensures)
+    ∙ ap (reportDone (x .bill) (x .r) bank (x .p) (s5 .plan6 .given .0 .0)) (s3 .walk-within .ensures)) (sp)
 
 enum-known-plan-7 : tie.Need-enum-known-plan-7
 enum-known-plan-7 c = search needs
 
-quietly-requires-13 : tie.Need-quietly-requires-13
-quietly-requires-13 c κs = search needs
+quietly-requires-12 : tie.Need-quietly-requires-12
+quietly-requires-12 c κs = search needs
 
 returns-14 : tie.Need-returns-14
 returns-14 c = λ sp fit.
@@ -288,7 +294,7 @@ returns-14 c = λ sp fit.
     let x = s8 .args in
     let m = lent (now (x .on)) (x .onbase .0) (now (x .ext)) (x .extbase .0) in
     plan-performs m (x .prices) (x .bill) (x .r) (now (x .cam)) (now (x .ram)) (now (x .lows)) (now (x .highs)) (x .lock) (x .victim) (x .p) (x .plan) _ (s2 .plan7 .given .1) _ _
-    (c .quietly13 .ensures) _ _ _ _ (refl) (sp)
+    (c .quietly12 .ensures) _ _ _ _ (refl) (sp)
 
 pub perform-spec : {M : Type 1} → statement M
 perform-spec =
@@ -331,10 +337,10 @@ perform-spec =
     quietly-requires-8
     returns-9
     enum-told-5
-    mul-t84
-    element-copy-out-t87
-    mul-t88
-    element-copy-out-t91
+    mul-t87
+    element-copy-out-t90
+    mul-t91
+    element-copy-out-t94
     entry-of-requires
     quietly-requires-9
     returns-10
@@ -348,9 +354,10 @@ perform-spec =
     returns-12
     enum-known-plan-6
     walk-within-requires
+    last-place-requires
     shift-by-requires
-    quietly-requires-12
+    uncharged-requires
     returns-13
     enum-known-plan-7
-    quietly-requires-13
+    quietly-requires-12
     returns-14)

@@ -7,7 +7,7 @@ after-requires c κs = search needs
 
 returns : tie.Need-returns
 returns c = let o = c .before .before .before .before .args .outcome in
-    let f : Meters → Stepped = λ (t : Meters). record { bench = record { device = o .device; bill = o .bill; meters = t }; said = Said.Answered (o .answer) } in
+    let f : Meters → Stepped = λ (t : Meters). record { bench = record { device = o .device; bill = o .bill; meters = t }; said = Said.Answered (o .answer); from = o .from } in
     ap f (c .after .ensures)
 
 pub posted-spec : {M : Type 1} → statement M

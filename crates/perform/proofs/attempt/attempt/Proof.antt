@@ -92,7 +92,7 @@ returns-4 c = λ s. let x = c .before .before .before .before .before .before .b
     let none = sym (c .before .before .before .before .before .before .find .ensures .lowest (s .cams) (s .spanned) (s .virtual)) ∙ c .before .before .before .before .enum-told .given .1 in
     let walks = sym (c .before .before .before .is-walking .ensures) ∙ not-false _ (c .before .before .if2 .left) in
     c .walked .ensures
-    ∙ ap (λ (y : Charged). walkedOf (x .bill) (x .reason) (x .p) (x .va) (x .a) (y .words) (y .bill) (y .found)) (c .before .walk .ensures)
+    ∙ ap (λ (y : Charged). walkedOf (x .bill) (x .reason) (x .p) (x .va) (x .a) (y .words) (y .from) (y .bill) (y .found)) (c .before .walk .ensures)
     ∙ walk-after (x .prices) (x .bill) (x .p) (x .va) (x .a) w _ _ (now (x .ram)) (x .reason) on none walks
 
 pub attempt-spec : {M : Type 1} → statement M

@@ -10,7 +10,7 @@ enum-told c = search needs
 returns : tie.Need-returns
 returns c = let a = c .before .before .before .before .args in
     let rd = readWithin (lent (now (a .on)) (a .onbase .0) (now (a .ext)) (a .extbase .0)) in
-    ap (λ (b : Bill). record { found = Found.NoPage; words = 1; bill = b }) (c .before .before .before .before .pre .1)
+    ap (λ (b : Bill). record { found = Found.NoPage; words = 1; from = a .first .place; bill = b }) (c .before .before .before .before .pre .1)
     ∙ ap (λ (x : First). chargedOf (a .prices) (a .before) (byFirst rd (a .va .0) (a .first) x)) (sym (c .enum-told .given .1))
 
 enum-known-d : tie.Need-enum-known-d
@@ -19,17 +19,17 @@ enum-known-d c = search needs
 returns-2 : tie.Need-returns-2
 returns-2 c = let a = c .before .before .before .before .before .args in
     let rd = readWithin (lent (now (a .on)) (a .onbase .0) (now (a .ext)) (a .extbase .0)) in
-    ap (λ (b : Bill). record { found = Found.Page (c .before .d .given .0 .0); words = 1; bill = b }) (c .before .before .before .before .before .pre .1)
+    ap (λ (b : Bill). record { found = Found.Page (c .before .d .given .0 .0); words = 1; from = a .first .place; bill = b }) (c .before .before .before .before .before .pre .1)
     ∙ ap (λ (x : First). chargedOf (a .prices) (a .before) (byFirst rd (a .va .0) (a .first) x)) (sym (c .before .d .given .1))
 
 enum-known-d-2 : tie.Need-enum-known-d-2
 enum-known-d-2 c = search needs
 
-mul-t21 : tie.Need-mul-t21
-mul-t21 c = search needs
+mul-t22 : tie.Need-mul-t22
+mul-t22 c = search needs
 
-add-t22 : tie.Need-add-t22
-add-t22 c = omega (arith, subst Room (c .before .before .d2 .given .1) (c .before .before .before .before .before .before .pre .0))
+add-t23 : tie.Need-add-t23
+add-t23 c = omega (arith, subst Room (c .before .before .d2 .given .1) (c .before .before .before .before .before .before .pre .0))
 
 second-requires : tie.Need-second-requires
 second-requires c κs = c .before .before .before .before .before .before .pre .1
@@ -44,11 +44,11 @@ returns-3 c = let a = c .before .before .before .before .before .before .before 
 enum-known-d-3 : tie.Need-enum-known-d-3
 enum-known-d-3 c = search needs
 
-mul-t26 : tie.Need-mul-t26
-mul-t26 c = search needs
+mul-t27 : tie.Need-mul-t27
+mul-t27 c = search needs
 
-add-t27 : tie.Need-add-t27
-add-t27 c = omega (arith, subst Room (c .before .before .d3 .given .1) (c .before .before .before .before .before .before .pre .0))
+add-t28 : tie.Need-add-t28
+add-t28 c = omega (arith, subst Room (c .before .before .d3 .given .1) (c .before .before .before .before .before .before .pre .0))
 
 second-requires-2 : tie.Need-second-requires-2
 second-requires-2 c κs = c .before .before .before .before .before .before .pre .1
@@ -69,12 +69,12 @@ rest-spec =
     enum-known-d
     returns-2
     enum-known-d-2
-    mul-t21
-    add-t22
+    mul-t22
+    add-t23
     second-requires
     returns-3
     enum-known-d-3
-    mul-t26
-    add-t27
+    mul-t27
+    add-t28
     second-requires-2
     returns-4)

@@ -25,7 +25,7 @@ post-word-requires c κs = search needs
 
 returns-2 : tie.Need-returns-2
 returns-2 c = let a = c .before .before .before .before .before .before .before .before .args in
-    ap₂ (λ (f : Found) (b : Bill). record { found = f; words = 2; bill = b }) (c .before .decode-second .ensures)
+    ap₂ (λ (f : Found) (b : Bill). record { found = f; words = 2; from = c .before .before .before .read .given .0 .1 .0; bill = b }) (c .before .decode-second .ensures)
     (c .post-word .ensures
     ∙ ap (λ (b : Bill). wordPosted (a .prices) b (sourceAt (a .at .0) (c .before .before .before .read .given .0 .1 .0))) (c .before .before .before .before .before .before .before .before .pre))
     ∙ ap (λ (x : Read). chargedOf (a .prices) (a .before) (afterSecond (a .table) (a .first) (a .at .0) x))

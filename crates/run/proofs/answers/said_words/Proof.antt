@@ -1,5 +1,6 @@
+use Rattle.run.specs.Names.{ℕ, Said}
 use Rattle.run.proofs.Names.{ap₂, sym, _∙_, ap, saidWords, needs}
-use Rattle.run.specs.Answers.{pairWords}
+use Rattle.run.specs.Answers.{answerWords, cutPlace}
 use Rattle.run.proofs.answers.said_words.Statement.{statement}
 use Rattle.run.proofs.answers.said_words.Tie as tie
 
@@ -12,8 +13,8 @@ answer-number-requires c κs = search needs
 answer-value-requires : tie.Need-answer-value-requires
 answer-value-requires c κs = search needs
 
-pair-requires : tie.Need-pair-requires
-pair-requires c κs = search needs
+answer-words-requires : tie.Need-answer-words-requires
+answer-words-requires c κs = search needs
 
 enum-known-said-2 : tie.Need-enum-known-said-2
 enum-known-said-2 c = search needs
@@ -24,14 +25,22 @@ shift-number-requires c κs = search needs
 shift-value-requires : tie.Need-shift-value-requires
 shift-value-requires c κs = search needs
 
-pair-requires-2 : tie.Need-pair-requires-2
-pair-requires-2 c κs = search needs
+answer-words-requires-2 : tie.Need-answer-words-requires-2
+answer-words-requires-2 c κs = search needs
 
 returns : tie.Need-returns
-returns c = c .pair .ensures ∙ ap₂ pairWords (c .before .before .answer-number .ensures) (c .before .answer-value .ensures) ∙ sym (ap saidWords (c .before .before .before .before .said .given .1))
+returns c =
+    let s4 = c .before .before .before .before in
+    let f = cutPlace (s4 .before .before .args .from) in
+    c .answer-words .ensures ∙ ap₂ (λ (n v : ℕ). answerWords n f v) (c .before .before .answer-number .ensures) (c .before .answer-value .ensures)
+    ∙ sym (ap (λ (s : Said). saidWords s f) (s4 .said .given .1))
 
 returns-2 : tie.Need-returns-2
-returns-2 c = c .pair2 .ensures ∙ ap₂ pairWords (c .before .before .shift-number .ensures) (c .before .shift-value .ensures) ∙ sym (ap saidWords (c .before .before .before .before .said2 .given .1))
+returns-2 c =
+    let s4 = c .before .before .before .before in
+    let f = cutPlace (s4 .before .before .args .from) in
+    c .answer-words2 .ensures ∙ ap₂ (λ (n v : ℕ). answerWords n f v) (c .before .before .shift-number .ensures) (c .before .shift-value .ensures)
+    ∙ sym (ap (λ (s : Said). saidWords s f) (s4 .said2 .given .1))
 
 pub said-words-spec : {M : Type 1} → statement M
 said-words-spec =
@@ -40,10 +49,10 @@ said-words-spec =
     enum-known-said
     answer-number-requires
     answer-value-requires
-    pair-requires
+    answer-words-requires
     enum-known-said-2
     shift-number-requires
     shift-value-requires
-    pair-requires-2
+    answer-words-requires-2
     returns
     returns-2)

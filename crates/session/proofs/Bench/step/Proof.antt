@@ -87,7 +87,8 @@ returns-4 c = let x = c .before .before .before .before .before .before .before 
 returns-5 : tie.Need-returns-5
 returns-5 c = let x = c .before .before .before .before .before .before .before .before .before .before .before .before .args in
     let m : Lent = lent (now (x .on)) (x .onbase .0) (now (x .ext)) (x .extbase .0) in
-    let f : Reported → Meters → Stepped = λ (r : Reported) (t : Meters). record { bench = record { device = r .device; bill = x .self .bill; meters = t }; said = Said.Reported (r .shift) } in
+    let f : Reported → Meters → Stepped = λ (r : Reported) (t : Meters).
+    record { bench = record { device = r .device; bill = x .self .bill; meters = t }; said = Said.Reported (r .shift); from = r .from } in
     ap (f (c .before .before .before .shift-report .result)) (c .after .ensures ∙ ap (posted (x .self .meters)) (c .before .zero .ensures))
     ∙ ap (λ (r : Reported). f r (posted (x .self .meters) noTally)) (c .before .before .before .shift-report .ensures)
     ∙ sym (ap (stepped m (x .prices) (x .self)) (c .before .before .before .before .before .call4 .given .1))

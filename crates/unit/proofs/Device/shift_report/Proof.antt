@@ -34,7 +34,7 @@ returns c =
     let x = s9 .args in
     let m = lent (now (x .on)) (x .onbase .0) (now (x .ext)) (x .extbase .0) in
     let e = shift-acts m _ _ (x .self) _ (x .va) _ _ (s5 .in-range .ensures) (s6 .memories-ok .ensures) (s4 .shift .ensures) _ (s2 .act .ensures) in
-    rw (c .shift-in .ensures) (ap (λ (y : Done). reported (toldOf y .device) (shiftIn (y .said))) e)
+    rw (c .shift-in .ensures) (ap (λ (y : Done). reported (toldOf y .device) (shiftIn (y .said)) (y .from)) e)
 
 pub shift-report-spec : {M : Type 1} → statement M
 shift-report-spec =
