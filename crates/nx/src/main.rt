@@ -2,6 +2,7 @@
 mod args;
 mod build;
 mod cli;
+mod columns;
 mod convert;
 mod files;
 mod list;

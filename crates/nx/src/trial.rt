@@ -1,4 +1,5 @@
 // nx try: a session on the model from a script, what each call says, and what the session cost.
+use crate::columns;
 use crate::files;
 use crate::files::Got;
 use crate::list;
@@ -12,12 +13,9 @@ use calls::Call;
 use decision::Said;
 use memory::Place;
 use meters::Meters;
-use page::Access;
 use page::PhysicalAddress;
-use page::VirtualAddress;
 use prices::Price;
 use prices::Prices;
-use records::Meaning;
 use session::Bench;
 use session::Stepped;
 ghost use Prim.Native.Nat.{_≤_};
@@ -188,94 +186,6 @@ fn prices_of(t: &[u8]) -> Prices {
     p
 }
 
-// What a list says, as text: blanks up to the column's end behind it.
-fn says(n: usize) -> bool {
-    text::part(text::OUT, b"-          |fault 21   |fault 23   |   ", n)
-}
-
-// What a list means at an address.
-fn meaning(m: Meaning) -> bool {
-    match m {
-        Meaning::Byte(at) => return text::hex(text::OUT, at.0 as u64, 8) & says(3),
-        Meaning::Permission => return says(2),
-        Meaning::Translation => return says(1),
-    }
-}
-
-// A distance from an address to another, in a column of a width.
-fn distance(from: u64, to: u64, width: usize) -> bool {
-    if from <= to {
-        return text::left(text::OUT, to - from, width);
-    }
-    if width == 0 {
-        return true;
-    }
-    text::put(text::OUT, b"-") & text::left(text::OUT, from - to, width - 1)
-}
-
-// What a list says of the distance at an address.
-fn shift_meaning(m: Meaning, va: VirtualAddress) -> bool {
-    match m {
-        Meaning::Byte(at) => return distance(va.0 as u64, at.0 as u64, 11),
-        Meaning::Permission => return says(2),
-        Meaning::Translation => return says(1),
-    }
-}
-
-// What a list says of a call.
-fn meant(records: &[u8], call: Call) -> bool {
-    match call {
-        Call::Request(va, a) => return meaning(records::lists::means(records, va, a)),
-        Call::Shift(va) => {
-            return shift_meaning(records::lists::means(records, va, Access::Read), va);
-        }
-        Call::Write(_, _) => return says(0),
-        Call::Read(_) => return says(0),
-        Call::Drop => return says(0),
-        Call::Bad => return says(0),
-    }
-}
-
-// What the unit answers, as text: blanks up to the column's end behind it.
-fn replies(n: usize) -> bool {
-    text::part(
-        text::OUT,
-        b"done                  |fault 21 translation  |fault 22 miss         |fault 23 permission   |fault 24 prefetch     \
-          |              |                  |refused ",
-        n,
-    )
-}
-
-// An answer, from its number and its value.
-fn answer(n: u32, x: u64) -> bool {
-    match n {
-        0 => return replies(0),
-        100 => return text::hex(text::OUT, x, 8) & replies(5),
-        101 => return text::hex(text::OUT, x, 4) & replies(6),
-        102 => return signed_distance(x),
-        21 | 22 | 23 | 24 => return replies((n - 20) as usize),
-        _ => return replies(7) & text::left(text::OUT, n as u64, 14),
-    }
-}
-
-// A distance of 64 bits in two's complement.
-fn signed_distance(x: u64) -> bool {
-    if x < 9223372036854775808 {
-        return distance(0, x, 22);
-    }
-    distance(std::num::wrapping_sub_u64(0, x), 0, 22)
-}
-
-// What a call said.
-fn told(said: Said) -> bool {
-    let mut out = [0u8; 16];
-    run::answers::put_said(&mut out, 0, said, Place::Nowhere);
-    answer(
-        wire::word_at(&out, 0),
-        joined(wire::word_at(&out, 8), wire::word_at(&out, 12)),
-    )
-}
-
 // The call of a line, none where it is no call.
 fn call_of(s: Step) -> Call {
     match s {
@@ -309,28 +219,6 @@ fn remark(line: &[u8], indent: usize) -> bool {
     text::blanks(text::OUT, indent) & text::shown(text::OUT, c) & text::put(text::OUT, b"\n")
 }
 
-// Where the last word of a walk lies: its memory and its offset there.
-fn source(from: Place) -> bool {
-    match from {
-        Place::OnChip(k) => {
-            return text::put(text::OUT, b"on-chip  ") & text::hex(text::OUT, k as u64, 4);
-        }
-        Place::External(k) => {
-            return text::put(text::OUT, b"external ") & text::hex(text::OUT, k as u64, 4);
-        }
-        Place::Nowhere => return text::put(text::OUT, b"-"),
-    }
-}
-
-// How many blanks stand behind that, up to the column's end.
-fn behind(from: Place) -> usize {
-    match from {
-        Place::OnChip(_) => 2,
-        Place::External(_) => 2,
-        Place::Nowhere => 14,
-    }
-}
-
 // A line's row: a call with what the list says, what the unit answered, how many words it read and where the last one lies; or a price.
 fn row(records: &[u8], line: &[u8], said: Said, read: u32, from: Place, width: usize) -> bool {
     let s = script::said(line);
@@ -338,12 +226,12 @@ fn row(records: &[u8], line: &[u8], said: Said, read: u32, from: Place, width: u
         Step::Make(call) => {
             return call_shown(parse::code(line), width)
                 & text::put(text::OUT, b" ")
-                & meant(records, call)
-                & told(said)
+                & columns::meant(records, call)
+                & columns::told(said)
                 & text::decimal(text::OUT, read as u64)
                 & text::blanks(text::OUT, 6)
-                & source(from)
-                & remark(line, behind(from));
+                & columns::source(from)
+                & remark(line, columns::behind(from));
         }
         Step::OnChip(_) => return price_shown(line, width),
         Step::External(_) => return price_shown(line, width),
@@ -398,14 +286,9 @@ fn totals(m: Meters) -> bool {
 fn paid(m: Meters, bill: Bill) -> bool {
     let w = state::rest_words(m, bill);
     text::put(text::OUT, b"  nanoseconds paid  ")
-        & figure(joined(w[3], w[4]))
+        & figure(columns::joined(w[3], w[4]))
         & text::put(text::OUT, b"  smoothed misses   ")
-        & figure(joined(w[5], w[6]))
-}
-
-// Two words, the lower one first, as one number.
-fn joined(low: u32, high: u32) -> u64 {
-    low as u64 + 4294967296 * high as u64
+        & figure(columns::joined(w[5], w[6]))
 }
 
 // How many whole hundredths a figure of a session has, from its bits.
