@@ -44,10 +44,11 @@ fn second<'a>(
                 at: at,
                 place: place,
             };
+            let last = place;
             return Charged {
                 found: walk::descriptors::decode_second(table, w),
                 words: 2,
-                from: place,
+                from: last,
                 bill: bill.post_word(source, prices),
             };
         }
