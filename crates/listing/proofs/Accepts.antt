@@ -1,6 +1,7 @@
 -- A text that is accepted is never refused 10. Assumes nothing.
 use Rattle.listing.specs.Names.{_≡_, Bool, true, false, not, List, [], _∷_, _++_, ℕ, zero, suc, _+_, _*_, _≤_, _<_, leb, ltb, length, take}
-use Rattle.listing.specs.Names.{drop, set, pick, _or_, megabytes, Mapping, recordAt, wellFormed, Checked, checked, Wrong, Said, Listed}
+use Rattle.listing.specs.Names.{drop, set, pick, _or_, megabytes, Mapping, recordSize, recordAt, wellFormed, most, Checked, checked, Wrong, Said}
+use Rattle.listing.specs.Names.{Listed}
 use Rattle.listing.proofs.Names.{refl, sym, ap, _∙_, subst, append-assoc, arith, decLe, lt-leb, leb-false, ltb-false, length-append}
 use Rattle.listing.proofs.Names.{length-drop, take-append-drop, length-take-le, take-at, drop-at, pick-no, pick-by, or-no, parsed, linesOf}
 use Rattle.listing.proofs.Names.{recordOf, pasted, Reading, reading, bySaid, readLines, readText}
@@ -43,15 +44,15 @@ module _ (l r : List ℕ) (n : ℕ) (w : length r ≡ 12) (f : 12 * n + 12 ≤ l
 
 -- n well-formed records lie at the front
 pub record Good (l : List ℕ) (n : ℕ) : Type 0 where
-  pub few : n ≤ 256
-  pub room : 3072 ≤ length l
+  pub few : n ≤ most
+  pub room : recordSize * most ≤ length l
   pub each : (j : ℕ) → j < n → wellFormed megabytes (recordAt l j) ≡ true
 
-good-more : (l : List ℕ) (n : ℕ) (m : Mapping) → Good l n → n < 256 → Sound m → Good (pasted l (12 * n) (recordOf m)) (suc n)
+good-more : (l : List ℕ) (n : ℕ) (m : Mapping) → Good l n → n < most → Sound m → Good (pasted l (12 * n) (recordOf m)) (suc n)
 unfolding recordOf
 good-more l n m g h s = record {
   few = omega arith;
-  room = subst (λ (k : ℕ). 3072 ≤ k) (sym (pasted-length l (12 * n) (recordOf m) (omega (arith, g .room)))) (g .room);
+  room = subst (λ (k : ℕ). recordSize * most ≤ k) (sym (pasted-length l (12 * n) (recordOf m) (omega (arith, g .room)))) (g .room);
   each = λ j k. elim (decLe n j) [
     | yes q ↦ subst (λ (i : ℕ). wellFormed megabytes (recordAt (pasted l (12 * n) (recordOf m)) i) ≡ true) (let z : n ≡ j = omega arith in z)
         (ap (wellFormed megabytes) (put-there l (recordOf m) n refl (omega (arith, g .room))) ∙ record-formed m s)
@@ -73,12 +74,12 @@ accept-lines (l ∷ t) i n rs ls g =
     go (parsed l) (sound-said l) (accept-lines t (suc i) n rs ls g) (λ m h s. accept-lines t (suc i) (suc n) (pasted rs (12 * n) (recordOf m)) (set ls n i) (good-more rs n m g h s))
   where
     go : (s : Said) → SoundSaid s → Accepts (readLines (suc i) n t rs ls)
-        → ((m : Mapping) → n < 256 → Sound m → Accepts (readLines (suc i) (suc n) t (pasted rs (12 * n) (recordOf m)) (set ls n i)))
+        → ((m : Mapping) → n < most → Sound m → Accepts (readLines (suc i) (suc n) t (pasted rs (12 * n) (recordOf m)) (set ls n i)))
         → Accepts (bySaid s (readLines (suc i) n t rs ls)
-        (λ m. pick (leb 256 n) (reading (Listed.Bad i Wrong.TooManyMappings) rs ls) (readLines (suc i) (suc n) t (pasted rs (12 * n) (recordOf m)) (set ls n i)))
+        (λ m. pick (leb most n) (reading (Listed.Bad i Wrong.TooManyMappings) rs ls) (readLines (suc i) (suc n) t (pasted rs (12 * n) (recordOf m)) (set ls n i)))
         (λ w. reading (Listed.Bad i w) rs ls))
     go Said.Nothing s a b = a
-    go (Said.Mapped m) s a b = pick-by Accepts _ _ _ (λ _. accept-bad i Wrong.TooManyMappings rs ls) (λ h. b m (leb-false 256 n h) s)
+    go (Said.Mapped m) s a b = pick-by Accepts _ _ _ (λ _. accept-bad i Wrong.TooManyMappings rs ls) (λ h. b m (leb-false most n h) s)
     go (Said.Bad w) s a b = accept-bad i w rs ls
 
 first : (a b : Bool) → (a or b) ≡ false → a ≡ false
@@ -93,8 +94,8 @@ accept-text t rs ls =
     (λ h. pick-by Accepts _ _ _ (λ _. accept-bad 0 Wrong.TextTooLong rs ls)
     (λ _. accept-lines (linesOf t) 1 0 rs ls (record { few = omega arith; room = room h; each = λ j k. absurd (omega arith) })))
   where
-    room : (ltb (length rs) 3072 or ltb (length ls) 256) ≡ false → 3072 ≤ length rs
-    room h = ltb-false (length rs) 3072 (first _ _ h)
+    room : (ltb (length rs) (recordSize * most) or ltb (length ls) most) ≡ false → recordSize * most ≤ length rs
+    room h = ltb-false (length rs) (recordSize * most) (first _ _ h)
 
 -- a check that finds no record bad does not say so
 never-from : (k i q : ℕ) (rs : List ℕ) → ((j : ℕ) → j < i + k → bad megabytes rs j ≡ false) → checkedFrom megabytes rs i k ≡ Checked.BadRecord q → ⊥
@@ -112,7 +113,7 @@ never l n q g e =
     let len = length-take-le (12 * n) l (omega (arith, g .few, g .room)) in
     never-from (begun (take (12 * n) l)) 0 q (take (12 * n) l)
     (λ j h. let k : j < n = omega arith in
-    or-no _ _ (lt-leb 256 j (omega (arith, g .few))) ∙ ap (λ (r : List ℕ). not (wellFormed megabytes r)) (record-taken l n j k (omega (arith, g .few, g .room))) ∙ ap not (g .each j k))
+    or-no _ _ (lt-leb most j (omega (arith, g .few))) ∙ ap (λ (r : List ℕ). not (wellFormed megabytes r)) (record-taken l n j k (omega (arith, g .few, g .room))) ∙ ap not (g .each j k))
     e
 
 pub never-bad : NeverBad

@@ -1,7 +1,7 @@
 -- Well-formed records, printed and read back, are the same records. Assumes nothing.
 use Rattle.listing.specs.Names.{_≡_, Bool, true, false, List, [], _∷_, _++_, ℕ, zero, suc, _+_, _*_, _/_, _%_, _≤_, _<_, _-_, eqb, leb, length}
 use Rattle.listing.specs.Names.{getD, take, drop, set, pick, _and_, _or_, megabytes, typeOf, Mapping, recordAt, mappings, multiple, wellFormed}
-use Rattle.listing.specs.Names.{Class, Wrong, Said, Listed}
+use Rattle.listing.specs.Names.{recordSize, most, Class, Wrong, Said, Listed}
 use Rattle.listing.proofs.Names.{refl, sym, ap, ap₂, _∙_, subst, append-assoc, arith, mod-eq-of-lt, decLe, le-leb, lt-leb, lt-ltb, le-ltb}
 use Rattle.listing.proofs.Names.{ltb-true, leb-true, eqb-true, lit≤, length-append, length-drop, length-take, List·getD-eq-default, length-set}
 use Rattle.listing.proofs.Names.{length-take-le, take-at, drop-append-add, drop-drop, kindOf, pick-yes, pick-no, pick-by, and-left, and-right}
@@ -76,14 +76,14 @@ lines-back : (m : Mapping) (l : List ℕ) → linesOf (lineText m ++ l) ≡ bare
 lines-back m l = ap linesOf (line-is m l) ∙ cut _ l (in-bare Class.Inline tt (m .kind) (m .at .0) (m .to .0) (accessText (m .access)) (access-high (m .access)))
 
 -- a line that says a mapping, read
-mapped-next : (i n : ℕ) (w : List ℕ) (t : List (List ℕ)) (rs ls : List ℕ) (m : Mapping) → n < 256 → parsed w ≡ Said.Mapped m
+mapped-next : (i n : ℕ) (w : List ℕ) (t : List (List ℕ)) (rs ls : List ℕ) (m : Mapping) → n < most → parsed w ≡ Said.Mapped m
     → readLines i n (w ∷ t) rs ls ≡ readLines (suc i) (suc n) t (pasted rs (12 * n) (recordOf m)) (set ls n i)
 unfolding readLines
 mapped-next i n w t rs ls m h e =
     ap (λ (s : Said). bySaid s (readLines (suc i) n t rs ls)
-    (λ m. pick (leb 256 n) (reading (Listed.Bad i Wrong.TooManyMappings) rs ls) (readLines (suc i) (suc n) t (pasted rs (12 * n) (recordOf m)) (set ls n i)))
+    (λ m. pick (leb most n) (reading (Listed.Bad i Wrong.TooManyMappings) rs ls) (readLines (suc i) (suc n) t (pasted rs (12 * n) (recordOf m)) (set ls n i)))
     (λ w. reading (Listed.Bad i w) rs ls)) e
-    ∙ pick-no _ _ _ (lt-leb 256 n h)
+    ∙ pick-no _ _ _ (lt-leb most n h)
 
 -- the empty line behind the last
 nothing-last : (i n : ℕ) (rs ls : List ℕ) → readLines i n (linesOf []) rs ls ≡ reading (Listed.Mappings n) rs ls
@@ -99,7 +99,7 @@ abbrev Gives : Reading → ℕ → List ℕ → Type 0
 Gives r n rs = (r .answer ≡ Listed.Mappings n) × (r .records ≡ rs)
 
 back-from : (rs : List ℕ) → ((j : ℕ) → 12 * j + 12 ≤ length rs → j < length rs / 12 → Told (mappingOf (recordAt rs j)) × (recordOf (mappingOf (recordAt rs j)) ≡ recordAt rs j))
-    → (k c i : ℕ) (room ls : List ℕ) → 12 * (c + k) ≤ length rs → c + k ≤ 256 → 3072 ≤ length room
+    → (k c i : ℕ) (room ls : List ℕ) → 12 * (c + k) ≤ length rs → c + k ≤ most → recordSize * most ≤ length room
     → Gives (readLines i c (linesOf (printed (mappingsFrom rs c k))) room ls) (c + k) (pasted room (12 * c) (take (12 * k) (drop (12 * c) rs)))
 unfolding mappingsFrom printed
 back-from rs f zero c i room ls h g r =
@@ -111,7 +111,7 @@ back-from rs f (suc k) c i room ls h g r =
     let len : length (recordOf m) ≡ 12 = record-length m in
     let fits : 12 * c + length (recordOf m) ≤ length room = omega arith in
     let next : List ℕ = pasted room (12 * c) (recordOf m) in
-    let ih = back-from rs f k (suc c) (suc i) next (set ls c i) (omega arith) (omega arith) (subst (λ (n : ℕ). 3072 ≤ n) (sym (pasted-length room (12 * c) (recordOf m) fits)) r) in
+    let ih = back-from rs f k (suc c) (suc i) next (set ls c i) (omega arith) (omega arith) (subst (λ (n : ℕ). recordSize * most ≤ n) (sym (pasted-length room (12 * c) (recordOf m) fits)) r) in
     subst (λ (x : Reading). Gives x (c + suc k) (pasted room (12 * c) (take (12 * suc k) (drop (12 * c) rs))))
     (sym (ap (λ (x : List (List ℕ)). readLines i c x room ls) (lines-back m (printed (mappingsFrom rs (suc c) k)))
     ∙ mapped-next i c (bare (m .kind) (m .at .0) (m .to .0) (accessText (m .access))) (linesOf (printed (mappingsFrom rs (suc c) k))) room ls m (omega arith) (told-said m (t .0)))) (
@@ -130,13 +130,13 @@ abbrev Numbered : Reading → List ℕ → ℕ → ℕ → ℕ → Type 0
 Numbered r ls c k i = ((j : ℕ) → j < c → getD (r .lines) j 0 ≡ getD ls j 0) × ((j : ℕ) → c ≤ j → j < c + k → getD (r .lines) j 0 ≡ i + (j - c))
 
 numbered-from : (rs : List ℕ) → ((j : ℕ) → 12 * j + 12 ≤ length rs → j < length rs / 12 → Told (mappingOf (recordAt rs j)))
-    → (k c i : ℕ) (room ls : List ℕ) → 12 * (c + k) ≤ length rs → c + k ≤ 256 → 256 ≤ length ls
+    → (k c i : ℕ) (room ls : List ℕ) → 12 * (c + k) ≤ length rs → c + k ≤ most → most ≤ length ls
     → Numbered (readLines i c (linesOf (printed (mappingsFrom rs c k))) room ls) ls c k i
 unfolding mappingsFrom printed
 numbered-from rs f zero c i room ls h g r = subst (λ (x : Reading). Numbered x ls c 0 i) (sym (nothing-last i c room ls)) (λ j a. refl, λ j a b. absurd (omega arith))
 numbered-from rs f (suc k) c i room ls h g r =
     let m : Mapping = mappingOf (recordAt rs c) in
-    let ih = numbered-from rs f k (suc c) (suc i) (pasted room (12 * c) (recordOf m)) (set ls c i) (omega arith) (omega arith) (subst (λ (n : ℕ). 256 ≤ n) (sym (length-set ls c i)) r) in
+    let ih = numbered-from rs f k (suc c) (suc i) (pasted room (12 * c) (recordOf m)) (set ls c i) (omega arith) (omega arith) (subst (λ (n : ℕ). most ≤ n) (sym (length-set ls c i)) r) in
     subst (λ (x : Reading). Numbered x ls c (suc k) i)
     (sym (ap (λ (x : List (List ℕ)). readLines i c x room ls) (lines-back m (printed (mappingsFrom rs (suc c) k)))
     ∙ mapped-next i c (bare (m .kind) (m .at .0) (m .to .0) (accessText (m .access))) (linesOf (printed (mappingsFrom rs (suc c) k))) room ls m (omega arith)
@@ -271,7 +271,7 @@ unfolding readText formed mappings
 read-back rs room ls f b h g =
     let n : ℕ = length rs / 12 in
     let whole : length rs % 12 ≡ 0 = eqb-true _ _ (and-left _ _ f) in
-    let few : n ≤ 256 = leb-true _ _ (and-left _ _ (and-right _ _ f)) in
+    let few : n ≤ most = leb-true _ _ (and-left _ _ (and-right _ _ f)) in
     let each = and-right _ _ (and-right _ _ f) in
     let size : (j : ℕ) → 12 * j + 12 ≤ length rs → length (recordAt rs j) ≡ 12 = λ j k. length-take-le 12 (drop (12 * j) rs) (omega (arith, length-drop (12 * j) rs)) in
     let short : length (printed (mappings rs)) ≤ longestText = omega (arith, printed-length (mappings rs), mappings-count rs) in
@@ -285,7 +285,7 @@ read-back rs room ls f b h g =
     )) n 0 1 room ls (omega arith) (omega arith) h in
     let q = numbered-from rs told n 0 1 room ls (omega arith) (omega arith) g in
     subst (λ (x : Reading). (x .answer ≡ Listed.Mappings n) × (x .records ≡ pasted room 0 rs) × ((j : ℕ) → j < n → getD (x .lines) j 0 ≡ 1 + j))
-    (sym (pick-no _ _ _ (or-no _ _ (le-ltb (length room) 3072 h) ∙ le-ltb (length ls) 256 g) ∙ pick-no _ _ _ (le-ltb longestText (length (printed (mappings rs))) short))) (
+    (sym (pick-no _ _ _ (or-no _ _ (le-ltb (length room) (recordSize * most) h) ∙ le-ltb (length ls) most g) ∙ pick-no _ _ _ (le-ltb longestText (length (printed (mappings rs))) short))) (
       r .0 ∙ ap Listed.Mappings (let z : 0 + n ≡ n = omega arith in z),
       r .1 ∙ ap (pasted room 0) (take-all (12 * n) rs (omega arith)),
       λ j k. q .1 j (omega arith) (omega arith)

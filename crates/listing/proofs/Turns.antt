@@ -1,6 +1,6 @@
 -- A text read line by line. Assumes nothing.
 use Rattle.listing.specs.Names.{_≡_, Bool, true, false, not, List, [], _∷_, ℕ, suc, _+_, _*_, _-_, _≤_, _<_, eqb, ltb, leb, length, take, drop}
-use Rattle.listing.specs.Names.{set, pick, Mapping, Class, Wrong, Said, Listed}
+use Rattle.listing.specs.Names.{set, pick, Mapping, most, Class, Wrong, Said, Listed}
 use Rattle.listing.proofs.Names.{part-to-end, refl, sym, ap, ap₂, _∙_, arith, add-one, decLe, lt-ltb, le-ltb, le-leb, lt-leb, leb-true}
 use Rattle.listing.proofs.Names.{leb-false, length-drop, length-set, drop-drop, pick-yes, pick-no, belongs, runLength, parsed, linesOf, recordOf}
 use Rattle.listing.proofs.Names.{pasted, reading, bySaid, readLines}
@@ -67,7 +67,7 @@ module _ (t : List ℕ) (at r : ℕ) (h : at ≤ length t) (e : r ≡ runLength 
 pub record Turn (t rs₀ ls₀ rs ls : List ℕ) (at i n : ℕ) : Type 0 where
   pub place : at ≤ length t + 1
   pub counted : i ≤ at + 1
-  pub few : n ≤ 256
+  pub few : n ≤ most
   pub records : length rs ≡ length rs₀
   pub lines : length ls ≡ length ls₀
   pub left : readLines 1 0 (linesOf t) rs₀ ls₀ ≡ readLines i n (linesFrom t at) rs ls
@@ -91,7 +91,7 @@ module _ (t rs₀ ls₀ rs ls : List ℕ) (at i n : ℕ) (v : Turn t rs₀ ls₀
     (r : ℕ) (e : r ≡ runLength Class.Inline (take (length t - at) (drop at t))) (s : Said) (f : s ≡ parsed (take (at + r - at) (drop at t))) where
   here : (w : Said) → s ≡ w → readLines 1 0 (linesOf t) rs₀ ls₀ ≡ bySaid w
       (readLines (i + 1) n (linesFrom t (at + r + 1)) rs ls)
-      (λ m. pick (leb 256 n) (reading (Listed.Bad i Wrong.TooManyMappings) rs ls) (readLines (i + 1) (n + 1) (linesFrom t (at + r + 1)) (pasted rs (12 * n) (recordOf m)) (set ls n i)))
+      (λ m. pick (leb most n) (reading (Listed.Bad i Wrong.TooManyMappings) rs ls) (readLines (i + 1) (n + 1) (linesFrom t (at + r + 1)) (pasted rs (12 * n) (recordOf m)) (set ls n i)))
       (λ w. reading (Listed.Bad i w) rs ls)
   unfolding readLines
   here w g =
@@ -99,18 +99,18 @@ module _ (t rs₀ ls₀ rs ls : List ℕ) (at i n : ℕ) (v : Turn t rs₀ ls₀
       ∙ ap (λ (m : List (List ℕ)). readLines i n m rs ls) (line-here t at r h e)
       ∙ ap (λ (x : Said). bySaid x
       (readLines (suc i) n (linesFrom t (at + r + 1)) rs ls)
-      (λ m. pick (leb 256 n) (reading (Listed.Bad i Wrong.TooManyMappings) rs ls) (readLines (suc i) (suc n) (linesFrom t (at + r + 1)) (pasted rs (12 * n) (recordOf m)) (set ls n i)))
+      (λ m. pick (leb most n) (reading (Listed.Bad i Wrong.TooManyMappings) rs ls) (readLines (suc i) (suc n) (linesFrom t (at + r + 1)) (pasted rs (12 * n) (recordOf m)) (set ls n i)))
       (λ w. reading (Listed.Bad i w) rs ls)) (sym f ∙ g)
       ∙ ap₂ (λ (a b : ℕ). bySaid w
       (readLines a n (linesFrom t (at + r + 1)) rs ls)
-      (λ m. pick (leb 256 n) (reading (Listed.Bad i Wrong.TooManyMappings) rs ls) (readLines a b (linesFrom t (at + r + 1)) (pasted rs (12 * n) (recordOf m)) (set ls n i)))
+      (λ m. pick (leb most n) (reading (Listed.Bad i Wrong.TooManyMappings) rs ls) (readLines a b (linesFrom t (at + r + 1)) (pasted rs (12 * n) (recordOf m)) (set ls n i)))
       (λ w. reading (Listed.Bad i w) rs ls)) (sym (add-one i)) (sym (add-one n))
 
   pub turn-nothing : s ≡ Said.Nothing → Turn t rs₀ ls₀ rs ls (at + r + 1) (i + 1) n
   turn-nothing g = record
       { place = omega (arith, line-fits t at r h e); counted = omega (arith, v .counted); few = v .few; records = v .records; lines = v .lines; left = here Said.Nothing g }
 
-  pub turn-mapped : (m : Mapping) (b rs′ : List ℕ) → s ≡ Said.Mapped m → n < 256 → b ≡ recordOf m → length rs′ ≡ length rs → rs′ ≡ pasted rs (12 * n) b
+  pub turn-mapped : (m : Mapping) (b rs′ : List ℕ) → s ≡ Said.Mapped m → n < most → b ≡ recordOf m → length rs′ ≡ length rs → rs′ ≡ pasted rs (12 * n) b
       → Turn t rs₀ ls₀ rs′ (set ls n i) (at + r + 1) (i + 1) (n + 1)
   turn-mapped m b rs′ g few be k p = record {
     place = omega (arith, line-fits t at r h e);
@@ -118,11 +118,14 @@ module _ (t rs₀ ls₀ rs ls : List ℕ) (at i n : ℕ) (v : Turn t rs₀ ls₀
     few = omega arith;
     records = k ∙ v .records;
     lines = length-set ls n i ∙ v .lines;
-    left = here (Said.Mapped m) g ∙ pick-no _ _ _ (lt-leb 256 n few) ∙ ap (λ (x : List ℕ). readLines (i + 1) (n + 1) (linesFrom t (at + r + 1)) x (set ls n i)) (sym (p ∙ ap (pasted rs (12 * n)) be));
+    left =
+        here (Said.Mapped m) g
+        ∙ pick-no _ _ _ (lt-leb most n few)
+        ∙ ap (λ (x : List ℕ). readLines (i + 1) (n + 1) (linesFrom t (at + r + 1)) x (set ls n i)) (sym (p ∙ ap (pasted rs (12 * n)) be));
   }
 
-  pub turn-many : (m : Mapping) → s ≡ Said.Mapped m → 256 ≤ n → reading (Listed.Bad i Wrong.TooManyMappings) rs ls ≡ readLines 1 0 (linesOf t) rs₀ ls₀
-  turn-many m g k = sym (here (Said.Mapped m) g ∙ pick-yes _ _ _ (le-leb 256 n k))
+  pub turn-many : (m : Mapping) → s ≡ Said.Mapped m → most ≤ n → reading (Listed.Bad i Wrong.TooManyMappings) rs ls ≡ readLines 1 0 (linesOf t) rs₀ ls₀
+  turn-many m g k = sym (here (Said.Mapped m) g ∙ pick-yes _ _ _ (le-leb most n k))
 
   pub turn-bad : (w : Wrong) → s ≡ Said.Bad w → reading (Listed.Bad i w) rs ls ≡ readLines 1 0 (linesOf t) rs₀ ls₀
   turn-bad w g = sym (here (Said.Bad w) g)

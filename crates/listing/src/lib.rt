@@ -81,9 +81,6 @@ pub enum Listed {
     NoRoom,
 }
 
-// The most mappings of a list: the builder's limit.
-const MOST: usize = 256;
-
 // The most bytes of a text.
 const LONGEST: usize = 262144;
 
@@ -91,10 +88,10 @@ const LONGEST: usize = 262144;
 pub fn read(text: &[u8], records: &mut [u8], lines: &mut [u32]) -> Listed
     ensures { λ r. ⌜ reading r (now (records .exit)) (now (lines .exit)) ≡ readText (now (text .entry)) (now (records .entry)) (now (lines .entry)) ⌝ }
 {
-    if records.len() < records::SIZE * MOST {
+    if records.len() < records::SIZE * records::MOST {
         return Listed::NoRoom;
     }
-    if lines.len() < MOST {
+    if lines.len() < records::MOST {
         return Listed::NoRoom;
     }
     if text.len() > LONGEST {
@@ -111,7 +108,7 @@ pub enum Printed {
 }
 
 // The most bytes of a printed line with its end.
-const WIDEST: usize = 27;
+pub const WIDEST: usize = 27;
 
 // Prints a list, a line for each record.
 pub fn print(records: &[u8], out: &mut [u8]) -> Printed

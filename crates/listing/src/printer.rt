@@ -122,7 +122,7 @@ pub(crate) fn formed(records: &[u8]) -> bool
     if records.len() % records::SIZE != 0 {
         return false;
     }
-    if n > crate::MOST {
+    if n > records::MOST {
         return false;
     }
     all_formed(records, n)

@@ -28,7 +28,7 @@ pub(crate) fn read_lines(text: &[u8], records: &mut [u8], lines: &mut [u32]) -> 
                 continue;
             }
             Said::Mapped(m) => {
-                if n >= crate::MOST {
+                if n >= records::MOST {
                     return Listed::Bad(i, Wrong::TooManyMappings);
                 }
                 let r = bytes::record_of(m);

@@ -4,8 +4,8 @@ mod output;
 use libc::STDIN_FILENO;
 use libc::STDOUT_FILENO;
 
-// A list of 256 records and one byte more.
-const INPUT: usize = 3073;
+// The bytes of the most records, and one more.
+const INPUT: usize = records::SIZE * records::MOST + 1;
 
 // Reads the records, builds the image in 65,536 bytes and writes it, or the refusal.
 fn main() {

@@ -77,7 +77,7 @@ fn built(path: &[u8], records: &[u8], lines: &[u32], image: &[u8], base: u32) ->
 fn from_file(path: &[u8], image: &[u8], base: u32) -> u32 {
     let mut t = [0u8; list::TEXT];
     let mut records = [0u8; list::RECORDS];
-    let mut lines = [0u32; list::MOST];
+    let mut lines = [0u32; records::MOST];
     let loaded = list::load(path, &mut t, &mut records, &mut lines);
     match loaded {
         Loaded::List(_, n) => {

@@ -8,16 +8,16 @@ use crate::text;
 use listing::Printed;
 
 // The bytes of the most records, and one more.
-const INPUT: usize = 3073;
+const INPUT: usize = list::RECORDS + 1;
 
 // Room for the most records as text.
-const PRINTED: usize = 16384;
+const PRINTED: usize = listing::WIDEST * records::MOST;
 
 // nx records LIST.
 pub(crate) fn records(path: &[u8]) -> u32 {
     let mut t = [0u8; list::TEXT];
     let mut records = [0u8; list::RECORDS];
-    let mut lines = [0u32; list::MOST];
+    let mut lines = [0u32; records::MOST];
     let loaded = list::load(path, &mut t, &mut records, &mut lines);
     match loaded {
         Loaded::List(_, n) => {
@@ -32,7 +32,7 @@ fn first_bad(records: &[u8]) -> usize {
     let n = records::count(records);
     let mut i = 0;
     while i < n {
-        if i >= list::MOST {
+        if i >= records::MOST {
             return i;
         }
         let at = records::SIZE * i;
@@ -48,10 +48,11 @@ fn first_bad(records: &[u8]) -> usize {
 fn refused(path: &[u8], i: usize, why: usize) -> u32 {
     list::at_line(path, 0);
     text::form(text::ERR, b"refused 10 at %d: ", &[i as u64]);
-    text::part(
+    text::part_form(
         text::ERR,
-        b"the record is bad\n|the record is short\n|more than 256 records\n",
+        b"the record is bad\n|the record is short\n|more than %d records\n",
         why,
+        i as u64,
     );
     1
 }
@@ -87,7 +88,7 @@ pub(crate) fn text(path: &[u8]) -> u32 {
     match got {
         Got::Bytes(n) => {
             if n >= INPUT {
-                return refused(path, list::MOST, 2);
+                return refused(path, records::MOST, 2);
             }
             return judged(path, parse::cut(&records, 0, n));
         }

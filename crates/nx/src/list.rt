@@ -14,11 +14,8 @@ ghost use Prim.Native.Nat.{_<_, _≤_};
 // The most bytes of a text, and one more.
 pub const TEXT: usize = 262145;
 
-// The bytes of the most mappings.
-pub const RECORDS: usize = 3072;
-
-// The most mappings.
-pub const MOST: usize = 256;
+// The bytes of the most records.
+pub const RECORDS: usize = records::SIZE * records::MOST;
 
 // A list that was read: the bytes of its text and of its records; or nothing, the error said.
 pub enum Loaded {
@@ -55,13 +52,14 @@ fn reason(w: Wrong) -> usize {
 
 // What is wrong, in words.
 fn say(n: usize) -> bool {
-    text::part(
+    text::part_form(
         text::ERR,
         b"unknown kind (section, large, small or tiny)\n|virtual address is not a hex number\n|virtual address is too large\n\
           |virtual address is no multiple of the page size\n|physical address is not a hex number\n|physical address is too large\n\
           |physical address is no multiple of the page size\n|unknown access (r or rw)\n|a word is missing (kind, virtual, physical, access)\n\
-          |a word too many\n|the line is longer than 200 bytes\n|the text is longer than 262144 bytes\n|more than 256 mappings\n",
+          |a word too many\n|the line is longer than 200 bytes\n|the text is longer than 262144 bytes\n|more than %d mappings\n",
         n,
+        records::MOST as u64,
     )
 }
 
@@ -81,7 +79,7 @@ fn parsed(path: &[u8], t: &[u8], records: &mut [u8], lines: &mut [u32]) -> Loade
 
 // A list of so many mappings.
 fn counted(len: usize, n: usize) -> Loaded {
-    if n > MOST {
+    if n > records::MOST {
         return Loaded::Failed;
     }
     Loaded::List(len, records::SIZE * n)

@@ -103,9 +103,19 @@ fn part_start(t: &[u8], n: usize) -> usize {
 }
 
 // A part of a table by its number.
-pub(crate) fn part(fd: i32, t: &[u8], n: usize) -> bool {
+fn nth_part(t: &[u8], n: usize) -> &[u8] {
     let from = part_start(t, n);
-    put(fd, parse::cut(t, from, parse::find(t, from, b'|')))
+    parse::cut(t, from, parse::find(t, from, b'|'))
+}
+
+// A part of a table, written.
+pub(crate) fn part(fd: i32, t: &[u8], n: usize) -> bool {
+    put(fd, nth_part(t, n))
+}
+
+// A part of a table that is a form of one number.
+pub(crate) fn part_form(fd: i32, t: &[u8], n: usize, x: u64) -> bool {
+    form(fd, nth_part(t, n), &[x])
 }
 
 // The number of the part of a table that is a word, or the number of parts.

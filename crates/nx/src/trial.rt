@@ -365,7 +365,7 @@ fn judged(path: &[u8], records: &[u8], lines: &[u32], script: &[u8]) -> u32 {
 pub(crate) fn run(path: &[u8], script: &[u8]) -> u32 {
     let mut t = [0u8; list::TEXT];
     let mut records = [0u8; list::RECORDS];
-    let mut lines = [0u32; list::MOST];
+    let mut lines = [0u32; records::MOST];
     let loaded = list::load(path, &mut t, &mut records, &mut lines);
     match loaded {
         Loaded::List(_, n) => {

@@ -13,6 +13,9 @@ ghost use Rattle.records.specs.Checks.{wellFormed};
 // The bytes of a record.
 pub const SIZE: usize = 12;
 
+// The most records of a list.
+pub const MOST: usize = 256;
+
 // A page of virtual addresses, where it lies, and the access to it.
 pub struct Mapping {
     pub at: VirtualAddress,

@@ -1,6 +1,7 @@
 // Lists of records: which of them are refused, which record holds an address, and what a list means there.
 use crate::Checked;
 use crate::Held;
+use crate::MOST;
 use crate::Mapping;
 use crate::Meaning;
 use crate::SIZE;
@@ -19,9 +20,6 @@ ghost use Rattle.records.specs.Mappings.{recordSize, mappings};
 ghost use Rattle.records.specs.Noted.{Blank, noteAt, Kinds};
 ghost use Rattle.records.specs.Refusals.{bad, checked};
 ghost use Rattle.records.specs.Meanings.{holder, heldMeaning, meaning};
-
-// The most records of a list.
-const MOST: usize = 256;
 
 // Whether record i is past the limit, short or bad.
 fn is_bad(records: &[u8], i: usize) -> bool
