@@ -281,7 +281,7 @@ fn judged_and_printed() {
     for (records, said) in [
         (vec![0; 11], "standard input: refused 10 at 0: the record is short\n"),
         (vec![0; 12], "standard input: refused 10 at 0: the record is bad\n"),
-        (vec![0; 3_073], "standard input: refused 10 at 256: more than 256 records\n"),
+        (vec![0; 3_073], "standard input: refused 10 at 0: the record is bad\n"),
     ] {
         let refused = run(&root, &["text", "-"], &records);
         assert_eq!((refused.digit.as_str(), refused.error.as_str()), ("1", said));

@@ -29,12 +29,9 @@ pub(crate) fn records(path: &[u8]) -> u32 {
 
 // The first record that is bad, or the number of records.
 fn first_bad(records: &[u8]) -> usize {
-    let n = records::count(records);
+    let n = records.len() / records::SIZE;
     let mut i = 0;
     while i < n {
-        if i >= records::MOST {
-            return i;
-        }
         let at = records::SIZE * i;
         if !records::well_formed(parse::cut(records, at, at + records::SIZE)) {
             return i;
@@ -75,10 +72,13 @@ fn judged(path: &[u8], records: &[u8]) -> u32 {
     if bad < n {
         return refused(path, bad, 0);
     }
-    if records.len() % records::SIZE != 0 {
+    if records.len() % records::SIZE == 0 {
+        return printed(records);
+    }
+    if n < records::MOST {
         return refused(path, n, 1);
     }
-    printed(records)
+    refused(path, n, 2)
 }
 
 // nx text RECORDS.
@@ -86,12 +86,7 @@ pub(crate) fn text(path: &[u8]) -> u32 {
     let mut records = [0u8; INPUT];
     let got = files::read(path, &mut records);
     match got {
-        Got::Bytes(n) => {
-            if n >= INPUT {
-                return refused(path, records::MOST, 2);
-            }
-            return judged(path, parse::cut(&records, 0, n));
-        }
+        Got::Bytes(n) => return judged(path, parse::cut(&records, 0, n)),
         Got::Failed => return 1,
     }
 }
