@@ -4,6 +4,9 @@ use page::Kind;
 ghost use Rattle.records.specs.Names.{_≡_, _+_, _*_, _<_, _≤_, length};
 ghost use Rattle.records.specs.Bitmap.{Says, Untaken, Free, Full, Covered};
 
+// The words of all the pages.
+pub const WORDS: usize = 256;
+
 // Every bit of a word.
 const ALL: u64 = 18446744073709551615;
 

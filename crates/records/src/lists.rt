@@ -55,7 +55,7 @@ pub fn check(records: &[u8], seen: &mut [bool; 64]) -> Checked
     if len == 0 {
         return Checked::Fine;
     }
-    let mut taken: [u64; 256] = [0; 256];
+    let mut taken = [0u64; bitmap::WORDS];
     let mut i = 0;
     while SIZE * i < len {
         let next = i + 1;
