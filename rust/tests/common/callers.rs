@@ -212,6 +212,6 @@ pub fn spoil_call(dice: &mut Dice, call: &mut Vec<u8>) {
 pub fn state_after(lending: &Lending, calls: &[u8]) -> Vec<u8> {
     let answers = calls.len() / 12 * 16;
     let mut out = vec![0; answers + STATE];
-    assert_eq!(Second.run(&lending, calls, &mut out), out.len() as u64);
+    assert_eq!(Second.run(lending, calls, &mut out), out.len() as u64);
     out.split_off(answers)
 }

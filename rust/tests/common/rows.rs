@@ -27,7 +27,7 @@ fn run(program: &dyn Program, lending: &Lending, calls: &[Call]) -> Vec<u8> {
     let start = start();
     let all = [&start[..], calls].concat();
     let mut out = vec![0xA5; all.len() * 16 + STATE];
-    let written = program.run(&lending, &all.concat(), &mut out);
+    let written = program.run(lending, &all.concat(), &mut out);
     assert_eq!(written, out.len() as u64);
     let rest = out.split_off(start.len() * 16);
     assert!(out.iter().all(|&byte| byte == 0));
