@@ -47,11 +47,11 @@ static void print_from(uint32_t from) {
 }
 
 int main(void) {
-    static uint8_t records[3 * 12], memory[8192], external[4], calls[CALLS * NX_CALL_BYTES];
+    static uint8_t records[3 * NX_RECORD_BYTES], memory[8192], external[4], calls[CALLS * NX_CALL_BYTES];
     static uint8_t out[CALLS * NX_ANSWER_BYTES + NX_STATE_BYTES];
     put_record(records, 0x010000, 0x10020000, 1, 3);
-    put_record(records + 12, 0x300000, 0x11200000, 0, 2);
-    put_record(records + 24, 0x500400, 0x10000C00, 3, 3);
+    put_record(records + NX_RECORD_BYTES, 0x300000, 0x11200000, 0, 2);
+    put_record(records + 2 * NX_RECORD_BYTES, 0x500400, 0x10000C00, 3, 3);
     uint64_t built = nx_build(records, sizeof records, BASE, memory, sizeof memory);
     if (built >> 63) {
         fprintf(stderr, "refused %" PRIu64 " at %" PRIu64 "\n", built >> 32 & 0xFF, built & 0xFFFFFFFF);

@@ -57,8 +57,12 @@ extern "C" {
 #define NX_FLAT 0
 #define NX_ROW 1
 
-/* Builds the tables of a list of records in `memory`, which stands at `base`. A record has 12 bytes: virtual and physical
- * address (4 each), type (1: 0 section, 1 large, 2 small, 3 tiny), access (1: 2 read, 3 both), two zero bytes.
+/* A record, 12 bytes: virtual and physical address (4 each), type (1: 0 section, 1 large, 2 small, 3 tiny), access (1: 2 read,
+ * 3 both), two zero bytes. A list has at most 1,024; the record after these is refused 10. */
+#define NX_RECORD_BYTES 12
+#define NX_MOST_RECORDS 1024
+
+/* Builds the tables of a list of records in `memory`, which stands at `base`.
  * Gives the image's length, or, where the list is refused, 2^63 + number * 2^32 + index of the record or count of records
  * (0 for refusal 4); then `memory` is unchanged. Bytes after the image stay. */
 uint64_t nx_build(const uint8_t *records, size_t records_len, uint32_t base, uint8_t *memory, size_t memory_len);

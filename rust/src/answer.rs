@@ -25,7 +25,7 @@ pub enum Refusal {
     Range = 8,
     /// A price or a bill figure that is none.
     Price = 9,
-    /// A record that is bad, short or past 256.
+    /// A record that is bad, short or past the limit.
     Record = 10,
     /// A record that overlaps an earlier one.
     Overlap = 11,

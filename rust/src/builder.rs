@@ -5,7 +5,10 @@ use crate::memory;
 use crate::walk::Kind;
 
 const RECORD: usize = 12;
-const MOST_RECORDS: usize = 256;
+/// The most records of a list (P5).
+pub const MOST_RECORDS: usize = 1_024;
+/// How many bytes these have.
+pub const MOST_BYTES: usize = MOST_RECORDS * RECORD;
 const MEGABYTES: usize = 16;
 const FIRST_LEVEL: usize = 64;
 const COARSE: usize = 1_024;
@@ -204,10 +207,10 @@ fn put(at: &mut [u8], word: u32) {
     at[..4].copy_from_slice(&word.to_le_bytes());
 }
 
-/// "A program reads at most 3,073 bytes of records from standard input, builds
-/// at 20000000 hex in 65,536 bytes": what it writes for an input.
+/// What the program writes for an input. It reads one byte past the longest list
+/// at most, and builds at 20000000 hex in 65,536 bytes.
 pub fn mkimage(input: &[u8]) -> Vec<u8> {
-    let read = &input[..input.len().min(3_073)];
+    let read = &input[..input.len().min(MOST_BYTES + 1)];
     let mut memory = vec![0; 65_536];
     match build(read, 0x2000_0000, &mut memory) {
         Ok(length) => {
@@ -361,18 +364,49 @@ mod tests {
         }
     }
 
+    /// Small pages from 0 on: 1,024 of them fill the tables of four megabytes.
+    fn small_pages(count: u32) -> Vec<u8> {
+        (0..count).flat_map(|n| record(n << 12, 0x1000_0000 + (n << 12), 2, 3)).collect()
+    }
+
     #[test]
-    fn the_257th_record() {
-        let list: Vec<u8> = (0..256).flat_map(|n| record(n * 0x1000, 0, 2, 3)).collect();
-        let mut memory = vec![0; 65_536];
-        assert_eq!(build(&list, 0, &mut memory), Ok(2_048));
-        for more in [1, 11, 12, 13, 24] {
-            let longer = [&list[..], &vec![0; more]].concat();
-            assert_eq!(build(&longer, 0, &mut memory), refused(Refusal::Record, 256));
+    fn lists_up_to_the_limit() {
+        for (count, length) in [(700, 0x1000), (1_023, 0x1400), (1_024, 0x1400)] {
+            let mut memory = vec![0xA5; 0x1400];
+            assert_eq!(build(&small_pages(count), 0, &mut memory), Ok(length));
+            let table = (0..length - 0x400).step_by(4).map(|at| word(&memory, 0x400 + at));
+            for (n, got) in (0..).zip(table) {
+                let expected = if n < count { 0x1000_0032 + (n << 12) } else { 0 };
+                assert_eq!(got, expected, "word {n} of {count}");
+            }
         }
-        let mut earlier = [&list[..], &[0]].concat();
-        earlier[255 * 12..255 * 12 + 12].copy_from_slice(&record(0, 0, 3, 3));
-        assert_eq!(build(&earlier, 0, &mut memory), refused(Refusal::Overlap, 255));
+        let mut short = vec![0xA5; 0x13FC];
+        assert_eq!(build(&small_pages(1_024), 0, &mut short), refused(Refusal::Room, 1_024));
+    }
+
+    #[test]
+    fn lists_past_the_limit() {
+        let mut memory = vec![0xA5; 65_536];
+        let mut go = |list: &[u8]| build(list, 0, &mut memory);
+        // The 1,025th record is good, and refused, however many of its bytes there are.
+        let list = small_pages(1_026);
+        assert_eq!(go(&list[..12_287]), refused(Refusal::Record, 1_023));
+        for length in [12_289, 12_299, 12_300, 12_301, 12_312] {
+            assert_eq!(go(&list[..length]), refused(Refusal::Record, 1_024));
+        }
+        // So is one that is bad, or overlaps.
+        for other in [[0; 12], record(0, 0, 3, 3)] {
+            let longer = [&list[..12_288], &other].concat();
+            assert_eq!(go(&longer), refused(Refusal::Record, 1_024));
+        }
+        // An earlier refusal is named.
+        for (other, refusal) in [([0; 12], Refusal::Record), (record(0, 0, 3, 3), Refusal::Overlap)]
+        {
+            let mut earlier = list.clone();
+            earlier[1_023 * 12..][..12].copy_from_slice(&other);
+            assert_eq!(go(&earlier), refused(refusal, 1_023));
+        }
+        assert!(memory.iter().all(|&byte| byte == 0xA5), "nothing is written");
     }
 
     #[test]

@@ -1,6 +1,7 @@
 //! A list of mappings as text, a line for each: kind, virtual and physical
 //! address in hex, access, and behind `#` what it is for.
 
+use crate::builder::MOST_RECORDS;
 use crate::walk::Kind;
 
 /// The most bytes of a text, and of a line without its end.
@@ -28,16 +29,16 @@ pub enum Wrong {
 /// A record of 12 bytes, and the line that it stands on, counted from 1.
 pub type Listed = ([u8; 12], u32);
 
-/// The records of a text, or the first bad line (0: the text as a whole) and
-/// what is wrong with it, `most` records at the most.
-pub fn read(text: &[u8], most: usize) -> Result<Vec<Listed>, (u32, Wrong)> {
+/// The records of a text, no more of them than the builder takes, or the first bad
+/// line (0: the text as a whole) and what is wrong with it.
+pub fn read(text: &[u8]) -> Result<Vec<Listed>, (u32, Wrong)> {
     if text.len() > TEXT {
         return Err((0, Wrong::TextTooLong));
     }
     let mut list = Vec::new();
     for (line, number) in text.split(|&byte| byte == b'\n').zip(1..) {
         let Some(record) = record(line).map_err(|wrong| (number, wrong))? else { continue };
-        if list.len() == most {
+        if list.len() == MOST_RECORDS {
             return Err((number, Wrong::TooManyMappings));
         }
         list.push((record, number));

@@ -9,15 +9,17 @@ mod common;
 
 use common::callers::{self, Caller};
 use common::coverage::{see_step, Coverage};
+use common::lists::Record;
 use common::places::{self, Told};
 use common::states;
 use common::worlds::{self, World};
 use common::*;
 use second::boundary::{Program, Second, ANSWER, BILL_AT, CALL, STATE};
+use second::builder::{MOST_BYTES, MOST_RECORDS};
 use second::dice::Dice;
 use second::memory::Memories;
 use std::collections::BTreeMap;
-use std::fmt::Write as _;
+use std::fmt::{Arguments, Write as _};
 
 // ---------------------------------------------------------------------------
 // One step of both programs
@@ -131,6 +133,43 @@ fn lawful(lending: &Lending) -> bool {
 /// The bill of a state.
 fn bill_of(state: &[u8]) -> (f64, f64) {
     (View(state).total(), View(state).misses())
+}
+
+// ---------------------------------------------------------------------------
+// One build of both programs
+
+/// Everything that an image is built with: the memory has other bytes in it.
+struct Build<'a> {
+    records: &'a [u8],
+    base: u32,
+    memory: &'a [u8],
+}
+
+impl Build<'_> {
+    /// Builds with both programs in copies of the memory, and compares what they
+    /// answer and every byte. The bytes after an image stay, and all bytes where
+    /// there is none.
+    fn compare(&self, rival: &dyn Program, title: Arguments) -> u64 {
+        let &Build { records, base, memory } = self;
+        let place =
+            || format!("{title}: base {base:x}, room {}, records {}", memory.len(), hex(records));
+        let [mut ours, mut theirs] = [memory.to_vec(), memory.to_vec()];
+        let expected = Second.build(records, base, &mut ours);
+        let got = rival.build(records, base, &mut theirs);
+        assert_eq!(got, expected, "{}: {got:x} {expected:x}", place());
+        if ours != theirs {
+            let at = (0..memory.len()).find(|&at| ours[at] != theirs[at]).expect("they differ");
+            panic!("{}: byte {at:x} is {:02x}, not {:02x}", place(), theirs[at], ours[at]);
+        }
+        let written = if expected >> 63 == 0 { expected as usize } else { 0 };
+        assert!(ours[written..] == memory[written..], "{}: more is written", place());
+        expected
+    }
+}
+
+/// The builder's answer where it refuses.
+const fn refused(number: u64, at: u64) -> u64 {
+    1 << 63 | number << 32 | at
 }
 
 // ---------------------------------------------------------------------------
@@ -482,12 +521,12 @@ fn not_as_said() {
         for program in [&Second as &dyn Program, &*rival] {
             let name = program.name();
             let mut out = vec![0xC3; room];
-            let written = program.from(&lending, state, (0.0, 0.0), calls, &mut out);
+            let written = program.from(lending, state, (0.0, 0.0), calls, &mut out);
             assert_eq!(written == 0, zero, "{name}: {}", hex(calls));
             assert_eq!(out.iter().all(|&byte| byte == 0xC3), zero, "{name}");
             if state == fresh {
                 let mut out = vec![0xC3; room];
-                let written = program.run(&lending, calls, &mut out);
+                let written = program.run(lending, calls, &mut out);
                 assert_eq!(written == 0, zero, "{name}: {}", hex(calls));
                 assert_eq!(out.iter().all(|&byte| byte == 0xC3), zero, "{name}");
             }
@@ -643,16 +682,22 @@ fn builds() {
     let _turn = turn();
     let rival = rival();
     let mut seen = Coverage::default();
+    let full = format!("built with {MOST_RECORDS} records");
+    let past = format!("refused 10 at {MOST_RECORDS}");
     let rounds = 24_000 * long();
     for round in 0..rounds {
         let mut dice = Dice::new(seed(0xB111_0000_0000 + u64::from(round)));
-        let most = match dice.below(20) {
-            0 => 256,
-            1 => 100,
-            2 => 0,
-            _ => 1 + dice.below(24),
+        let list = match dice.below(40) {
+            0 => lists::full(&mut dice),
+            1 => lists::good(&mut dice, MOST_RECORDS as u32),
+            2 | 3 => lists::good(&mut dice, 100),
+            4 | 5 => vec![],
+            _ => {
+                let most = 1 + dice.below(24);
+                lists::good(&mut dice, most)
+            }
         };
-        let mut records = lists::bytes(&lists::good(&mut dice, most));
+        let mut records = lists::bytes(&list);
         for _ in 0..dice.pick(&[0, 0, 0, 0, 1, 1, 1, 2, 3]) {
             lists::spoil(&mut dice, &mut records);
         }
@@ -681,31 +726,19 @@ fn builds() {
         };
         let mut memory = vec![0; length];
         dice.fill(&mut memory);
-        let before = memory.clone();
-        let mut other = memory.clone();
-        let expected = Second.build(&records, base, &mut memory);
-        let got = rival.build(&records, base, &mut other);
-        let place =
-            || format!("build {round}: base {base:x}, room {length}, records {}", hex(&records));
-        assert_eq!(got, expected, "{}: {got:x} {expected:x}", place());
-        if memory != other {
-            let at = (0..length).find(|&at| memory[at] != other[at]).expect("they differ");
-            let (ours, theirs) = (memory[at], other[at]);
-            panic!("{}: byte {at:x} is {theirs:02x}, not {ours:02x}", place());
-        }
-        if expected >> 63 == 0 {
-            let image = expected as usize;
+        let build = Build { records: &records, base, memory: &memory };
+        let answer = build.compare(&*rival, format_args!("build {round}"));
+        if answer >> 63 == 0 {
+            let image = answer as usize;
             seen.see("built");
             seen.see_if(image == length, "built with no room left");
             seen.see_if(image == 64, "built with no second level");
             seen.see_if(image > 65_536, "built past 65,536 bytes");
-            seen.see_if(records.len() == 256 * 12, "built with 256 records");
-            assert!(memory[image..] == before[image..], "{}: later bytes stay", place());
+            seen.see_if(records.len() == MOST_BYTES, &full);
         } else {
-            seen.see(format!("refused {:02}", expected >> 32 & 0xFF));
-            seen.see_if(expected as u32 == 256, "refused at 256");
-            seen.see_if(expected as u32 > 0, "refused past the first");
-            assert!(memory == before, "{}: written though refused", place());
+            seen.see(format!("refused {:02}", answer >> 32 & 0xFF));
+            seen.see_if(answer == refused(10, MOST_RECORDS as u64), &past);
+            seen.see_if(answer as u32 > 0, "refused past the first");
         }
     }
     println!("{rounds} builds");
@@ -714,13 +747,97 @@ fn builds() {
         "refused 10",
         "refused 11",
         "refused 12",
-        "refused at 256",
+        &past,
         "refused past the first",
         "built",
         "built with no room left",
         "built with no second level",
         "built past 65,536 bytes",
-        "built with 256 records",
+        &full,
     ];
     seen.demand(20, &names.map(String::from));
+}
+
+/// Lists that are as long as they may be, or a little shorter or longer, in the
+/// figures of P5: what comes of each is said here.
+#[test]
+fn limit_of_records() {
+    const SORTS: [(&str, &[u8], usize); 6] = [
+        ("tiny pages, near one another", &[3], 2),
+        ("tiny pages", &[3], 16),
+        ("small pages, near one another", &[2], 5),
+        ("small pages", &[2], 16),
+        ("all kinds, near one another", &lists::ALL_KINDS, 4),
+        ("all kinds", &lists::ALL_KINDS, 16),
+    ];
+    // A byte of a record, and what makes the record bad there.
+    const BAD: [(usize, u8); 8] =
+        [(0, 1), (3, 1), (4, 1), (8, 4), (9, 1), (9, 4), (10, 1), (11, 1)];
+    let _turn = turn();
+    let rival = rival();
+    let mut seen = Coverage::default();
+    // Sixteen fine tables have room, with some bytes after them.
+    let mut memory = vec![0; 70_000];
+    for round in 0..6 * long() {
+        let mut dice = Dice::new(seed(0x1024_0000_0000 + u64::from(round)));
+        dice.fill(&mut memory);
+        for (sort, kinds, megabytes) in SORTS {
+            let list = lists::exactly(&mut dice, 1_025, kinds, megabytes);
+            let records = lists::bytes(&list);
+            let base = dice.word() & 0xFFFE_0000;
+            let build = |records: &[u8], room: usize, what: Arguments| {
+                let build = Build { records, base, memory: &memory[..room] };
+                build.compare(&*rival, format_args!("{what}, {sort}, round {round}"))
+            };
+            let expect = |records: &[u8], expected: u64, what: Arguments| {
+                let got = build(records, memory.len(), what);
+                assert_eq!(got, expected, "{what}, {sort}, round {round}: {got:x} {expected:x}");
+            };
+
+            // These are built, in no less room than the image takes.
+            for count in [700, 1_023, 1_024] {
+                let what = format_args!("{count} records");
+                let records = &records[..12 * count];
+                let image = build(records, memory.len(), what);
+                assert!(image >> 63 == 0, "{what}, {sort}, round {round}: {image:x}");
+                assert_eq!(build(records, image as usize, what), image);
+                assert_eq!(build(records, image as usize - 4, what), refused(12, count as u64));
+            }
+
+            // These are not, however many bytes there are of the 1,025th, or after it.
+            for length in [12_289, 12_290, 12_299, 12_300] {
+                expect(&records[..length], refused(10, 1_024), format_args!("{length} bytes"));
+            }
+            let twice = [&records[..], &records].concat();
+            expect(&twice, refused(10, 1_024), format_args!("2,050 records"));
+            expect(&records[..12_287], refused(10, 1_023), format_args!("12,287 bytes"));
+
+            // One record overlaps an earlier one or is bad, in a list of 1,024 and in one
+            // of 1,025.
+            for at in [1, 2 + dice.below(1_021) as usize, 1_023, 1_024] {
+                let earlier = list[dice.below(at as u32) as usize];
+                let overlap = |kind| (Record::holding(earlier.virtual_start, kind).bytes(), 11);
+                let bad = |(byte, value): (usize, u8)| {
+                    let mut record = list[at].bytes();
+                    record[byte] = value;
+                    (record, 10)
+                };
+                for (record, number) in (0..4).map(overlap).chain(BAD.map(bad)) {
+                    let mut records = records.clone();
+                    records[12 * at..][..12].copy_from_slice(&record);
+                    // The 1,025th is past the limit before it is anything else.
+                    let number = if at == 1_024 { 10 } else { number };
+                    for length in [12_288, 12_300] {
+                        if 12 * at < length {
+                            let what = format_args!("{} at {at} of {length} bytes", hex(&record));
+                            expect(&records[..length], refused(number, at as u64), what);
+                        }
+                    }
+                }
+            }
+            let has = |kind| list.iter().any(|record| record.kind == kind);
+            seen.see_if((0..4).all(has), "a list with all kinds");
+        }
+    }
+    seen.demand(4, &["a list with all kinds".into()]);
 }

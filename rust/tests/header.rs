@@ -8,6 +8,7 @@
 mod common;
 
 use common::without_native;
+use second::builder::{MOST_BYTES, MOST_RECORDS};
 use std::path::Path;
 use std::process::Command;
 
@@ -48,4 +49,18 @@ fn list_a_from_c() {
     let run = Command::new(&program).output().expect("the program starts");
     assert_eq!(String::from_utf8_lossy(&run.stdout), EXPECTED);
     assert!(run.status.success() && run.stderr.is_empty());
+}
+
+/// The figures of a list, which the differential tests try on the archive, are the
+/// second program's.
+#[test]
+fn limit_of_records() {
+    let header = include_str!("../../include/nextizual.h");
+    let figure = |name: &str| -> usize {
+        let define = format!("#define {name} ");
+        let value = header.lines().find_map(|line| line.strip_prefix(&define));
+        value.expect(name).parse().expect(name)
+    };
+    assert_eq!(figure("NX_MOST_RECORDS"), MOST_RECORDS);
+    assert_eq!(figure("NX_MOST_RECORDS") * figure("NX_RECORD_BYTES"), MOST_BYTES);
 }

@@ -13,9 +13,9 @@ use second::memory::Memories;
 use second::unit::{Books, Lent, Unit};
 use second::walk::Access;
 
-/// What the list says of a request.
-fn by_the_list(list: &[Record], address: u32, access: Access) -> (u32, i64) {
-    match list.iter().find(|record| record.holds(address)) {
+/// What the list says of a request, by the record that holds the address.
+fn by_the_list(holder: Option<&Record>, address: u32, access: Access) -> (u32, i64) {
+    match holder {
         None => (21, 0),
         Some(record) if record.access == 3 || access == Access::Read => {
             (100, i64::from(record.physical + (address - record.virtual_start)))
@@ -28,8 +28,12 @@ fn by_the_list(list: &[Record], address: u32, access: Access) -> (u32, i64) {
 fn every_page_of_many_lists() {
     let mut dice = Dice::new(0x11_57);
     for round in 0..24 * long() {
-        let most = dice.pick(&[0, 1, 3, 12, 60, 256]);
-        let list = lists::good(&mut dice, most);
+        let list = if round % 8 == 0 {
+            lists::full(&mut dice)
+        } else {
+            let most = dice.pick(&[0, 1, 3, 12, 60, 256]);
+            lists::good(&mut dice, most)
+        };
         let mut memory = vec![0; 131_072];
         dice.fill(&mut memory);
         let base = dice.word() & 0x7FFF_F000;
@@ -49,15 +53,15 @@ fn every_page_of_many_lists() {
             let page = page.unwrap_or_else(|| dice.below(1 << 14));
             let address = page << 10 | dice.below(1 << 10);
             let access = if dice.once_in(2) { Access::Read } else { Access::Write };
-            let expected = by_the_list(&list, address, access);
+            let holder = list.iter().find(|record| record.holds(address));
+            let expected = by_the_list(holder, address, access);
             let got = unit.request(&lent, &mut books, address, access).answer;
             assert_eq!((got.number(), got.value()), expected, "list {round}, {address:06x}");
             if expected.0 != 100 {
                 assert_eq!(unit.drop_fault().number(), 0);
             }
             let report = unit.shift_report(&lent.memories, address).answer;
-            let distance = by_the_list(&list, address, Access::Read);
-            let expected = match distance {
+            let expected = match by_the_list(holder, address, Access::Read) {
                 (100, physical) => (102, physical - i64::from(address)),
                 fault => fault,
             };

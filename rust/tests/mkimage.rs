@@ -1,6 +1,6 @@
 //! The built program `target/bin/mkimage`, run by `tools/run mkimage` from the
 //! root of the repository: its standard output is the second program's image or
-//! its line "refused K at I", and it writes nothing to standard error. Four
+//! its line "refused K at I", and it writes nothing to standard error. Six
 //! inputs and their outputs stand here by their bytes.
 //!
 //! NX_LONG multiplies the number of inputs, NX_SEED moves the seed. Without the
@@ -10,11 +10,12 @@ mod common;
 
 use common::lists::{self, Record};
 use common::{hex, long, seed, turn, without_native};
-use second::builder::mkimage;
+use second::builder::{mkimage, MOST_BYTES, MOST_RECORDS};
 use second::dice::Dice;
-use std::io::{ErrorKind, Write};
+use std::fs::{self, File};
+use std::io::{ErrorKind, Seek, Write};
 use std::path::{Path, PathBuf};
-use std::process::{Command, Stdio};
+use std::process::{Child, Command, Stdio};
 use std::thread;
 use std::time::Duration;
 
@@ -39,24 +40,38 @@ fn root() -> Option<PathBuf> {
     }
 }
 
-/// Standard output of one run, with the input in pieces of that size, and a
-/// pause after each where they are to arrive one by one.
-fn run(root: &Path, input: &[u8], piece: usize, pause: bool) -> Vec<u8> {
-    let mut child = Command::new("tools/run")
+/// The program, started with that standard input.
+fn start(root: &Path, stdin: Stdio) -> Child {
+    Command::new("tools/run")
         .arg("mkimage")
         .current_dir(root)
-        .stdin(Stdio::piped())
+        .stdin(stdin)
         .stdout(Stdio::piped())
         .stderr(Stdio::piped())
         .spawn()
-        .expect("tools/run starts");
+        .expect("tools/run starts")
+}
+
+/// Its standard output, when it has ended.
+fn end(child: Child) -> Vec<u8> {
+    let output = child.wait_with_output().expect("it ends");
+    let said = String::from_utf8_lossy(&output.stderr);
+    assert!(said.is_empty(), "standard error, {}: {said}", output.status);
+    output.stdout
+}
+
+/// Standard output of one run, with the input in pieces of that size, and a
+/// pause after each where they are to arrive one by one.
+fn run(root: &Path, input: &[u8], piece: usize, pause: bool) -> Vec<u8> {
+    let mut child = start(root, Stdio::piped());
     let mut stdin = child.stdin.take().expect("piped");
     let input = input.to_vec();
     let feeder = thread::spawn(move || {
         for piece in input.chunks(piece.max(1)) {
             match stdin.write_all(piece).and_then(|()| stdin.flush()) {
                 Ok(()) => {}
-                // It reads 3,073 bytes at most, and may be gone before the rest.
+                // It reads one byte past the longest list at most, and may be gone
+                // before the rest.
                 Err(error) if error.kind() == ErrorKind::BrokenPipe => return,
                 Err(error) => panic!("standard input: {error}"),
             }
@@ -65,11 +80,9 @@ fn run(root: &Path, input: &[u8], piece: usize, pause: bool) -> Vec<u8> {
             }
         }
     });
-    let output = child.wait_with_output().expect("it ends");
+    let output = end(child);
     feeder.join().expect("fed");
-    let said = String::from_utf8_lossy(&output.stderr);
-    assert!(said.is_empty(), "standard error, {}: {said}", output.status);
-    output.stdout
+    output
 }
 
 fn same(got: &[u8], expected: &[u8], input: &[u8], place: &str) {
@@ -84,7 +97,7 @@ fn same(got: &[u8], expected: &[u8], input: &[u8], place: &str) {
             line(got),
             line(expected),
             input.len(),
-            hex(&input[..input.len().min(3_100)]),
+            hex(&input[..input.len().min(MOST_BYTES + 1)]),
         );
     }
 }
@@ -114,21 +127,24 @@ fn one_byte() {
     }
 }
 
-/// 256 records, in nine megabytes: large pages alone, small ones alone, tiny
-/// ones alone, sections, all three sizes together, and small ones at the very
-/// end of both spaces. Each row is a run of so many: where it starts, how far
-/// on the next one is, virtual and physical, then type, and access by turns.
+/// 1,024 records, in eleven megabytes: large pages alone, tiny ones alone, small
+/// ones alone, sections, all three sizes together, a megabyte full of small ones;
+/// these are 700. Then tiny ones once more, and small ones at the very end of both
+/// spaces. Each row is a run of so many: where it starts, how far on the next one
+/// is, virtual and physical, then type, and access by turns.
 fn full() -> Vec<u8> {
     type Run = (u32, (u32, i32), (u32, i32), u8, [u8; 2]);
-    const RUNS: [Run; 8] = [
+    const RUNS: [Run; 10] = [
         (16, (0x00_0000, 0x1_0000), (0x100F_0000, -0x1_0000), 1, [2, 3]),
-        (100, (0x20_0000, 0xC00), (0x1020_0000, 0x400), 3, [3, 2]),
-        (60, (0x1F_F000, -0x2000), (0x1010_0000, 0x1000), 2, [2, 2]),
+        (238, (0x20_0000, 0xC00), (0x1020_0000, 0x400), 3, [3, 2]),
+        (128, (0x1F_F000, -0x2000), (0x1010_0000, 0x1000), 2, [2, 2]),
         (4, (0x90_0000, -0x10_0000), (0x1100_0000, 0x10_0000), 0, [3, 3]),
         (8, (0xA0_0000, 0x1_0000), (0x1030_0000, 0x1_0000), 1, [3, 3]),
         (20, (0xA8_0000, 0x1000), (0x1040_0000, 0x1000), 2, [2, 2]),
         (30, (0xAF_FC00, -0x400), (0x1050_0000, 0x400), 3, [3, 3]),
-        (18, (0xFF_F000, -0x1000), (0xFFFF_F000, -0x1000), 2, [3, 3]),
+        (256, (0x30_0000, 0x1000), (0x106F_F000, -0x1000), 2, [3, 2]),
+        (200, (0xC0_0000, 0x1400), (0x1070_0000, 0x800), 3, [2, 3]),
+        (124, (0xFF_F000, -0x1000), (0xFFFF_F000, -0x1000), 2, [3, 3]),
     ];
     let nth = |(start, step): (u32, i32), n: u32| start.wrapping_add_signed(step * n as i32);
     let run = |(count, from, to, kind, access): Run| {
@@ -142,58 +158,87 @@ fn full() -> Vec<u8> {
     lists::bytes(&RUNS.into_iter().flat_map(run).collect::<Vec<Record>>())
 }
 
-/// The image of these 256 records, word by word.
-fn full_image() -> Vec<u8> {
-    let mut words = [0_u32; 3_328];
+/// The image of the first 700 of these records, word by word.
+fn image_of_700() -> Vec<u32> {
+    let mut words = vec![0; 0x1000];
     // First level: tables at 400, 800, 1000, 2000 and 3000, and four sections.
     words[0x0] = 0x2000_0401;
     words[0x1] = 0x2000_0801;
     words[0x2] = 0x2000_1003;
+    words[0x3] = 0x2000_2001;
     words[0x6] = 0x1130_0C02;
     words[0x7] = 0x1120_0C02;
     words[0x8] = 0x1110_0C02;
     words[0x9] = 0x1100_0C02;
-    words[0xA] = 0x2000_2003;
-    words[0xF] = 0x2000_3001;
+    words[0xA] = 0x2000_3003;
     for n in 0..256 {
         // Large pages, 16 equal words each, with access 2 and 3 by turns.
         let page = n / 16;
         words[0x100 + n] = 0x100F_0021 - 0x1_0000 * page as u32 + 0x10 * (page as u32 % 2);
     }
-    for n in 0..60 {
+    for n in 0..128 {
         words[0x2FF - 2 * n] = 0x1010_0022 + 0x1000 * n as u32;
     }
-    for n in 0..100 {
+    for n in 0..238 {
         words[0x400 + 3 * n] = 0x1020_0033 + 0x400 * n as u32 - 0x10 * (n as u32 % 2);
+    }
+    for n in 0..256 {
+        words[0x800 + n] = 0x106F_F032 - 0x1000 * n as u32 - 0x10 * (n as u32 % 2);
     }
     // A fine table: eight large and twenty small pages cut into tiny ones.
     for n in 0..512 {
-        words[0x800 + n] = 0x1030_0033 + 0x400 * n as u32;
+        words[0xC00 + n] = 0x1030_0033 + 0x400 * n as u32;
     }
     for n in 0..80 {
-        words[0xA00 + n] = 0x1040_0023 + 0x400 * n as u32;
+        words[0xE00 + n] = 0x1040_0023 + 0x400 * n as u32;
     }
     for n in 0..30 {
-        words[0xBFF - n] = 0x1050_0033 + 0x400 * n as u32;
+        words[0xFFF - n] = 0x1050_0033 + 0x400 * n as u32;
     }
-    for n in 0..18 {
-        words[0xCFF - n] = 0xFFFF_F032 - 0x1000 * n as u32;
+    words
+}
+
+/// The image of all 1,024: two tables more, at 4000 and 5000.
+fn image_of_1024() -> Vec<u32> {
+    let mut words = image_of_700();
+    words.resize(0x1500, 0);
+    words[0xC] = 0x2000_4003;
+    words[0xF] = 0x2000_5001;
+    for n in 0..200 {
+        words[0x1000 + 5 * n] = 0x1070_0023 + 0x800 * n as u32 + 0x10 * (n as u32 % 2);
     }
+    for n in 0..124 {
+        words[0x14FF - n] = 0xFFFF_F032 - 0x1000 * n as u32;
+    }
+    words
+}
+
+fn in_bytes(words: Vec<u32>) -> Vec<u8> {
     words.into_iter().flat_map(u32::to_le_bytes).collect()
+}
+
+#[test]
+fn list_of_700() {
+    by_bytes(&full()[..8_400], &in_bytes(image_of_700()));
 }
 
 #[test]
 fn full_list() {
     let input = full();
-    assert_eq!(input.len(), 3_072);
-    by_bytes(&input, &full_image());
+    assert_eq!(input.len(), 12_288);
+    by_bytes(&input, &in_bytes(image_of_1024()));
+}
+
+#[test]
+fn one_byte_over() {
+    by_bytes(&[&full()[..], &[0]].concat(), b"refused 10 at 1024\n");
 }
 
 #[test]
 fn one_record_over() {
-    // A good section, but the 257th.
+    // A good section, but the 1,025th.
     let section = [0x00, 0x00, 0xB0, 0x00, 0x00, 0x00, 0xF0, 0x11, 0x00, 0x02, 0x00, 0x00];
-    by_bytes(&[&full()[..], &section].concat(), b"refused 10 at 256\n");
+    by_bytes(&[&full()[..], &section].concat(), b"refused 10 at 1024\n");
 }
 
 fn tiny(page: u32) -> Record {
@@ -211,20 +256,23 @@ fn list_a() {
 fn ends_and_short_reads() {
     let _turn = turn();
     let Some(root) = root() else { return };
-    let full: Vec<Record> = (0..256).map(|n| tiny(n * 17)).collect();
+    // The longest list, with the longest image that has room: fifteen fine tables.
+    let full: Vec<Record> = (0..MOST_RECORDS as u32).map(|n| tiny(n * 15)).collect();
     let full = lists::bytes(&full);
-    check(&root, &full, 4_096, false, "256 records");
+    check(&root, &full, 4_096, false, "a full list");
+    check(&root, &full[..MOST_BYTES - 1], 4_096, false, "a full list but for a byte");
+    check(&root, &full[..MOST_BYTES - 12], 4_096, false, "a full list but for a record");
     for more in [1, 2, 11, 12, 13, 24, 5_000, 200_000] {
         let longer = [&full[..], &vec![0; more]].concat();
-        check(&root, &longer, 4_096, false, &format!("256 records and {more} bytes"));
+        check(&root, &longer, 4_096, false, &format!("a full list and {more} bytes"));
     }
-    // The 3,073rd byte is the last that counts: a good 257th record is past 256.
+    // One byte past the limit is the last that counts: the record may be good.
     let past = [&full[..], &tiny(0x3FFF).bytes()].concat();
-    check(&root, &past, 4_096, false, "257 records");
-    // An earlier refusal is named, not the 257th record.
+    check(&root, &past, 4_096, false, "one record past the limit");
+    // An earlier refusal is named, not the record past the limit.
     let mut twice = past.clone();
-    twice.copy_within(0..12, 255 * 12);
-    check(&root, &twice, 4_096, false, "a record twice before the 257th");
+    twice.copy_within(0..12, MOST_BYTES - 12);
+    check(&root, &twice, 4_096, false, "a record twice before the one past the limit");
     // Fifteen fine tables have room, sixteen have not.
     for count in [15, 16] {
         let list: Vec<Record> = (0..count).map(|n| tiny(n << 10)).collect();
@@ -236,8 +284,32 @@ fn ends_and_short_reads() {
     }
     // Over short reads.
     check(&root, &lists::bytes(&lists::list_a()), 1, true, "list A by bytes");
-    check(&root, &full, 100, true, "256 records by hundreds");
-    check(&root, &past, 1_000, true, "257 records by thousands");
+    check(&root, &full, 500, true, "a full list by five hundreds");
+    check(&root, &past, 1_000, true, "one record past the limit by thousands");
+}
+
+/// From a file it can be told afterwards how much was read: all, or 12,289 bytes.
+#[test]
+fn reads_no_further() {
+    let _turn = turn();
+    let Some(root) = root() else { return };
+    let path = Path::new(env!("CARGO_TARGET_TMPDIR")).join("mkimage.input");
+    let longest = [&full()[..], &[0; 8_192]].concat();
+    for (length, read) in [
+        (0, 0),
+        (8_400, 8_400),
+        (12_288, 12_288),
+        (12_289, 12_289),
+        (12_290, 12_289),
+        (20_480, 12_289),
+    ] {
+        let input = &longest[..length];
+        fs::write(&path, input).expect("a file to read");
+        let mut file = File::open(&path).expect("a file to read");
+        let child = start(&root, file.try_clone().expect("the same file").into());
+        same(&end(child), &mkimage(input), input, "from a file");
+        assert_eq!(file.stream_position().expect("how far"), read, "read of {length} bytes");
+    }
 }
 
 #[test]
@@ -249,13 +321,15 @@ fn many_inputs() {
     for round in 0..rounds {
         let mut dice = Dice::new(seed(0x1AA6_E000_0000 + u64::from(round)));
         let most = match dice.below(12) {
-            0 => 256,
-            1 => 60,
-            2 => 20,
+            0 => 60,
+            1 => 20,
             _ => dice.below(12),
         };
-        let list =
-            if dice.once_in(16) { lists::wide(&mut dice) } else { lists::good(&mut dice, most) };
+        let list = match dice.below(16) {
+            0 => lists::full(&mut dice),
+            1 => lists::wide(&mut dice),
+            _ => lists::good(&mut dice, most),
+        };
         let mut input = lists::bytes(&list);
         for _ in 0..dice.pick(&[0, 0, 0, 1, 1, 2]) {
             lists::spoil(&mut dice, &mut input);
@@ -264,12 +338,13 @@ fn many_inputs() {
         let expected = mkimage(&input);
         let kind = match expected.strip_prefix(b"refused ") {
             Some(rest) => String::from_utf8_lossy(&rest[..2]).into_owned(),
+            None if input.len() == MOST_BYTES => "image of a full list".into(),
             None => "image".into(),
         };
         *answers.entry(kind).or_insert(0) += 1;
     }
     println!("{rounds} inputs: {answers:?}");
-    for kind in ["image", "10", "11", "12"] {
+    for kind in ["image", "image of a full list", "10", "11", "12"] {
         assert!(answers.contains_key(kind), "no input for {kind}");
     }
 }

@@ -10,7 +10,7 @@ mod common;
 
 use common::lists::{self, Record};
 use common::{long, seed, turn, without_native};
-use second::builder::build;
+use second::builder::{build, MOST_RECORDS};
 use second::dice::Dice;
 use second::listing::{self, Wrong};
 use std::fs;
@@ -89,7 +89,7 @@ fn words(wrong: Wrong) -> &'static str {
         Wrong::WordTooMany => "a word too many",
         Wrong::LineTooLong => "the line is longer than 200 bytes",
         Wrong::TextTooLong => "the text is longer than 262144 bytes",
-        Wrong::TooManyMappings => "more than 256 mappings",
+        Wrong::TooManyMappings => "more than 1024 mappings",
     }
 }
 
@@ -104,7 +104,7 @@ fn line(number: u32, said: &str) -> String {
 /// What `nx records -` is to give for a text.
 fn expected(text: &[u8]) -> Ran {
     let fails = |error| Ran { digit: "1".into(), out: vec![], error };
-    match listing::read(text, 256) {
+    match listing::read(text) {
         Ok(list) => {
             let records: Vec<u8> = list.iter().flat_map(|(record, _)| *record).collect();
             Ran { digit: "0".into(), out: records, error: String::new() }
@@ -157,13 +157,13 @@ fn every_reason() {
         (&longer, 1, Wrong::LineTooLong),
     ];
     for (text, number, wrong) in rows {
-        assert_eq!(listing::read(text.as_bytes(), 256), Err((*number, *wrong)), "{text}");
+        assert_eq!(listing::read(text.as_bytes()), Err((*number, *wrong)), "{text}");
         check(&root, text.as_bytes(), "a bad line");
         let second = format!("{good} # code\r\n\t \n{text}\nnonsense");
-        assert_eq!(listing::read(second.as_bytes(), 256), Err((number + 2, *wrong)), "{second}");
+        assert_eq!(listing::read(second.as_bytes()), Err((number + 2, *wrong)), "{second}");
         check(&root, second.as_bytes(), "a bad line behind good ones");
     }
-    let record = |text: &str| listing::read(text.as_bytes(), 256).expect(text);
+    let record = |text: &str| listing::read(text.as_bytes()).expect(text);
     for text in [
         good,
         "section 0 0x11000000 r\n",
@@ -176,13 +176,23 @@ fn every_reason() {
         check(&root, text.as_bytes(), "a good line");
     }
     check(&root, b"", "nothing");
-    check(&root, many(256).as_bytes(), "256 mappings");
-    assert_eq!(listing::read(many(257).as_bytes(), 256), Err((257, Wrong::TooManyMappings)));
-    check(&root, many(257).as_bytes(), "257 mappings");
+    for more in ["", "\n# nothing more\n"] {
+        let text = many(1_024) + more;
+        assert_eq!(record(&text).len(), 1_024);
+        check(&root, text.as_bytes(), "1,024 mappings");
+    }
+    // What is wrong with the 1,025th comes before its being one too many.
+    for (more, wrong) in
+        [("tiny 100000 0 r", Wrong::TooManyMappings), ("tiny 100000 0 w", Wrong::UnknownAccess)]
+    {
+        let text = many(1_024) + more;
+        assert_eq!(listing::read(text.as_bytes()), Err((1_025, wrong)));
+        check(&root, text.as_bytes(), "1,025 mappings");
+    }
     let blank = vec![b'\n'; 262_144];
     check(&root, &blank, "262,144 bytes");
     let more = vec![b'\n'; 262_145];
-    assert_eq!(listing::read(&more, 256), Err((0, Wrong::TextTooLong)));
+    assert_eq!(listing::read(&more), Err((0, Wrong::TextTooLong)));
     check(&root, &more, "262,145 bytes");
 }
 
@@ -246,7 +256,7 @@ fn many_texts() {
             changed(&mut dice, &mut text);
         }
         check(&root, &text, &format!("text {round}"));
-        match listing::read(&text, 256) {
+        match listing::read(&text) {
             Ok(_) => accepted += 1,
             Err(_) => refused += 1,
         }
@@ -272,18 +282,28 @@ fn judged_and_printed() {
     assert!(!Path::new(&image).exists());
     for round in 0..20 * long() {
         let mut dice = Dice::new(seed(0x9217_0000_0000 + u64::from(round)));
-        let records = lists::bytes(&lists::good(&mut dice, 40));
+        let list = match round % 10 {
+            0 => lists::full(&mut dice),
+            _ => lists::good(&mut dice, 40),
+        };
+        let records = lists::bytes(&list);
         let printed = run(&root, &["text", "-"], &records);
         assert_eq!((printed.digit.as_str(), printed.error.as_str()), ("0", ""));
-        let back = listing::read(&printed.out, 256).expect("a list");
+        let back = listing::read(&printed.out).expect("a list");
         assert_eq!(back.iter().flat_map(|(record, _)| *record).collect::<Vec<u8>>(), records);
     }
+    // A bad record is named before what is short or one too many.
+    let full = lists::bytes(&lists::full(&mut Dice::new(seed(0x7E87_0000_0000))));
+    let over = [&full[..], &full].concat();
     for (records, said) in [
-        (vec![0; 11], "standard input: refused 10 at 0: the record is short\n"),
-        (vec![0; 12], "standard input: refused 10 at 0: the record is bad\n"),
-        (vec![0; 3_073], "standard input: refused 10 at 0: the record is bad\n"),
+        (&[0; 11][..], "standard input: refused 10 at 0: the record is short\n"),
+        (&[0; 12], "standard input: refused 10 at 0: the record is bad\n"),
+        (&[0; 12_289], "standard input: refused 10 at 0: the record is bad\n"),
+        (&over[..12_287], "standard input: refused 10 at 1023: the record is short\n"),
+        (&over[..12_289], "standard input: refused 10 at 1024: more than 1024 records\n"),
+        (&over, "standard input: refused 10 at 1024: more than 1024 records\n"),
     ] {
-        let refused = run(&root, &["text", "-"], &records);
+        let refused = run(&root, &["text", "-"], records);
         assert_eq!((refused.digit.as_str(), refused.error.as_str()), ("1", said));
         assert!(refused.out.is_empty());
     }
@@ -298,7 +318,7 @@ fn images_and_files() {
     let path = |name: &str| folder.join(name).display().to_string();
     let list = fs::read(root.join("examples/box.list")).expect("the example");
     let records: Vec<u8> =
-        listing::read(&list, 256).expect("a list").iter().flat_map(|(record, _)| *record).collect();
+        listing::read(&list).expect("a list").iter().flat_map(|(record, _)| *record).collect();
     for (base, word) in [(BASE, None), (BASE, Some("20000000")), (0x1234_5000, Some("0x12345000"))]
     {
         let mut memory = vec![0; ROOM];
@@ -357,6 +377,33 @@ fn images_and_files() {
         ];
         let ran = Command::new("sh").args(words).current_dir(&root).output().expect("sh starts");
         assert_eq!(String::from_utf8_lossy(&ran.stdout), "1", "{command}");
+    }
+}
+
+/// Lists of 700 mappings and of as many as there may be: `nx records` gives their
+/// records, and `nx build` the image that the second program builds.
+#[test]
+fn long_lists() {
+    let _turn = turn();
+    let Some(root) = root() else { return };
+    let image = folder("long").join("image").display().to_string();
+    for round in 0..4 * long() {
+        let mut dice = Dice::new(seed(0x0700_0000_0000 + u64::from(round)));
+        for count in [700, MOST_RECORDS - 1, MOST_RECORDS] {
+            // In twelve megabytes: their tables have room, fine ones too.
+            let list = lists::exactly(&mut dice, count, &lists::ALL_KINDS, 12);
+            let records = lists::bytes(&list);
+            let text = written(&mut dice, &list);
+            let ran = run(&root, &["records", "-"], &text);
+            assert_eq!((ran.digit.as_str(), ran.error.as_str()), ("0", ""));
+            assert!(ran.out == records, "{count} records, round {round}");
+            let ran = run(&root, &["build", "-", &image], &text);
+            assert_eq!((ran.digit.as_str(), ran.error.as_str()), ("0", ""));
+            let mut memory = vec![0; ROOM];
+            let length = build(&records, BASE, &mut memory).expect("it is accepted");
+            let got = fs::read(&image).expect("an image");
+            assert!(got == memory[..length], "image of {count} records, round {round}");
+        }
     }
 }
 

@@ -3,9 +3,9 @@ use Rattle.records.specs.Names.{ℕ, zero, suc, _+_, _/_, Bool, false, n
 use Rattle.records.specs.Mappings.{recordSize, recordAt, mappingOf, mappingsFrom, overlap}
 use Rattle.records.specs.Checks.{wellFormed}
 
--- the most records of a list
+-- the most records of a list (02, P5)
 abbrev pub most : ℕ
-most = 256
+most = 1024
 
 -- 10: record i is past the limit, short or bad
 unfoldable pub bad : ℕ → List ℕ → ℕ → Bool

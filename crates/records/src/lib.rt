@@ -14,7 +14,7 @@ ghost use Rattle.records.specs.Checks.{wellFormed};
 pub const SIZE: usize = 12;
 
 // The most records of a list.
-pub const MOST: usize = 256;
+pub const MOST: usize = 1024;
 
 // A page of virtual addresses, where it lies, and the access to it.
 pub struct Mapping {

@@ -6,7 +6,7 @@ use page::VirtualAddress;
 use records::Meaning;
 
 // The bench sheet's base.
-const BASE: u32 = 0x20000000;
+pub const BASE: u32 = 0x20000000;
 
 // How many lines there are.
 const LINES: usize = 55;
@@ -211,7 +211,7 @@ fn kept(m: [u8; 12288]) -> [u8; 12288] {
 }
 
 // What a build answered.
-fn answered(b: Built) {
+pub(crate) fn answered(b: Built) {
     match b {
         Built::Length(n) => told(0, n as u64),
         Built::BadMemory => said(1),

@@ -2,6 +2,7 @@
 mod bills;
 mod entries;
 mod images;
+mod limits;
 mod memories;
 mod offsets;
 mod pages;
@@ -19,4 +20,5 @@ fn main() {
     offsets::show_all();
     sessions::show_all();
     images::show_all();
+    limits::show_all();
 }

@@ -1,6 +1,6 @@
 //! Speed of the proved implementation against the second program, through the
 //! byte boundary, in one process: nx_run on sessions of each sort of call and
-//! nx_build on eight lists. Rounds of the two are interleaved; the table has
+//! nx_build on nine lists. Rounds of the two are interleaved; the table has
 //! medians with their quartiles, and the median of the rounds' own ratios.
 //! Before that the two are seen to write the same bytes.
 //!
@@ -121,11 +121,13 @@ struct Bench {
 
 /// The lists that are built, with how many builds make a round.
 fn lists() -> Vec<(String, usize, Vec<u8>)> {
-    // Small pages, 32 to a megabyte, with tiny ones in every other megabyte.
-    let mixed = |n: u32| {
-        let megabyte = n / 32;
-        let kind = if n % 8 == 7 && megabyte % 2 == 1 { 3 } else { 2 };
-        record(megabyte << 20 | n << 12, n << 12, kind)
+    // Small pages, so many to a megabyte, with tiny ones in every other megabyte.
+    let mixed = |each: u32| {
+        move |n: u32| {
+            let megabyte = n / each;
+            let kind = if n % 8 == 7 && megabyte % 2 == 1 { 3 } else { 2 };
+            record(megabyte << 20 | (n % 256) << 12, n << 12, kind)
+        }
     };
     // Pages of one kind and size, so many to a megabyte.
     let alike = |kind: u8, bits: u32, each: u32| {
@@ -133,14 +135,15 @@ fn lists() -> Vec<(String, usize, Vec<u8>)> {
     };
     // A tiny page, then fifteen large ones, in each megabyte.
     let fine = |n: u32| {
-        let kind = if n % 16 == 0 { 3 } else { 1 };
+        let kind = if n.is_multiple_of(16) { 3 } else { 1 };
         record((n / 16) << 20 | (n % 16) << 16, n << 16, kind)
     };
     let of = |count: u32, one: &dyn Fn(u32) -> [u8; 12]| (0..count).flat_map(one).collect();
     vec![
         ("0 records".into(), 2_000, Vec::new()),
-        ("16 records".into(), 400, of(16, &mixed)),
-        ("256 records".into(), 100, of(256, &mixed)),
+        ("16 records".into(), 400, of(16, &mixed(32))),
+        ("256 records".into(), 100, of(256, &mixed(32))),
+        ("1,024 records".into(), 25, of(1_024, &mixed(64))),
         ("16 sections".into(), 400, of(16, &alike(0, 20, 1))),
         ("256 large".into(), 100, of(256, &alike(1, 16, 16))),
         ("256 small".into(), 100, of(256, &alike(2, 12, 32))),

@@ -1,8 +1,10 @@
 //! Lists of records: good ones, and ones with something wrong.
 
+use second::builder::{MOST_BYTES, MOST_RECORDS};
 use second::dice::Dice;
 
 pub const SIZES: [u32; 4] = [1 << 20, 1 << 16, 1 << 12, 1 << 10];
+pub const ALL_KINDS: [u8; 4] = [0, 1, 2, 3];
 
 #[derive(Clone, Copy, PartialEq, Eq, Debug)]
 pub struct Record {
@@ -13,6 +15,24 @@ pub struct Record {
 }
 
 impl Record {
+    /// The page of that kind that holds this address, to 0.
+    pub fn holding(address: u32, kind: u8) -> Record {
+        let virtual_start = address & !(SIZES[kind as usize] - 1);
+        Record { virtual_start, physical: 0, kind, access: 3 }
+    }
+
+    /// The page of that kind from this address on, to anywhere.
+    fn anywhere(dice: &mut Dice, virtual_start: u32, kind: u8) -> Record {
+        let physical = match dice.below(8) {
+            0 => 0,
+            1 => u32::MAX,
+            2 => virtual_start,
+            _ => dice.word(),
+        } & !(SIZES[kind as usize] - 1);
+        let access = 2 + dice.below(2) as u8;
+        Record { virtual_start, physical, kind, access }
+    }
+
     pub fn bytes(&self) -> [u8; 12] {
         let mut bytes = [0; 12];
         bytes[..4].copy_from_slice(&self.virtual_start.to_le_bytes());
@@ -46,12 +66,32 @@ pub fn list_a() -> Vec<Record> {
     ]
 }
 
+/// Which tiny pages of the virtual space are taken.
+struct Space(Vec<bool>);
+
+impl Space {
+    fn new() -> Space {
+        Space(vec![false; 1 << 14])
+    }
+
+    /// Takes a page of that kind, where no part of it is taken.
+    fn take(&mut self, virtual_start: u32, kind: u8) -> bool {
+        let size = SIZES[kind as usize] as usize;
+        let pages = &mut self.0[virtual_start as usize >> 10..][..size >> 10];
+        let free = !pages.contains(&true);
+        if free {
+            pages.fill(true);
+        }
+        free
+    }
+}
+
 /// A good list of at most `most` records, in any order, with a bias to few
 /// megabytes, to neighbours and to ends.
 pub fn good(dice: &mut Dice, most: u32) -> Vec<Record> {
-    let mut taken = vec![false; 1 << 14];
+    let mut space = Space::new();
     let megabytes: Vec<u32> = (0..1 + dice.below(16)).map(|_| dice.below(16)).collect();
-    let mut kinds: Vec<u8> = (0..4).collect();
+    let mut kinds = ALL_KINDS.to_vec();
     if dice.once_in(2) {
         let out = dice.below(4) as usize;
         kinds.remove(out);
@@ -83,22 +123,52 @@ pub fn good(dice: &mut Dice, most: u32) -> Vec<Record> {
             }
             _ => dice.pick(&megabytes) << 20 | dice.below(1 << 20),
         } & !(size - 1);
-        let pages = &mut taken[virtual_start as usize >> 10..][..size as usize >> 10];
-        if pages.iter().any(|&page| page) {
-            continue;
+        if space.take(virtual_start, kind) {
+            list.push(Record::anywhere(dice, virtual_start, kind));
         }
-        pages.fill(true);
-        let physical = match dice.below(8) {
-            0 => 0,
-            1 => u32::MAX,
-            2 => virtual_start,
-            _ => dice.word(),
-        } & !(size - 1);
-        let access = 2 + dice.below(2) as u8;
-        list.push(Record { virtual_start, physical, kind, access });
     }
     dice.shuffle(&mut list);
     list
+}
+
+/// A good list of exactly `count` records, in any order, of kinds picked from these,
+/// in so many megabytes. A page of the smallest kind comes where another would
+/// lie over one that is there, or leave too little room for the rest.
+pub fn exactly(dice: &mut Dice, count: usize, kinds: &[u8], megabytes: usize) -> Vec<Record> {
+    let smallest = *kinds.iter().max().expect("a kind");
+    let step = SIZES[smallest as usize];
+    let mut all: Vec<u32> = (0..16).map(|megabyte| megabyte << 20).collect();
+    dice.shuffle(&mut all);
+    let within = |&megabyte: &u32| (megabyte..megabyte + SIZES[0]).step_by(step as usize);
+    let mut places: Vec<u32> = all[..megabytes].iter().flat_map(within).collect();
+    dice.shuffle(&mut places);
+    // How many places are free: no fewer than records are to come, and none of them
+    // has been tried, since a place that was tried is taken.
+    let mut free = places.len();
+    let mut space = Space::new();
+    let mut list: Vec<Record> = Vec::new();
+    for place in places {
+        let Some(rest) = (count - list.len()).checked_sub(1) else { break };
+        for kind in [dice.pick(kinds), smallest] {
+            let size = SIZES[kind as usize];
+            let virtual_start = place & !(size - 1);
+            let takes = (size / step) as usize;
+            if takes + rest <= free && space.take(virtual_start, kind) {
+                free -= takes;
+                list.push(Record::anywhere(dice, virtual_start, kind));
+                break;
+            }
+        }
+    }
+    assert_eq!(list.len(), count, "so many do not fit");
+    dice.shuffle(&mut list);
+    list
+}
+
+/// A good list of as many records as there may be, in one megabyte or in more.
+pub fn full(dice: &mut Dice) -> Vec<Record> {
+    let megabytes = 1 + dice.below(16) as usize;
+    exactly(dice, MOST_RECORDS, &ALL_KINDS, megabytes)
 }
 
 /// A tiny page in every megabyte: sixteen fine tables.
@@ -123,8 +193,8 @@ pub fn spoil(dice: &mut Dice, list: &mut Vec<u8>) {
         0 => list.truncate(list.len().saturating_sub(1 + dice.below(11) as usize)),
         1 => list.extend((0..1 + dice.below(11)).map(|_| 0)),
         2 => {
-            // Past 256, by a byte or by more.
-            let more = 256 * 12 + 1 + dice.below(40) as usize;
+            // Past the limit, by a byte or by more.
+            let more = MOST_BYTES + 1 + dice.below(40) as usize;
             let last = count as u32;
             let mut filler = last;
             while list.len() < more {
@@ -158,8 +228,7 @@ pub fn spoil(dice: &mut Dice, list: &mut Vec<u8>) {
         // A record of another size over one of them.
         10 | 11 => {
             let kind = dice.below(4) as u8;
-            let start = super::word(list, some) & 0xFF_FFFF & !(SIZES[kind as usize] - 1);
-            let record = Record { virtual_start: start, physical: 0, kind, access: 3 };
+            let record = Record::holding(super::word(list, some) & 0xFF_FFFF, kind);
             let to = dice.below(count as u32 + 1) as usize * 12;
             list.splice(to..to, record.bytes());
         }
