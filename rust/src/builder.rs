@@ -179,24 +179,21 @@ pub fn build(records: &[u8], base: u32, memory: &mut [u8]) -> Result<usize, Refu
     for bytes in records.chunks_exact(RECORD) {
         let record = Record::decode(bytes.try_into().expect("of that length"));
         let megabyte = record.megabyte();
-        let (first, count) = record.tiny_pages();
-        let access = record.access << 4;
         if record.kind == Kind::Section {
             put(&mut image[megabyte * 4..], record.physical | record.access << 10 | 2);
-        } else if tables.fine(megabyte) {
-            // In a fine table every page is cut into tiny ones.
-            let words = &mut image[offsets[megabyte] + first * 4..][..count * 4];
-            let mut word = record.physical | access | 3;
-            for at in words.chunks_exact_mut(4) {
-                put(at, word);
-                word = word.wrapping_add(1 << 10);
-            }
         } else {
-            // In a coarse one a large page takes 16 equal words, a small one takes one:
-            // as many bytes as there are tiny pages, four to a word.
-            let words = &mut image[offsets[megabyte] + first..][..count];
-            let word = record.physical | access | record.kind as u32;
-            words.chunks_exact_mut(4).for_each(|at| put(at, word));
+            let word = record.physical | record.access << 4 | record.kind as u32;
+            let (first, count) = record.tiny_pages();
+            let table = offsets[megabyte];
+            if tables.fine(megabyte) {
+                // In a fine table a large page takes 64 equal words, a small one takes four
+                // (P3): one for each tiny page.
+                repeat(&mut image[table + first * 4..][..count * 4], word);
+            } else {
+                // In a coarse one a large page takes 16, a small one takes one: as many
+                // bytes as there are tiny pages, four to a word.
+                repeat(&mut image[table + first..][..count], word);
+            }
         }
     }
     Ok(length)
@@ -205,6 +202,12 @@ pub fn build(records: &[u8], base: u32, memory: &mut [u8]) -> Result<usize, Refu
 #[inline]
 fn put(at: &mut [u8], word: u32) {
     at[..4].copy_from_slice(&word.to_le_bytes());
+}
+
+/// Puts a word at each place of these.
+#[inline]
+fn repeat(words: &mut [u8], word: u32) {
+    words.chunks_exact_mut(4).for_each(|at| put(at, word));
 }
 
 /// What the program writes for an input. It reads one byte past the longest list
@@ -270,7 +273,7 @@ mod tests {
     }
 
     #[test]
-    fn every_page_of_a_fine_table_is_cut() {
+    fn pages_of_a_fine_table_are_repeated() {
         let list = [
             record(0xF1_0000, 0xFFFF_0000, 1, 2),
             record(0xF0_1000, 0x0000_3000, 2, 3),
@@ -285,13 +288,45 @@ mod tests {
         assert_eq!(word(&memory, 0x400 + 12), 0x7000_1022);
         assert_eq!(word(&memory, 0x1004), 0x0000_0423);
         for n in 0..4 {
-            assert_eq!(word(&memory, 0x1010 + n * 4), 0x3033 + n as u32 * 0x400);
+            assert_eq!(word(&memory, 0x1010 + n * 4), 0x0000_3032);
         }
         for n in 0..64 {
-            assert_eq!(word(&memory, 0x1100 + n * 4), 0xFFFF_0023 + n as u32 * 0x400);
+            assert_eq!(word(&memory, 0x1100 + n * 4), 0xFFFF_0021);
         }
         let set = (0..0x2000).step_by(4).filter(|&at| word(&memory, at) != 0).count();
         assert_eq!(set, 2 + 1 + 1 + 4 + 64);
+    }
+
+    #[test]
+    fn full_tables_of_both_kinds() {
+        // Fifteen large pages and fifteen small ones, from the end of the megabyte and
+        // of its first 64 KB down, then four tiny ones at its start or one more small one.
+        let large = |n: u32| record(0x3F_0000 - (n << 16), 0x8000_0000 + (n << 16), 1, 3);
+        let small = |n: u32| record(0x30_F000 - (n << 12), 0x9000_0000 + (n << 12), 2, 2);
+        let tiny = |n: u32| record(0x30_0000 + (n << 10), 0xA000_0000 + (n << 10), 3, 3);
+        let pages: Vec<[u8; 12]> = (0..15).flat_map(|n| [large(n), small(n)]).collect();
+        let fine = [pages.concat(), (0..4).flat_map(tiny).collect()].concat();
+        let coarse = [pages.concat(), small(15).to_vec()].concat();
+
+        let mut memory = vec![0xA5; 0x2000];
+        assert_eq!(build(&fine, 0x2000_0000, &mut memory), Ok(0x2000));
+        assert_eq!(word(&memory, 12), 0x2000_1003);
+        let got: Vec<u32> = (0..1_024).map(|n| word(&memory, 0x1000 + n * 4)).collect();
+        assert_eq!(got[..4], [0xA000_0033, 0xA000_0433, 0xA000_0833, 0xA000_0C33]);
+        for n in 1..16 {
+            assert_eq!(got[n * 4..][..4], [0x9000_F022 - (n as u32) * 0x1000; 4]);
+            assert_eq!(got[n * 64..][..64], [0x800F_0031 - (n as u32) * 0x1_0000; 64]);
+        }
+
+        let mut memory = vec![0xA5; 0x800];
+        assert_eq!(build(&coarse, 0x2000_0000, &mut memory), Ok(0x800));
+        assert_eq!(word(&memory, 12), 0x2000_0401);
+        let got: Vec<u32> = (0..256).map(|n| word(&memory, 0x400 + n * 4)).collect();
+        let small: Vec<u32> = (0..16).map(|n| 0x9000_F022 - n * 0x1000).collect();
+        assert_eq!(got[..16], small);
+        for n in 1..16 {
+            assert_eq!(got[n * 16..][..16], [0x800F_0031 - (n as u32) * 0x1_0000; 16]);
+        }
     }
 
     #[test]

@@ -731,6 +731,201 @@ fn other_writes_say_none() {
     }
 }
 
+// Large and small pages in fine tables (P3).
+
+/// Megabyte A has a fine table at 1000, with a large page at its words C0 to FF, a
+/// small one at 204 to 207 and a tiny one at 0; megabyte B has a coarse table at
+/// 2000, with a large page at its words 10 to 1F.
+fn mixed() -> Bench {
+    Bench::with(&[
+        record(0xA3_0000, 0x7654_0000, 1, 3),
+        record(0xA8_1000, 0x1234_5000, 2, 2),
+        record(0xA0_0000, 0x0000_0400, 3, 3),
+        record(0xB1_0000, 0x4321_0000, 1, 3),
+    ])
+}
+
+/// Slots that the pages of megabyte A fill: page numbers 28C0, 2A04 and 2800.
+const LARGE_SLOT: (u32, u32) = (0x0002_8C05, 0x7654_0300);
+const SMALL_SLOT: (u32, u32) = (0x0002_A046, 0x1234_5200);
+const TINY_SLOT: (u32, u32) = (0x0002_8007, 0x0000_0700);
+
+#[test]
+fn a_large_page_of_a_fine_table_fills_one_slot() {
+    let mut bench = mixed();
+    assert_eq!(bench.request(Access::Read, 0xA3_ABCD), on_chip(physical(0x7654_ABCD), 0x13A8));
+    assert_eq!((bench.slot(0), bench.get(LOCK)), (LARGE_SLOT, 1 << 4));
+    // The slot serves all 64 KB, and no word is read.
+    for address in [0xA3_0000, 0xA3_03FF, 0xA3_A400, 0xA3_AC00, 0xA3_FFFF] {
+        let expected = none(physical(0x7654_0000 | address & 0xFFFF));
+        assert_eq!(bench.request(Access::Write, address), expected, "{address:06x}");
+    }
+    assert_eq!(bench.books.meters, Meters { fresh: 6, retries: 0, words: 2 });
+    assert_eq!((bench.slot(1), bench.get(LOCK)), ((0, 0), 1 << 4));
+    // Before it and after it there is no page.
+    assert_eq!(bench.request(Access::Read, 0xA2_FFFF), on_chip(TRANSLATION, 0x12FC));
+    bench.unit.drop_fault();
+    assert_eq!(bench.request(Access::Read, 0xA4_0000), on_chip(TRANSLATION, 0x1400));
+}
+
+#[test]
+fn a_small_page_of_a_fine_table_fills_one_slot() {
+    let mut bench = mixed();
+    assert_eq!(bench.request(Access::Read, 0xA8_1ABC), on_chip(physical(0x1234_5ABC), 0x1818));
+    assert_eq!((bench.slot(0), bench.get(LOCK)), (SMALL_SLOT, 1 << 4));
+    for address in [0xA8_1000, 0xA8_13FF, 0xA8_1400, 0xA8_1C00, 0xA8_1FFF] {
+        let expected = none(physical(0x1234_5000 | address & 0xFFF));
+        assert_eq!(bench.request(Access::Read, address), expected, "{address:06x}");
+    }
+    assert_eq!(bench.request(Access::Write, 0xA8_1400), none(PERMISSION));
+    bench.unit.drop_fault();
+    assert_eq!(bench.books.meters, Meters { fresh: 7, retries: 0, words: 2 });
+    assert_eq!(bench.request(Access::Read, 0xA8_0FFF), on_chip(TRANSLATION, 0x180C));
+    bench.unit.drop_fault();
+    assert_eq!(bench.request(Access::Read, 0xA8_2000), on_chip(TRANSLATION, 0x1820));
+    bench.unit.drop_fault();
+    // A tiny page in the same table stays one.
+    assert_eq!(bench.request(Access::Write, 0xA0_0001), on_chip(physical(0x0000_0401), 0x1000));
+    assert_eq!(bench.slot(1), TINY_SLOT);
+    assert_eq!(bench.request(Access::Read, 0xA0_0400), on_chip(TRANSLATION, 0x1004));
+}
+
+#[test]
+fn every_word_of_a_page_of_a_fine_table_leads_to_it() {
+    let mut bench = mixed();
+    for n in 0..64 {
+        let address = 0xA3_0000 + n * 0x400 + 0x155;
+        let expected = on_chip(physical(0x7654_0155 + n * 0x400), 0x1300 + n * 4);
+        assert_eq!(bench.request(Access::Write, address), expected, "{address:06x}");
+        assert_eq!(bench.slot(n as usize % 32), LARGE_SLOT);
+        bench.done(GLOBAL_FLUSH, 1);
+    }
+    for n in 0..4 {
+        let address = 0xA8_1000 + n * 0x400 + 0x2AA;
+        let expected = on_chip(physical(0x1234_52AA + n * 0x400), 0x1810 + n * 4);
+        assert_eq!(bench.request(Access::Read, address), expected, "{address:06x}");
+        assert_eq!(bench.slot(n as usize), SMALL_SLOT);
+        bench.done(GLOBAL_FLUSH, 1);
+    }
+}
+
+#[test]
+fn prefetches_of_large_and_small_pages_of_a_fine_table() {
+    let mut bench = mixed();
+    // The last word of each.
+    assert_eq!(bench.write(PREFETCH, 0x28FF), on_chip(Answer::Done, 0x13FC));
+    assert_eq!(bench.write(PREFETCH, 0x2A07), on_chip(Answer::Done, 0x181C));
+    assert_eq!((bench.slot(0), bench.slot(1)), (LARGE_SLOT, SMALL_SLOT));
+    // Elsewhere in them: matches.
+    assert_eq!(bench.write(PREFETCH, 0x28C0), none(Answer::Done));
+    assert_eq!(bench.write(PREFETCH, 0x2A04), none(Answer::Done));
+    assert_eq!(bench.request(Access::Write, 0xA3_1234), none(physical(0x7654_1234)));
+    assert_eq!(bench.request(Access::Read, 0xA8_1234), none(physical(0x1234_5234)));
+    assert_eq!(bench.books.meters, Meters { fresh: 2, retries: 0, words: 4 });
+    assert_eq!(bench.get(LOCK), 2 << 4);
+    // Right after them.
+    assert_eq!(bench.write(PREFETCH, 0x2900), on_chip(NOT_PREFETCHED, 0x1400));
+}
+
+#[test]
+fn shift_reports_through_a_fine_table() {
+    let mut bench = mixed();
+    // 76540000 - A30000, and 12345000 - A81000.
+    let large = Answer::Distance(0x75B1_0000);
+    assert_eq!(bench.report(0xA3_0000), on_chip(large, 0x1300));
+    assert_eq!(bench.report(0xA3_ABCD), on_chip(large, 0x13A8));
+    assert_eq!(bench.report(0xA3_FFFF), on_chip(large, 0x13FC));
+    let small = Answer::Distance(0x118C_4000);
+    assert_eq!(bench.report(0xA8_1000), on_chip(small, 0x1810));
+    assert_eq!(bench.report(0xA8_1FFF), on_chip(small, 0x181C));
+    // The last word alone: large page AF0000 to 0.
+    bench.put_word(0x1FFC, 0x0000_0001);
+    assert_eq!(bench.report(0xAF_FC00), on_chip(Answer::Distance(-11_468_800), 0x1FFC));
+    assert_eq!(bench.report(0xAF_FBFF), on_chip(TRANSLATION, 0x1FF8));
+}
+
+#[test]
+fn a_walk_takes_the_word_that_it_read() {
+    let mut bench = mixed();
+    // The large page's group, with another large page's word at its head and at its
+    // end, a fault, and a tiny and a small page's word side by side. Bits below a
+    // page's base are ignored, but for access.
+    bench.put_word(0x1300, 0x1111_FFF1);
+    bench.put_word(0x1310, 0x7654_0030);
+    bench.put_word(0x13A8, 0x5555_5433);
+    bench.put_word(0x13AC, 0x6666_6FEE);
+    bench.put_word(0x13FC, 0x2222_0021);
+    // The small page's group, with a large page's word in it.
+    bench.put_word(0x1814, 0x3333_8031);
+    let rows = [
+        (0xA3_0000, on_chip(physical(0x1111_0000), 0x1300), (0x0002_8C05, 0x1111_0300)),
+        (0xA3_0400, on_chip(physical(0x7654_0400), 0x1304), LARGE_SLOT),
+        (0xA3_1000, on_chip(TRANSLATION, 0x1310), (0, 0)),
+        (0xA3_A7FF, on_chip(physical(0x7654_A7FF), 0x13A4), LARGE_SLOT),
+        (0xA3_ABCD, on_chip(physical(0x5555_57CD), 0x13A8), (0x0002_8EA7, 0x5555_5700)),
+        (0xA3_AFFF, on_chip(physical(0x6666_6FFF), 0x13AC), (0x0002_8E86, 0x6666_6200)),
+        (0xA3_FBFF, on_chip(physical(0x7654_FBFF), 0x13F8), LARGE_SLOT),
+        (0xA3_FFFF, on_chip(physical(0x2222_FFFF), 0x13FC), (0x0002_8C05, 0x2222_0200)),
+        (0xA8_1000, on_chip(physical(0x1234_5000), 0x1810), SMALL_SLOT),
+        (0xA8_1400, on_chip(physical(0x3333_1400), 0x1814), (0x0002_A005, 0x3333_0300)),
+    ];
+    for (address, expected, slot) in rows {
+        bench.done(CONTROL, 0);
+        bench.done(BASE_HIGH, 0x2000);
+        bench.done(CONTROL, 7);
+        assert_eq!(bench.request(Access::Read, address), expected, "{address:06x}");
+        assert_eq!(bench.slot(0), slot, "{address:06x}");
+        assert_eq!(bench.report(address).from, expected.from);
+    }
+}
+
+#[test]
+fn after_a_walk_the_slot_decides_for_the_whole_page() {
+    let mut bench = mixed();
+    bench.put_word(0x1310, 0);
+    bench.put_word(0x13A8, 0x5555_5433);
+    bench.put_word(0x13AC, 0x6666_6022);
+    // The tiny page alone; then the small one, which does not hide it.
+    assert_eq!(bench.request(Access::Read, 0xA3_A800), on_chip(physical(0x5555_5400), 0x13A8));
+    assert_eq!(bench.request(Access::Read, 0xA3_AC00), on_chip(physical(0x6666_6C00), 0x13AC));
+    assert_eq!(bench.request(Access::Read, 0xA3_ABFF), none(physical(0x5555_57FF)));
+    // The large page's words at A3A000 are not read any more.
+    assert_eq!(bench.request(Access::Read, 0xA3_A000), none(physical(0x6666_6000)));
+    assert_eq!(bench.request(Access::Write, 0xA3_A7FF), none(PERMISSION));
+    bench.flush();
+    // The large page first: none of the three other words is read.
+    assert_eq!(bench.request(Access::Write, 0xA3_FFFF), on_chip(physical(0x7654_FFFF), 0x13FC));
+    for address in [0xA3_1000, 0xA3_A800, 0xA3_AC00] {
+        let expected = none(physical(0x7654_0000 | address & 0xFFFF));
+        assert_eq!(bench.request(Access::Write, address), expected, "{address:06x}");
+    }
+    bench.flush();
+    // A fault is not kept, and a retry takes the word as it then is.
+    assert_eq!(bench.request(Access::Read, 0xA3_1000), on_chip(TRANSLATION, 0x1310));
+    assert_eq!(bench.write(ACKNOWLEDGE, 1), on_chip(TRANSLATION, 0x1310));
+    bench.put_word(0x1310, 0x7777_0021);
+    assert_eq!(bench.write(ACKNOWLEDGE, 1), on_chip(physical(0x7777_1000), 0x1310));
+    assert_eq!(bench.request(Access::Read, 0xA3_A800), none(physical(0x7777_A800)));
+}
+
+#[test]
+fn a_coarse_tables_tiny_word_is_a_fault() {
+    let mut bench = mixed();
+    // Word 18 of the coarse table, within the large page's group.
+    bench.put_word(0x2060, 0x5555_5433);
+    assert_eq!(bench.request(Access::Read, 0xB1_8000), on_chip(TRANSLATION, 0x2060));
+    assert_eq!((bench.slot(0), bench.get(LOCK), bench.get(STATUS)), ((0, 0), 0, 1));
+    assert_eq!(bench.write(ACKNOWLEDGE, 1), on_chip(TRANSLATION, 0x2060));
+    bench.unit.drop_fault();
+    assert_eq!(bench.write(PREFETCH, 0x2C60), on_chip(NOT_PREFETCHED, 0x2060));
+    bench.unit.drop_fault();
+    assert_eq!(bench.report(0xB1_8000), on_chip(TRANSLATION, 0x2060));
+    // Its neighbours are the large page, and the slot that they fill holds it too.
+    assert_eq!(bench.request(Access::Write, 0xB1_7FFF), on_chip(physical(0x4321_7FFF), 0x205C));
+    assert_eq!(bench.slot(0), (0x0002_C405, 0x4321_0300));
+    assert_eq!(bench.request(Access::Write, 0xB1_8000), none(physical(0x4321_8000)));
+}
+
 // "When the unit says no".
 
 /// Memories that share an address, and a price out of its range.

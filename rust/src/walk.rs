@@ -117,11 +117,16 @@ pub fn walk(memories: &Memories, base: u32, address: u32) -> Option<Walk> {
             let page = Page { kind: Kind::Section, frame, access: (word >> 10 & 3) as u8 };
             Some(Walk { before: None, last: first, page: Some(page) })
         }
-        // A fine table holds tiny pages; its large or small word is a fault (house).
+        // A fine table holds pages of all three kinds (P3).
         _ => {
             let at = (word & 0xFFFF_F000) + (address >> 10 & 0x3FF) * 4;
             let (place, word) = memories.word(at)?;
-            let page = (word & 3 == 3).then(|| second_level(Kind::Tiny, word));
+            let page = match word & 3 {
+                0 => None,
+                1 => Some(second_level(Kind::Large, word)),
+                2 => Some(second_level(Kind::Small, word)),
+                _ => Some(second_level(Kind::Tiny, word)),
+            };
             Some(Walk { before: Some(first), last: Read { place, physical: at }, page })
         }
     }
@@ -174,7 +179,9 @@ mod tests {
                 (0x40C, 0xABCD_EFFC),
                 (0x1000, 0xABCD_EFFF),
                 (0x1004, 0xABCD_EFFD),
-                (0x1008, 0xABCD_EFFE),
+                (0x1008, 0xABCD_EFEE),
+                (0x100C, 0xABCD_EFFC),
+                (0x1FF8, 0x8765_43DD),
                 (0x1FFC, 0xABCD_EFCF),
             ],
             0x2000,
@@ -187,15 +194,23 @@ mod tests {
         assert_eq!(go(0x002_000).page, None);
         assert_eq!(go(0x003_000).page, None);
         assert_eq!(go(0x100_000).page, page(Kind::Tiny, 0xABCD_EC00, 3));
-        assert_eq!(go(0x100_400).page, None);
-        assert_eq!(go(0x100_800).page, None);
+        assert_eq!(go(0x100_400).page, page(Kind::Large, 0xABCD_0000, 3));
+        assert_eq!(go(0x100_800).page, page(Kind::Small, 0xABCD_E000, 2));
+        assert_eq!(go(0x100_C00).page, None);
+        assert_eq!(go(0x1FF_800).page, page(Kind::Large, 0x8765_0000, 1));
         assert_eq!(go(0x1FF_C00).page, page(Kind::Tiny, 0xABCD_EC00, 0));
+        // The page's own upper bits, the address's lower 16 or 12.
+        let physical = |address| go(address).page.unwrap().physical(address);
+        assert_eq!(physical(0x100_432), 0xABCD_0432);
+        assert_eq!(physical(0x100_987), 0xABCD_E987);
+        assert_eq!(physical(0x1FF_BCD), 0x8765_FBCD);
         let read = |address| (go(address).before, go(address).last);
         let word_0 = Some(at(Role::OnChip, 0, 0x2000_0000));
         let word_1 = Some(at(Role::OnChip, 4, 0x2000_0004));
         assert_eq!(read(0x000_FFF), (word_0, at(Role::External, 0x400, 0x1000_0400)));
         assert_eq!(read(0x002_000), (word_0, at(Role::External, 0x408, 0x1000_0408)));
         assert_eq!(read(0x100_000), (word_1, at(Role::External, 0x1000, 0x1000_1000)));
+        assert_eq!(read(0x100_7FF), (word_1, at(Role::External, 0x1004, 0x1000_1004)));
         assert_eq!(read(0x1FF_C00), (word_1, at(Role::External, 0x1FFC, 0x1000_1FFC)));
         assert_eq!(read(0x200_000), (None, at(Role::OnChip, 8, 0x2000_0008)));
         assert_eq!(go(0x200_000).page, None);

@@ -8,7 +8,8 @@
 mod common;
 
 use common::callers::{self, Caller};
-use common::coverage::{see_step, Coverage};
+use common::coverage::{self, see_list, see_step, Coverage};
+use common::groups::Group;
 use common::lists::Record;
 use common::places::{self, Told};
 use common::states;
@@ -371,7 +372,80 @@ fn sessions() {
         .map(String::from),
     );
     names.extend(places::KINDS.map(String::from));
+    names.extend(coverage::words());
     seen.demand(20, &names);
+}
+
+/// A group of words that are equal but for one, at every place of it: a walk takes the
+/// word that it reads, and from then on the slot serves all of that word's page. What
+/// comes of each call is said here.
+#[test]
+fn unequal_groups() {
+    let _turn = turn();
+    let rival = rival();
+    let mut seen = Coverage::default();
+    let mut buffers = Buffers { dirt: 0xC3, ..Buffers::default() };
+    let mut compare = |group: &Group, first: u32, then: u32| {
+        let (memory, state) = (group.memory(), states::fresh_state());
+        let lending = Lending::plain(&memory, rows::BASE);
+        let [one, two] = [first, then].map(|n| group.address(n));
+        let report = (shift(two), group.distance(then), group.place(then));
+        let filled = if group.is_page(first) { 0 } else { 24 };
+        // Where the first word is a page that holds the other address, it counts there.
+        let held = group.holds(first, then);
+        let (served, place) =
+            if held { (group.word(first), 0) } else { (group.word(then), group.place(then)) };
+        for (call, said) in [
+            (request(0, one), group.says(group.word(first), 0, one)),
+            (request(1, one), group.says(group.word(first), 1, one)),
+            (write(PREFETCH, (one >> 10) as u16), (filled, 0)),
+        ] {
+            let dropped = if matches!(said.0, 0 | 100) { 7 } else { 0 };
+            let rows = [
+                report,
+                (call, said, group.place(first)),
+                (drop_fault(), (dropped, 0), 0),
+                (request(1, two), group.says(served, 1, two), place),
+                report,
+            ];
+            let start = rows::start();
+            let calls = [start.concat(), rows.map(|(call, ..)| call).concat()].concat();
+            let Group { count, broken, odd, .. } = group;
+            let title = format!("{odd:08x} at {broken} of {count}, {first} and then {then}");
+            let step = Step { lending, state: &state, bill: (0.0, 0.0), calls: &calls };
+            buffers.room = calls.len() / CALL * ANSWER + STATE;
+            let written = step.compare(&*rival, &mut buffers, &title);
+            assert_eq!(written, buffers.room as u64, "{title}");
+            for (n, (call, said, place)) in (start.len()..).zip(rows) {
+                let got = (answer(&buffers.out, n), from(&buffers.out, n));
+                assert_eq!(got, (said, place), "{title}: {}", describe(&call));
+            }
+            step.check_places(&buffers.out, &*rival, &mut seen, &title);
+        }
+        seen.see_if(held && first == group.broken, "the odd word's slot in place of another");
+        seen.see_if(held && then == group.broken, "another word's slot in place of the odd one");
+        seen.see_if(!held && group.is_page(first), "two walks in a group");
+    };
+    // Coarse or fine table, and how often a large or small page's word stands in it.
+    for (table, word, count) in [(1, 0x1234_0031, 16), (3, 0x1234_0031, 64), (3, 0x1234_0032, 4)] {
+        // A fault, pages of all three types with ignored bits, and the same page to be
+        // read only.
+        for odd in [0x1234_0030, 0x9876_FFF1, 0x9876_5FEE, 0x9876_57FF, word ^ 0x10] {
+            for broken in 0..count {
+                let group = Group { table, count, word, broken, odd };
+                for n in [0, count / 2, count - 1].into_iter().filter(|&n| n != broken) {
+                    compare(&group, broken, n);
+                    compare(&group, n, broken);
+                }
+            }
+        }
+    }
+    let names = [
+        "the odd word's slot in place of another",
+        "another word's slot in place of the odd one",
+        "two walks in a group",
+    ];
+    seen.demand(100, &names.map(String::from));
 }
 
 /// Whole lists through run, their prefixes, and the same list one call at a
@@ -692,6 +766,7 @@ fn builds() {
             1 => lists::good(&mut dice, MOST_RECORDS as u32),
             2 | 3 => lists::good(&mut dice, 100),
             4 | 5 => vec![],
+            6..=9 => lists::mixed(&mut dice),
             _ => {
                 let most = 1 + dice.below(24);
                 lists::good(&mut dice, most)
@@ -735,6 +810,7 @@ fn builds() {
             seen.see_if(image == 64, "built with no second level");
             seen.see_if(image > 65_536, "built past 65,536 bytes");
             seen.see_if(records.len() == MOST_BYTES, &full);
+            see_list(&mut seen, &lists::records(&records));
         } else {
             seen.see(format!("refused {:02}", answer >> 32 & 0xFF));
             seen.see_if(answer == refused(10, MOST_RECORDS as u64), &past);
@@ -742,7 +818,8 @@ fn builds() {
         }
     }
     println!("{rounds} builds");
-    let names = [
+    let mut names = coverage::LISTS.map(String::from).to_vec();
+    let others = [
         "refused 04",
         "refused 10",
         "refused 11",
@@ -755,7 +832,8 @@ fn builds() {
         "built past 65,536 bytes",
         &full,
     ];
-    seen.demand(20, &names.map(String::from));
+    names.extend(others.map(String::from));
+    seen.demand(20, &names);
 }
 
 /// Lists that are as long as they may be, or a little shorter or longer, in the

@@ -27,13 +27,19 @@ fn by_the_list(holder: Option<&Record>, address: u32, access: Access) -> (u32, i
 #[test]
 fn every_page_of_many_lists() {
     let mut dice = Dice::new(0x11_57);
+    let (mut mixed, mut full) = (0, 0);
     for round in 0..24 * long() {
-        let list = if round % 8 == 0 {
-            lists::full(&mut dice)
-        } else {
-            let most = dice.pick(&[0, 1, 3, 12, 60, 256]);
-            lists::good(&mut dice, most)
+        let list = match round % 8 {
+            0 => lists::full(&mut dice),
+            2 | 5 => lists::mixed(&mut dice),
+            _ => {
+                let most = dice.pick(&[0, 1, 3, 12, 60, 256]);
+                lists::good(&mut dice, most)
+            }
         };
+        let (of_all, without_gap) = lists::mixed_megabytes(&list);
+        mixed += of_all;
+        full += without_gap;
         let mut memory = vec![0; 131_072];
         dice.fill(&mut memory);
         let base = dice.word() & 0x7FFF_F000;
@@ -68,4 +74,6 @@ fn every_page_of_many_lists() {
             assert_eq!((report.number(), report.value()), expected);
         }
     }
+    println!("{mixed} megabytes of large, small and tiny pages, {full} of them full");
+    assert!(mixed > 20 && full > 5);
 }

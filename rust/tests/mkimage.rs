@@ -185,12 +185,13 @@ fn image_of_700() -> Vec<u32> {
     for n in 0..256 {
         words[0x800 + n] = 0x106F_F032 - 0x1000 * n as u32 - 0x10 * (n as u32 % 2);
     }
-    // A fine table: eight large and twenty small pages cut into tiny ones.
+    // A fine table: eight large pages, 64 equal words each, and twenty small ones,
+    // four each.
     for n in 0..512 {
-        words[0xC00 + n] = 0x1030_0033 + 0x400 * n as u32;
+        words[0xC00 + n] = 0x1030_0031 + 0x1_0000 * (n as u32 / 64);
     }
     for n in 0..80 {
-        words[0xE00 + n] = 0x1040_0023 + 0x400 * n as u32;
+        words[0xE00 + n] = 0x1040_0022 + 0x1000 * (n as u32 / 4);
     }
     for n in 0..30 {
         words[0xFFF - n] = 0x1050_0033 + 0x400 * n as u32;
@@ -328,6 +329,7 @@ fn many_inputs() {
         let list = match dice.below(16) {
             0 => lists::full(&mut dice),
             1 => lists::wide(&mut dice),
+            2 | 3 => lists::mixed(&mut dice),
             _ => lists::good(&mut dice, most),
         };
         let mut input = lists::bytes(&list);
@@ -339,12 +341,16 @@ fn many_inputs() {
         let kind = match expected.strip_prefix(b"refused ") {
             Some(rest) => String::from_utf8_lossy(&rest[..2]).into_owned(),
             None if input.len() == MOST_BYTES => "image of a full list".into(),
+            None if lists::mixed_megabytes(&lists::records(&input)).0 > 0 => {
+                "image with large, small and tiny pages in a megabyte".into()
+            }
             None => "image".into(),
         };
         *answers.entry(kind).or_insert(0) += 1;
     }
     println!("{rounds} inputs: {answers:?}");
-    for kind in ["image", "image of a full list", "10", "11", "12"] {
+    let mixed = "image with large, small and tiny pages in a megabyte";
+    for kind in ["image", "image of a full list", mixed, "10", "11", "12"] {
         assert!(answers.contains_key(kind), "no input for {kind}");
     }
 }

@@ -27,6 +27,11 @@ fn a_large_pages_word_once() {
 }
 
 #[test]
+fn pages_of_a_fine_table() {
+    rows::fine_tables_repeat_words(&Second);
+}
+
+#[test]
 fn section_access_from_bits_5_4() {
     rows::section_access_is_in_11_10(&Second);
 }

@@ -23,4 +23,4 @@ pub use Rattle.tables.proofs.Places.{end-4, end-first, size-le, start-4, start-
 pub use Rattle.tables.specs.Tables.{startAfter}
 unfoldable pub use Rattle.tables.specs.Words.{firstWord}
 pub use Rattle.tables.specs.Words.{stepBits}
-pub use Rattle.wire.proofs.Splices.{run-level, spliced-same}
+pub use Rattle.wire.proofs.Splices.{spliced-same}

@@ -1,7 +1,7 @@
 -- The image with one mapping more written. Assumes nothing.
 use Rattle.builder.specs.Names.{_≡_, Bool, List, [], _++_, ℕ, zero, suc, _+_, _*_, _-_, _/_, _%_, _^_, _≤_, _<_, eqb, length, getD, drop, pick}
 use Rattle.builder.specs.Names.{virtual, megabytes, Mapping, Held, holder, Second, tableOf, tableSize, tableEnd, tableStart, imageLength}
-use Rattle.builder.specs.Names.{firstBy, writtenAs, pageWord, addressOf, secondWord, wordIn, wordsIn, imageWord, spliced}
+use Rattle.builder.specs.Names.{firstBy, pageWord, secondWord, wordIn, wordsIn, imageWord, spliced}
 use Rattle.builder.proofs.Names.{refl, sym, ap, ap₂, _∙_, subst, true, false, arith, ℕ-discrete, eq-eqb, ne-eqb, lt-ltb, le-ltb, lowBits}
 use Rattle.builder.proofs.Names.{pick-yes, pick-no, and-yes, and-no, and-left, and-right, lowBits-le, end-first, end-4, start-4, firstWord}
 use Rattle.builder.proofs.Names.{stepBits, image, partWord, spliced-same, Firsts, based}
@@ -12,7 +12,7 @@ use native.Mathlib.Numerals.{add-one}
 use lib.ListN.{drop-of-length-le}
 use lib.Seq.{drop-cons}
 use Rattle.records.specs.Mappings.{holds, noMapping}
-use Rattle.records.proofs.Bits.{agree-up}
+use Rattle.page.proofs.Lower.{agree-up}
 use Rattle.records.proofs.Alls.{all-at}
 use Rattle.tables.proofs.Places.{end-start, end-next, end-le, image-4, image-first}
 use Rattle.tables.specs.Words.{sectionWord, inTables}
@@ -171,7 +171,7 @@ module _ (n : ℕ) (all ms : List Mapping) (m : Mapping) (base : ℕ) (fits : (i
       inside : 4 * (wordIn t m + wordsIn t mb m) ≤ tableSize t
       inside = ends-in t (wordIn t m + wordsIn t mb m) some (held-end t mb 0 m (fits mb) (omega arith))
 
-      pub part-over : (j : ℕ) → x ≤ j → j < x + wordsIn t mb m → pageWord (writtenAs t (m .kind)) m (addressOf t mb (wordIn t m + (j - x))) ≡ partWord n all (m ∷ ms) base j
+      pub part-over : (j : ℕ) → x ≤ j → j < x + wordsIn t mb m → pageWord (Held.By m) ≡ partWord n all (m ∷ ms) base j
       unfolding partWord
       part-over j lo hi =
           let a = aligned in
@@ -221,7 +221,7 @@ module _ (n : ℕ) (all ms : List Mapping) (m : Mapping) (base : ℕ) (fits : (i
 
     pub turned-page : (tableSize (tableOf all mb) ≡ 0 → ⊥)
         → spliced (spliced l 0 (partWord n all ms base) words) (tableStart n all mb + 4 * wordIn (tableOf all mb) m)
-        (λ (y : ℕ). pageWord (writtenAs (tableOf all mb) (m .kind)) m (addressOf (tableOf all mb) mb (wordIn (tableOf all mb) m + y))) (wordsIn (tableOf all mb) mb m)
+        (λ (_ : ℕ). pageWord (Held.By m)) (wordsIn (tableOf all mb) mb m)
         ≡ spliced l 0 (partWord n all (m ∷ ms) base) words
     turned-page some =
         let p = image-ends in
@@ -230,7 +230,7 @@ module _ (n : ℕ) (all ms : List Mapping) (m : Mapping) (base : ℕ) (fits : (i
         let start : ℕ = tableStart n all mb / 4 + wordIn (tableOf all mb) m in
         let z : tableStart n all mb + 4 * wordIn (tableOf all mb) m ≡ 0 + 4 * (tableStart n all mb / 4 + wordIn (tableOf all mb) m) = omega arith in
         ap (λ (b : ℕ). spliced (spliced l 0 (partWord n all ms base) words) b
-        (λ (y : ℕ). pageWord (writtenAs (tableOf all mb) (m .kind)) m (addressOf (tableOf all mb) mb (wordIn (tableOf all mb) m + y))) (wordsIn (tableOf all mb) mb m)) z
+        (λ (_ : ℕ). pageWord (Held.By m)) (wordsIn (tableOf all mb) mb m)) z
         ∙ spliced-twice l 0 words (tableStart n all mb / 4 + wordIn (tableOf all mb) m) (wordsIn (tableOf all mb) mb m) words (partWord n all ms base) _ (partWord n all (m ∷ ms) base)
         (omega arith) (omega arith) (omega (arith, end-next n all mb))
         (λ j c d. part-over n all ms m base fits mb mb-lt here some j c d)
@@ -266,13 +266,13 @@ module _ (ms : List Mapping) (j : ℕ) (m : Mapping) (q : m ≡ getD ms j noMapp
         ∙ turned-section megabytes ms (drop (j + 1) ms) m base fits-all l (omega arith) mb mb-lt here w e (sym table ∙ no-table t z))
 
     pub mapping-page : (s : ℕ) (after : List ℕ) → s ≡ tableStart megabytes ms mb → (tableSize t ≡ 0 → ⊥)
-        → after ≡ spliced o (s + 4 * wordIn t m) (λ (y : ℕ). pageWord (writtenAs t (m .kind)) m (addressOf t mb (wordIn t m + y))) (wordsIn t mb m) → Turned ms j o after
+        → after ≡ spliced o (s + 4 * wordIn t m) (λ (_ : ℕ). pageWord (Held.By m)) (wordsIn t mb m) → Turned ms j o after
     mapping-page s after b some f base l len g =
         done base l after
         (f
-        ∙ ap₂ (λ (d : List ℕ) (a : ℕ). spliced d (a + 4 * wordIn t m) (λ (y : ℕ). pageWord (writtenAs t (m .kind)) m (addressOf t mb (wordIn t m + y))) (wordsIn t mb m)) g b
+        ∙ ap₂ (λ (d : List ℕ) (a : ℕ). spliced d (a + 4 * wordIn t m) (λ (_ : ℕ). pageWord (Held.By m)) (wordsIn t mb m)) g b
         ∙ ap (λ (u : Second). spliced (spliced l 0 (partWord megabytes ms (drop (j + 1) ms) base) (imageLength megabytes ms / 4)) (tableStart megabytes ms mb + 4 * wordIn u m)
-        (λ (y : ℕ). pageWord (writtenAs u (m .kind)) m (addressOf u mb (wordIn u m + y))) (wordsIn u mb m)) table
+        (λ (_ : ℕ). pageWord (Held.By m)) (wordsIn u mb m)) table
         ∙ turned-page megabytes ms (drop (j + 1) ms) m base fits-all l (omega arith) mb mb-lt here (λ z. some (ap tableSize table ∙ z)))
 
 -- the words before any mapping is written

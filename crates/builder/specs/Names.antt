@@ -14,7 +14,7 @@ pub use Rattle.records.specs.declared.Mapping.{Mapping}
 unfoldable pub use Rattle.tables.specs.Kinds.{hasTable, tableBy}
 unfoldable pub use Rattle.tables.specs.Tables.{imageLength, tableEnd, tableOf, tableStart}
 pub use Rattle.tables.specs.Tables.{tableSize}
-pub use Rattle.tables.specs.Words.{addressOf, firstBy, wordIn, writtenAs}
-unfoldable pub use Rattle.tables.specs.Words.{imageWord, pageWord, secondWord, wordsIn}
+pub use Rattle.tables.specs.Words.{firstBy, pageWord, wordIn}
+unfoldable pub use Rattle.tables.specs.Words.{imageWord, secondWord, wordsIn}
 pub use Rattle.tables.specs.declared.Second.{Second}
 unfoldable pub use Rattle.wire.specs.Spliced.{bytesBy, spliced}

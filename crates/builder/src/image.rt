@@ -6,62 +6,50 @@ use page::MEGABYTES;
 use records::Mapping;
 use tables::Second;
 ghost use Rattle.builder.specs.Names.{_≡_, ℕ, _+_, _*_, _/_, _^_, _<_, _≤_, length, getD, [], Second, mappings, megabytes, imageLength, Kinds};
-ghost use Rattle.builder.specs.Names.{writtenAs, pageWord, addressOf, wordIn, wordsIn, spliced};
+ghost use Rattle.builder.specs.Names.{Held, pageWord, wordIn, wordsIn, spliced};
 ghost use Rattle.builder.specs.Image.{written};
 ghost use Rattle.builder.specs.Parts.{Turned, Filled};
 ghost use Rattle.builder.specs.Places.{Firsts, based, Level};
 
-// Words that rise by a step, into a memory.
-fn write_run(out: &mut [u8], at: usize, n: usize, w: u64, d: u64)
+// A word a number of times over, into a memory.
+fn write_run(out: &mut [u8], at: usize, n: usize, w: u32)
     requires { ⌜ at + 4 * n ≤ length (now out) ⌝ }
-    ensures { λ r. ⌜ now (out .exit) ≡ spliced (now (out .entry)) at (λ (y : ℕ). w + d * y) n ⌝ }
+    ensures { λ r. ⌜ now (out .exit) ≡ spliced (now (out .entry)) at (λ (_ : ℕ). w) n ⌝ }
 {
-    wire::put_run(out, at, n, w, d);
+    wire::put_run(out, at, n, w);
 }
 
-// A number of zero words, into a memory.
-fn write_zeros(out: &mut [u8], at: usize, n: usize)
-    requires { ⌜ at + 4 * n ≤ length (now out) ⌝ }
-    ensures { λ r. ⌜ now (out .exit) ≡ spliced (now (out .entry)) at (λ (_ : ℕ). 0) n ⌝ }
-{
-    write_run(out, at, n, 0, 0);
-}
-
-// The words of a mapping, into its megabyte's fine table, which begins at an offset.
+// The word of a page in its megabyte's fine table, which begins at an offset, as often as it stands there. (No accepted list has a section there.)
 fn write_fine(out: &mut [u8], at: usize, m: Mapping)
     requires { ⌜ at + 4 * (wordIn Second.Fine m + wordsIn Second.Fine (m .at .0 / 2 ^ 20) m) ≤ length (now out) ⌝ }
     ensures { λ r. ⌜ now (out .exit)
-        ≡ spliced (now (out .entry)) (at + 4 * wordIn Second.Fine m)
-        (λ (y : ℕ). pageWord (writtenAs Second.Fine (m .kind)) m (addressOf Second.Fine (m .at .0 / 2 ^ 20) (wordIn Second.Fine m + y))) (wordsIn Second.Fine (m .at .0 / 2 ^ 20) m) ⌝ }
+        ≡ spliced (now (out .entry)) (at + 4 * wordIn Second.Fine m) (λ (_ : ℕ). pageWord (Held.By m)) (wordsIn Second.Fine (m .at .0 / 2 ^ 20) m) ⌝ }
 {
     let k = m.kind;
-    let to = m.to;
     let o = at + 4 * tables::words::word_in(Second::Fine, m) as usize;
-    let w = page::page_start(k, to.0) as u64 + 16 * (m.access % 4) as u64 + 3;
+    let w = tables::words::page_word(m);
     match k {
-        Kind::Section => write_run(out, o, 1024, w, 1024),
-        Kind::Large => write_run(out, o, 64, w, 1024),
-        Kind::Small => write_run(out, o, 4, w, 1024),
-        Kind::Tiny => write_run(out, o, 1, w, 1024),
+        Kind::Section => write_run(out, o, 1024, w),
+        Kind::Large => write_run(out, o, 64, w),
+        Kind::Small => write_run(out, o, 4, w),
+        Kind::Tiny => write_run(out, o, 1, w),
     }
 }
 
-// The words of a mapping, into its megabyte's coarse table, which begins at an offset.
+// The same in a coarse table.
 fn write_coarse(out: &mut [u8], at: usize, m: Mapping)
     requires { ⌜ at + 4 * (wordIn Second.Coarse m + wordsIn Second.Coarse (m .at .0 / 2 ^ 20) m) ≤ length (now out) ⌝ }
     ensures { λ r. ⌜ now (out .exit)
-        ≡ spliced (now (out .entry)) (at + 4 * wordIn Second.Coarse m)
-        (λ (y : ℕ). pageWord (writtenAs Second.Coarse (m .kind)) m (addressOf Second.Coarse (m .at .0 / 2 ^ 20) (wordIn Second.Coarse m + y))) (wordsIn Second.Coarse (m .at .0 / 2 ^ 20) m) ⌝ }
+        ≡ spliced (now (out .entry)) (at + 4 * wordIn Second.Coarse m) (λ (_ : ℕ). pageWord (Held.By m)) (wordsIn Second.Coarse (m .at .0 / 2 ^ 20) m) ⌝ }
 {
     let k = m.kind;
-    let to = m.to;
     let o = at + 4 * tables::words::word_in(Second::Coarse, m) as usize;
-    let w = page::page_start(k, to.0) as u64 + 16 * (m.access % 4) as u64;
+    let w = tables::words::page_word(m);
     match k {
-        Kind::Section => write_run(out, o, 256, w + 2, 4096),
-        Kind::Large => write_run(out, o, 16, w + 1, 0),
-        Kind::Small => write_run(out, o, 1, w + 2, 0),
-        Kind::Tiny => write_run(out, o, 0, w + 2, 0),
+        Kind::Section => write_run(out, o, 256, w),
+        Kind::Large => write_run(out, o, 16, w),
+        Kind::Small => write_run(out, o, 1, w),
+        Kind::Tiny => write_run(out, o, 0, w),
     }
 }
 
@@ -110,13 +98,7 @@ fn write_mapping(records: &[u8], firsts: &[u32], out: &mut [u8], j: usize)
         write_coarse(out, f - 1, m);
         return;
     }
-    write_run(
-        out,
-        4 * mb as usize,
-        1,
-        tables::words::section_of(m) as u64,
-        0,
-    );
+    write_run(out, 4 * mb as usize, 1, tables::words::section_word(m));
 }
 
 // The words of all mappings, from the last to the first, over an image that has none.
@@ -139,7 +121,7 @@ fn write_none(base: u32, out: &mut [u8]) -> usize
     if out.len() < 64 {
         return 64;
     }
-    write_zeros(out, 0, 16);
+    write_run(out, 0, 16, 0);
     64
 }
 
@@ -156,7 +138,7 @@ pub(crate) fn write(records: &[u8], seen: &[bool; 64], base: u32, out: &mut [u8]
     if out.len() < len {
         return len;
     }
-    write_zeros(out, 0, len / 4);
+    write_run(out, 0, len / 4, 0);
     write_first(base, &firsts, out);
     write_mappings(records, &firsts, out);
     len

@@ -5,7 +5,6 @@ use native.Mathlib.Nat.{lt-of-le-of-lt}
 use lib.ListN.{drop}
 use lib.Seq.{getD-take, getD-drop}
 use Rattle.page.specs.Words.{lowBits}
-use Rattle.page.specs.declared.Kind.{Kind}
 use Rattle.page.proofs.Lower.{upper-le}
 use Rattle.memory.specs.Memory.{partAt, fetchedIn}
 use Rattle.wire.specs.Words.{littleEndian}
@@ -16,6 +15,7 @@ use Rattle.walk.specs.Walk.{coarseAt, fineAt, readAt, sourceAt, afterSecond, by
 use Rattle.walk.specs.declared.First.{First}
 use Rattle.walk.specs.declared.Table.{Table}
 use Rattle.walk.specs.declared.Read.{Read}
+use Rattle.walk.proofs.Laws.{second-by}
 
 -- four bytes are a word below 2^32
 little : (a b c d : ℕ) → a < 256 → b < 256 → c < 256 → d < 256 → littleEndian a b c d < 2 ^ 32
@@ -73,11 +73,7 @@ module _ (w : ℕ) (h : w < 2 ^ 32) where
       (λ _. pick-by FirstFits _ _ _ (λ _. lt-of-le-of-lt (upper-le 20 w) h) (λ _. tt)))
 
   second-fits : (t : Table) → FrameFits (secondOf t w)
-  unfolding secondOf
-  second-fits Table.Coarse =
-      pick-by FrameFits _ _ _ (λ _. lt-of-le-of-lt (upper-le (lowBits Kind.Large) w) h)
-      (λ _. pick-by FrameFits _ _ _ (λ _. lt-of-le-of-lt (upper-le (lowBits Kind.Small) w) h) (λ _. tt))
-  second-fits Table.Fine = pick-by FrameFits _ _ _ (λ _. lt-of-le-of-lt (upper-le (lowBits Kind.Tiny) w) h) (λ _. tt)
+  second-fits t = second-by FrameFits w tt t (λ k _ _. lt-of-le-of-lt (upper-le (lowBits k) w) h)
 
 module _ (rd : ℕ → Read) (f : (a : ℕ) → ReadFits (rd a)) (va : ℕ) where
   after-second : (t : Table) (s : Source) (b : ℕ) (r : Read) → ReadFits r → FrameFits (afterSecond t s b r .found)

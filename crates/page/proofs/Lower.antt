@@ -2,7 +2,7 @@
 use mathlib.Core.Path.{_≡_, refl, sym, ap, ap₂, _∙_, subst}
 use mathlib.Core.Bool.{Bool, true, false}
 use Prim.Native.Nat.{ℕ, _+_, _-_, _*_, _/_, _%_, _^_, _≤_, _<_}
-use native.Mathlib.Nat.{div-mul-le-self, div-eq-of-lt, div-lt-iff-lt-mul, lt-of-le-of-lt, mod-eq-of-lt, mod-lt, suc-mul, mul-le-mul-right}
+use native.Mathlib.Nat.{add-sub-of-le, div-mul-le-self, div-eq-of-lt, div-lt-iff-lt-mul, lt-of-le-of-lt, mod-eq-of-lt, mod-lt, suc-mul, mul-le-mul-right}
 use native.Mathlib.Omega.{arith}
 use lib.Pow.{shr-shr, shl-shr, split, pow-pos, pow-add, shr-lt, high, low}
 use lib.Dec.{eqb, ltb}
@@ -73,6 +73,12 @@ module _ (n : ℕ) where
   pub shifted : (w x : ℕ) → x < 2 ^ w → (x / 2 ^ n * 2 ^ n) % 2 ^ w ≡ upper n x
   unfolding upper
   shifted w x h = mod-eq-of-lt (lt-of-le-of-lt (upper-le x) h)
+
+-- two addresses that agree above s bits agree above any more
+pub agree-up : (s b x y : ℕ) → s ≤ b → x / 2 ^ s ≡ y / 2 ^ s → x / 2 ^ b ≡ y / 2 ^ b
+agree-up s b x y h e =
+    subst (λ (c : ℕ). x / 2 ^ c ≡ y / 2 ^ c) (add-sub-of-le h)
+    (sym (shr-shr x s (b - s)) ∙ ap (λ (z : ℕ). z / 2 ^ (b - s)) e ∙ shr-shr y s (b - s))
 
 -- two page numbers of 2^m bytes agree above n bits exactly where the addresses agree above m + n
 pub pages-agree : (m n a t : ℕ) → eqb (a / 2 ^ m / 2 ^ n) (t / 2 ^ n) ≡ agree (m + n) a (t * 2 ^ m)

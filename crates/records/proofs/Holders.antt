@@ -5,7 +5,7 @@ use Rattle.records.proofs.Names.{or-yes, or-no, lowBits-le, holds, over
 use borrow.Author.Tests.{eqb-false}
 use Rattle.page.proofs.Picks.{pick-by}
 use Rattle.records.proofs.Alls.{All}
-use Rattle.records.proofs.Bits.{agree-up}
+use Rattle.page.proofs.Lower.{agree-up}
 use Rattle.records.proofs.Accepted.{Disjoint}
 
 -- of the mapping that holds an address, if one does
@@ -52,7 +52,7 @@ module _ (s : ℕ) (a va : VirtualAddress) (s20 : s ≤ 20) (same : a .0 / 2 ^ s
 abbrev pub Both : Mapping → Mapping → VirtualAddress → Type 0
 Both x m va = (holds x va ≡ true) × (holds m va ≡ true)
 
-own : (m : Mapping) → holds m (m .at) ≡ true
+pub own : (m : Mapping) → holds m (m .at) ≡ true
 unfolding holds
 own m = eq-eqb (m .at .0 / 2 ^ lowBits (m .kind)) (m .at .0 / 2 ^ lowBits (m .kind)) refl
 

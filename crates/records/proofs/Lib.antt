@@ -1,7 +1,6 @@
 pub mod Names
 pub mod Scan
 pub mod Alls
-pub mod Bits
 pub mod Rest
 pub mod Refusals
 pub mod Accepted

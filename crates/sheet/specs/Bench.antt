@@ -1,10 +1,10 @@
--- The bench that the sheet's lines start from (01, "Bench sheet"): list A built in a memory, and the device that demand 3 starts.
-use Rattle.sheet.specs.Names.{ℕ, _+_, _*_, List, replicate, Lent, buildOf, freshBill, Device, lockAt, writeOf, recordsA, baseA, roomA, pricesA}
+-- The bench that the sheet's lines start from (01, "Bench sheet"): a list built in a memory, and the device that demand 3 starts.
+use Rattle.sheet.specs.Names.{ℕ, _+_, _*_, List, replicate, Lent, buildOf, freshBill, Device, lockAt, writeOf, baseA, roomA, pricesA}
 use Rattle.sheet.specs.Names.{lentAlone, startA}
 
--- what the builder leaves of list A in a memory that just holds it
-unfoldable pub builtA : List ℕ
-builtA = buildOf recordsA baseA (replicate roomA 0) .memory
+-- what the builder leaves of a list in a memory that just holds list A
+unfoldable pub built : List ℕ → List ℕ
+built rs = buildOf rs baseA (replicate roomA 0) .memory
 
 -- such bytes lent at the sheet's base
 abbrev pub lentA : List ℕ → Lent

@@ -1,3 +1,4 @@
 pub mod Names
 pub mod Bench
 pub mod Sheet
+pub mod Mixed

@@ -3,7 +3,7 @@ use Rattle.sheet.specs.Names.{ℕ, zero, suc, _+_, _-_, _*_, _/_, _≡_,
 use Rattle.sheet.specs.Names.{_and_, virtual, wordValid, wordOf, Lent, Place, firstOf, First, Built, answerOf, builtNumber, builtValue}
 use Rattle.sheet.specs.Names.{freshBill, slots, answerNumber, answerValues, entryOf, Access, Bank, Answer, Entry, Device, Outcome}
 use Rattle.sheet.specs.Names.{requestOf, recordsA, baseA, pricesA, startA}
-use Rattle.sheet.specs.Bench.{builtA, lentA, lockedA}
+use Rattle.sheet.specs.Bench.{lentA, lockedA}
 
 -- what a line asks
 pub data Question : Type 0 where
@@ -173,14 +173,7 @@ module _ (bytes : List ℕ) where
   allPassIn [] = true
   allPassIn (l ∷ ls) = passesIn l and allPassIn ls
 
--- the same with what the builder leaves of list A
-abbrev pub answered : Question → List ℕ
-answered q = answeredIn builtA q
-
-abbrev pub allPass : List Line → Bool
-allPass ls = allPassIn builtA ls
-
--- each line of a list as an equation
-abbrev pub Each : List Line → Type 0
-Each [] = Unit {0}
-Each (l ∷ ls) = (answered (l .0) ≡ l .1) × Each ls
+  -- each line of a list as an equation
+  abbrev pub Each : List Line → Type 0
+  Each [] = Unit {0}
+  Each (l ∷ ls) = (answeredIn (l .0) ≡ l .1) × Each ls

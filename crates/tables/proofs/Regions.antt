@@ -5,11 +5,10 @@ use Rattle.tables.proofs.Names.{stepBits, secondWord}
 use native.Mathlib.Nat.{mul-add-div-right, mul-assoc, mul-le-mul-right, mul-lt-mul-of-pos-right, le-of-mul-le-mul-right, add-mul, mod-lt, div-mul-le-self}
 use lib.Pow.{pow-add, shl-shr, split, high}
 use borrow.Author.Tests.{ne-eqb, eqb-true, eqb-false}
-use Rattle.page.proofs.Lower.{upper-lt, upper-le}
+use Rattle.page.proofs.Lower.{agree-up, upper-lt, upper-le}
 use Rattle.page.proofs.Slot.{lowBits-le}
 use Rattle.records.specs.Mappings.{holds}
-use Rattle.records.proofs.Bits.{agree-up}
-use Rattle.tables.specs.Words.{writtenAs, pageWord, secondBy, addressOf, wordIn, wordsIn}
+use Rattle.tables.specs.Words.{pageWord, addressOf, wordIn, wordsIn}
 use Rattle.tables.proofs.Fits.{Fit}
 
 -- an address lies in the page of another exactly where it lies between that page's ends
@@ -141,13 +140,13 @@ module _ (t : Second) (i x : ℕ) (m : Mapping) (fits : Fit (stepBits t) i m) (s
 
   -- so in the table of a list with one mapping more those words are the mapping's, and the others stay
   pub second-in : (ms : List Mapping) → wordIn t m ≤ x → x < wordIn t m + wordsIn t i m
-      → secondWord (m ∷ ms) t i x ≡ pageWord (writtenAs t (m .kind)) m (addressOf t i x)
+      → secondWord (m ∷ ms) t i x ≡ pageWord (Held.By m)
   unfolding secondWord holder
-  second-in ms lo hi = ap (λ (h : Held). secondBy t h (addressOf t i x)) (pick-yes _ _ _ (held-in lo hi))
+  second-in ms lo hi = ap pageWord (pick-yes _ _ _ (held-in lo hi))
 
   pub second-out : (ms : List Mapping) → ((wordIn t m ≤ x) × (x < wordIn t m + wordsIn t i m) → ⊥) → secondWord (m ∷ ms) t i x ≡ secondWord ms t i x
   unfolding secondWord holder
-  second-out ms out = ap (λ (h : Held). secondBy t h (addressOf t i x)) (pick-no _ _ _ (held-out out))
+  second-out ms out = ap pageWord (pick-no _ _ _ (held-out out))
 
   -- they lie inside the table
   pub held-end : (wordIn t m + wordsIn t i m) * 2 ^ stepBits t ≤ 2 ^ 20

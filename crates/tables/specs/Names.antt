@@ -5,7 +5,6 @@ unfoldable pub use Rattle.page.specs.Pick.{_and_, _or_, pick}
 pub use Rattle.page.specs.Words.{lowBits, typeOf, virtual}
 pub use Rattle.page.specs.declared.Kind.{Kind}
 pub use Rattle.page.specs.declared.VirtualAddress.{VirtualAddress}
-unfoldable pub use Rattle.records.specs.Mappings.{byteOf}
 unfoldable pub use Rattle.records.specs.Meanings.{holder}
 unfoldable pub use Rattle.records.specs.Noted.{hasKind}
 pub use Rattle.records.specs.declared.Held.{Held}

@@ -1,6 +1,6 @@
--- Which word stands where in the image of a list, under a first level of n words (01, "The builder", "The walk").
+-- Which word stands where in the image of a list, under a first level of n words (01, "The builder", "The walk"; 02, P3).
 use Rattle.tables.specs.Names.{ℕ, zero, suc, _+_, _-_, _*_, _/_, _%_, _^_, List, eqb, ltb, leb, pick, _and_, upper, virtual, lowBits, typeOf}
-use Rattle.tables.specs.Names.{Kind, VirtualAddress, Mapping, Held, byteOf, holder, Second}
+use Rattle.tables.specs.Names.{VirtualAddress, Mapping, Held, holder, Second}
 use Rattle.tables.specs.Tables.{tableOf, tableEnd, tableStart}
 
 -- the word of a section, or of none
@@ -17,23 +17,10 @@ firstBy Second.Absent at h = sectionWord h
 unfoldable pub firstWord : ℕ → List Mapping → ℕ → ℕ → ℕ
 firstWord n ms base i = firstBy (tableOf ms i) (base + tableStart n ms i) (holder ms (virtual (i * 2 ^ 20)))
 
--- the kind as which a page is written: in a fine table every page is cut into tiny ones
-abbrev pub writtenAs : Second → Kind → Kind
-writtenAs Second.Fine k = Kind.Tiny
-writtenAs Second.Coarse Kind.Section = Kind.Small
-writtenAs Second.Coarse Kind.Large = Kind.Large
-writtenAs Second.Coarse Kind.Small = Kind.Small
-writtenAs Second.Coarse Kind.Tiny = Kind.Small
-writtenAs Second.Absent k = k
-
--- the word of a page of kind k, for the part of a mapping at address a
-unfoldable pub pageWord : Kind → Mapping → VirtualAddress → ℕ
-pageWord k m a = upper (lowBits k) (byteOf m a .0) + 16 * (m .access % 4) + typeOf k
-
--- a table's word for the page that holds address a, or for none
-abbrev pub secondBy : Second → Held → VirtualAddress → ℕ
-secondBy t (Held.By m) a = pageWord (writtenAs t (m .kind)) m a
-secondBy t Held.Nobody a = 0
+-- the word of a large, small or tiny page, or of none
+abbrev pub pageWord : Held → ℕ
+pageWord (Held.By m) = upper (lowBits (m .kind)) (m .to .0) + 16 * (m .access % 4) + typeOf (m .kind)
+pageWord Held.Nobody = 0
 
 -- how many low address bits one word stands for: in a table, or at the first level
 abbrev pub stepBits : Second → ℕ
@@ -45,11 +32,12 @@ stepBits Second.Absent = 20
 abbrev pub addressOf : Second → ℕ → ℕ → VirtualAddress
 addressOf t i j = virtual (i * 2 ^ 20 + j * 2 ^ stepBits t)
 
--- word j of a table of megabyte i: equal words follow where a page has more addresses than the word
+-- word j of a table of megabyte i is that of the page that holds its first address: a page's word stands wherever the page has addresses
 unfoldable pub secondWord : List Mapping → Second → ℕ → ℕ → ℕ
-secondWord ms t i j = secondBy t (holder ms (addressOf t i j)) (addressOf t i j)
+secondWord ms t i j = pageWord (holder ms (addressOf t i j))
 
--- the first word of its megabyte's table that stands for a mapping's region, and how many of megabyte i's do: a large page takes 16 of a coarse one
+-- the first word of its megabyte's table that stands for a mapping's region, and how many of megabyte i's do: a large page takes
+-- 16 words of a coarse table and 64 of a fine one, a small page 1 and 4
 abbrev pub wordIn : Second → Mapping → ℕ
 wordIn t m = upper (lowBits (m .kind)) (m .at .0 % 2 ^ 20) / 2 ^ stepBits t
 

@@ -4,14 +4,23 @@ use page::Kind;
 use page::MEGABYTE;
 use records::Mapping;
 ghost use Rattle.tables.specs.Names.{_≡_, _+_, _^_, Held};
-ghost use Rattle.tables.specs.Words.{sectionWord, stepBits, wordIn};
+ghost use Rattle.tables.specs.Words.{sectionWord, pageWord, stepBits, wordIn};
 
 // The word of a section.
-pub fn section_of(m: Mapping) -> u32
+pub fn section_word(m: Mapping) -> u32
     ensures { λ r. ⌜ r ≡ sectionWord (Held.By m) ⌝ }
 {
     let to = m.to;
     page::page_start(Kind::Section, to.0) + 1024 * (m.access % 4) + 2
+}
+
+// The word of a large, small or tiny page.
+pub fn page_word(m: Mapping) -> u32
+    ensures { λ r. ⌜ r ≡ pageWord (Held.By m) ⌝ }
+{
+    let k = m.kind;
+    let to = m.to;
+    page::page_start(k, to.0) + 16 * (m.access % 4) + page::type_of(k)
 }
 
 // How many addresses one word stands for.

@@ -1,10 +1,10 @@
 -- Memories that hold the image read as its words. Assumes nothing.
 use Rattle.translates.specs.Names.{_≡_, true, List, ℕ, _+_, _-_, _≤_, _<_, length, getD, take, drop, VirtualAddress, Lent, lentOk, Mapping}
-use Rattle.translates.specs.Names.{Held, byteOf, holder, imageLength, image}
+use Rattle.translates.specs.Names.{Held, holder, imageLength, image}
 use Rattle.translates.proofs.Names.{refl, sym, ap, ap₂, _∙_, Bool, false, suc, _*_, _/_, _%_, _^_, arith, mod-eq-of-lt, lit<, length-take}
-use Rattle.translates.proofs.Names.{getD-take, getD-drop, upper, virtual, lowBits, Kind, pick-yes, pick-no, pick-by, lowBits-le, typeOf-lt}
+use Rattle.translates.proofs.Names.{getD-take, getD-drop, upper, virtual, lowBits, pick-yes, pick-no, pick-by, typeOf-lt}
 use Rattle.translates.proofs.Names.{placeIn, wordOf, Place, Read, readIn, All, OnHeld, all-holder, Second, tableOf, tableSize, tableStart}
-use Rattle.translates.proofs.Names.{sectionWord, firstBy, firstWord, writtenAs, pageWord, secondBy, addressOf, secondWord, inTables, imageWord}
+use Rattle.translates.proofs.Names.{sectionWord, firstBy, firstWord, pageWord, addressOf, secondWord, inTables, imageWord}
 use Rattle.translates.proofs.Names.{bytesBy, end-next, end-last, Has, Standing}
 use mathlib.Core.Bool.{true≢false}
 use mathlib.Core.Logic.{inl, inr}
@@ -13,7 +13,7 @@ use native.Mathlib.Nat.{mod-add-div', div-div-eq-div-mul}
 use borrow.Author.Tests.{le-leb, ltb-true}
 use lib.ListN.{length-drop}
 use Rattle.page.proofs.Picks.{and-yes}
-use Rattle.page.proofs.Lower.{upper-le, joined-lt}
+use Rattle.page.proofs.Lower.{upper-le}
 use Rattle.page.proofs.Slot.{start-1024}
 use Rattle.memory.specs.Memory.{liesIn, placeWithin, partAt}
 use Rattle.wire.specs.Words.{littleEndian, wordBytes}
@@ -29,15 +29,12 @@ use Rattle.translates.proofs.Over.{Stands}
 abbrev pub Phys : Mapping → Type 0
 Phys m = m .to .0 < 2 ^ 32
 
-page-fits : (k : Kind) (m : Mapping) (a : VirtualAddress) → Phys m → pageWord k m a < 2 ^ 32
-unfolding pageWord byteOf
-page-fits k m a h =
-    let p : byteOf m a .0 < 2 ^ 32 = joined-lt (lowBits (m .kind)) 32 (m .to .0) (a .0) (omega (arith, lowBits-le (m .kind))) h in
-    omega (arith, upper-le (lowBits k) (byteOf m a .0), start-1024 k (byteOf m a .0), typeOf-lt k)
+page-fits : (m : Mapping) → Phys m → pageWord (Held.By m) < 2 ^ 32
+page-fits m h = omega (arith, upper-le (lowBits (m .kind)) (m .to .0), start-1024 (m .kind) (m .to .0), typeOf-lt (m .kind))
 
-second-fits : (t : Second) (a va : VirtualAddress) (h : Held) → OnHeld (λ m. Phys m × (Mappings.holds m va ≡ true)) h → secondBy t h a < 2 ^ 32
-second-fits t a va (Held.By m) o = page-fits (writtenAs t (m .kind)) m a (o .0)
-second-fits t a va Held.Nobody o = lit< tt
+second-fits : (va : VirtualAddress) (h : Held) → OnHeld (λ m. Phys m × (Mappings.holds m va ≡ true)) h → pageWord h < 2 ^ 32
+second-fits va (Held.By m) o = page-fits m (o .0)
+second-fits va Held.Nobody o = lit< tt
 
 section-fits : (va : VirtualAddress) (h : Held) → OnHeld (λ m. Phys m × (Mappings.holds m va ≡ true)) h → sectionWord h < 2 ^ 32
 unfolding upper
@@ -47,7 +44,7 @@ section-fits va Held.Nobody o = lit< tt
 word-fits : (ms : List Mapping) → All Phys ms → (t : Second) (i j : ℕ) → secondWord ms t i j < 2 ^ 32
 unfolding secondWord
 word-fits ms phys t i j =
-    second-fits t (addressOf t i j) (addressOf t i j) (holder ms (addressOf t i j)) (all-holder Phys ms (addressOf t i j) phys)
+    second-fits (addressOf t i j) (holder ms (addressOf t i j)) (all-holder Phys ms (addressOf t i j) phys)
 
 module _ (n : ℕ) (ms : List Mapping) (phys : All Phys ms) (base : ℕ) (room : base + imageLength n ms ≤ 2 ^ 32) where
   tables-fit : (k o : ℕ) → inTables n ms k o < 2 ^ 32

@@ -10,21 +10,20 @@ pub use Rattle.memory.specs.declared.Place.{Place}
 pub use Rattle.page.proofs.Picks.{pick-by, pick-no, pick-yes}
 pub use Rattle.page.proofs.Slot.{lowBits-le, typeOf-lt}
 pub use Rattle.page.specs.Ground.{Bool, _%_, _*_, _/_, _^_, false, suc}
-unfoldable pub use Rattle.page.specs.Low.{joined, upper}
+unfoldable pub use Rattle.page.specs.Low.{upper}
 unfoldable pub use Rattle.page.specs.Pick.{_or_, pick}
 pub use Rattle.page.specs.Words.{lowBits, physical, virtual}
 pub use Rattle.page.specs.declared.Kind.{Kind}
 pub use Rattle.records.proofs.Accepted.{Disjoint}
 pub use Rattle.records.proofs.Alls.{All}
-pub use Rattle.records.proofs.Bits.{agree-up}
 pub use Rattle.records.proofs.Holders.{OnHeld, all-holder}
 unfoldable pub use Rattle.records.specs.Checks.{proper}
 unfoldable pub use Rattle.records.specs.Mappings.{holds, mappingOf}
 pub use Rattle.tables.proofs.Places.{end-last, end-next, image-first}
 unfoldable pub use Rattle.tables.specs.Tables.{tableEnd, tableOf, tableStart}
 pub use Rattle.tables.specs.Tables.{tableSize}
-pub use Rattle.tables.specs.Words.{addressOf, firstBy, secondBy, sectionWord, stepBits, writtenAs}
-unfoldable pub use Rattle.tables.specs.Words.{firstWord, imageWord, inTables, pageWord, secondWord}
+pub use Rattle.tables.specs.Words.{addressOf, firstBy, pageWord, sectionWord, stepBits}
+unfoldable pub use Rattle.tables.specs.Words.{firstWord, imageWord, inTables, secondWord}
 pub use Rattle.tables.specs.declared.Second.{Second}
 pub use Rattle.translates.specs.Statements.{Gives, Has, ReadsInside, Standing}
 unfoldable pub use Rattle.walk.specs.Descriptors.{firstOf, secondOf}

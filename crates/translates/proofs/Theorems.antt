@@ -2,15 +2,18 @@
 use Rattle.translates.specs.Names.{_≡_, true, List, ℕ, _+_, _-_, _≤_, _<_, length, take, drop, megabytes, limit, VirtualAddress, Lent, lentOk}
 use Rattle.translates.specs.Names.{Mapping, mappings, holder, Built, imageLength, image, answerOf, buildOf}
 use Rattle.translates.proofs.Names.{refl, sym, ap, ap₂, _∙_, subst, Bool, false, _*_, _/_, _%_, _^_, arith, lit<, length-take, getD-take}
-use Rattle.translates.proofs.Names.{getD-drop, le-refl, _or_, lowBits, pick-by, lowBits-le, placeIn, wordOf, Walked, firstOf, readIn, walkFrom}
-use Rattle.translates.proofs.Names.{mappingOf, proper, All, Disjoint, agree-up, Second, tableOf, tableStart, Gives, ReadsInside, Has, Standing}
+use Rattle.translates.proofs.Names.{getD-drop, le-refl, _or_, pick-by, placeIn, wordOf, Walked, firstOf, readIn, walkFrom}
+use Rattle.translates.proofs.Names.{mappingOf, proper, All, Disjoint, tableOf, tableStart, Gives, ReadsInside, Has, Standing}
 use native.Mathlib.Decide.{decLe}
 use lib.Dec.{eqb}
 use borrow.Author.Tests.{eqb-true}
 use lib.ListN.{List·getD-eq-default}
 use lib.Seq.{take-append-seam}
 use Rattle.page.proofs.Picks.{and-right, or-no}
-use Rattle.walk.proofs.Indices.{first-at-legal}
+use Rattle.walk.specs.Repeated.{AllRepeated}
+use Rattle.walk.specs.Walk.{baseBits}
+use Rattle.walk.proofs.Indices.{aligned, first-at-legal}
+use Rattle.walk.proofs.Repeats.{repeated-uniform}
 use Rattle.records.specs.Mappings.{recordAt}
 use Rattle.records.proofs.Alls.{all-map}
 use Rattle.records.proofs.Accepted.{accepted-proper, accepted-disjoint, all-records}
@@ -19,8 +22,9 @@ use Rattle.builder.proofs.Answers.{room-unit, room-memory, accepted}
 use Rattle.translates.specs.Statements.{Translates, Bytes, ImageTranslates, LeavesImage}
 use Rattle.walk.specs.Uniform.{lookIn}
 use Rattle.translates.proofs.Written.{foundFor}
-use Rattle.translates.proofs.Over.{Narrow, known, walked, readsFor, over}
-use Rattle.translates.proofs.Faithful.{found-gives, found-uniform, reads-inside}
+use Rattle.translates.proofs.Over.{Stands, Narrow, walked, readsFor, over}
+use Rattle.translates.proofs.Faithful.{found-gives, reads-inside}
+use Rattle.translates.proofs.Repeats.{image-repeated}
 use Rattle.translates.proofs.Memories.{Phys, stands}
 
 -- a proper mapping's access is 2 or 3
@@ -56,32 +60,26 @@ phys-of rs h k =
 -- a list without bad or overlapping records, its image at a base that is a multiple of 4,096 and ends by 2^32, in memories that are not refused
 module _ (ms : List Mapping) (narrow : All Narrow ms) (apart : Disjoint ms) (phys : All Phys ms) (base : ℕ) (unit : base % 4096 ≡ 0)
     (room : base + imageLength megabytes ms ≤ 2 ^ 32) (m : Lent) (ok : lentOk m ≡ true) (standing : Standing m base (image megabytes ms base)) where
-  abbrev t : VirtualAddress → Second
-  t va = tableOf ms (va .0 / 2 ^ 20)
+  words : Stands (readIn m) (placeIn m) megabytes ms base
+  words = stands megabytes ms phys base room m ok standing
 
   look-is : (va : VirtualAddress) → va .0 < limit
-      → lookIn m base va ≡ walked (foundFor (tableOf ms (va .0 / 2 ^ 20)) (holder ms va) va) (readsFor (placeIn m) base (tableStart megabytes ms (va .0 / 2 ^ 20)) va (tableOf ms (va .0 / 2 ^ 20)))
+      → lookIn m base va ≡ walked (foundFor (holder ms va)) (readsFor (placeIn m) base (tableStart megabytes ms (va .0 / 2 ^ 20)) va (tableOf ms (va .0 / 2 ^ 20)))
   look-is va low =
       ap (walkFrom (readIn m) firstOf (va .0)) (first-at-legal base (va .0) (omega arith) low)
-      ∙ over megabytes ms base (readIn m) (placeIn m) (stands megabytes ms phys base room m ok standing) narrow unit va (omega arith)
-
-  found-is : (va : VirtualAddress) → va .0 < limit → lookIn m base va .found ≡ foundFor (tableOf ms (va .0 / 2 ^ 20)) (holder ms va) va
-  found-is va low = ap (λ (w : Walked). w .found) (look-is va low)
+      ∙ over megabytes ms base (readIn m) (placeIn m) words narrow apart unit va (omega arith)
 
   pub translates : Translates m base ms
   translates =
       record {
-        gives = λ va low. subst (Gives (holder ms va) va) (sym (found-is va low)) (found-gives (t va) va (holder ms va) (known ms narrow va (t va) refl));
-        uniform = λ va va′ p low e s.
-            let low′ : va′ .0 < limit = below (lowBits (p .kind)) (lowBits-le (p .kind)) (va .0) (va′ .0) low s in
-            found-is va′ low′ ∙ found-uniform ms narrow apart va va′ p (sym (found-is va low) ∙ e) s;
+        gives = λ va low. subst (λ (w : Walked). Gives (holder ms va) va (w .found)) (sym (look-is va low)) (found-gives va (holder ms va));
+        uniform =
+            repeated-uniform (readIn m) firstOf baseBits megabytes base limit (omega arith)
+            (subst (AllRepeated (readIn m) firstOf megabytes) (sym (aligned base (omega arith))) (image-repeated megabytes ms base (readIn m) (placeIn m) words apart unit));
         inside = λ va low.
             subst (λ (w : Walked). ReadsInside base (imageLength megabytes ms) (w .reads)) (sym (look-is va low))
             (reads-inside megabytes ms base (placeIn m) va (omega arith));
       }
-    where
-      below : (k : ℕ) → k ≤ 20 → (x y : ℕ) → x < limit → y / 2 ^ k ≡ x / 2 ^ k → y < limit
-      below k h x y low e = omega (arith, agree-up k 20 y x h e)
 
 pub image-translates : ImageTranslates
 image-translates rs base room len m bytes e ok standing =

@@ -9,12 +9,12 @@ use records::Meaning;
 pub const BASE: u32 = 0x20000000;
 
 // How many lines there are.
-const LINES: usize = 55;
+const LINES: usize = 59;
 
 // The lines, a number each: two digits of what it is, two of its label, eight of what it is about. 0 to 2 a list that is refused, at a base
 // of three; 3 a list that is built; both by the list's first byte, its bytes and the room. 4 the word at an offset; 5 the word with a number
 // of the table at an offset. 6 and 7 what list A means at an address, for a read and for a write.
-const SCRIPT: [u64; 55] = [
+const SCRIPT: [u64; 59] = [
     0x03_00_0024_2004,
     0x05_07_0000_0000,
     0x05_07_0001_0000,
@@ -34,11 +34,11 @@ const SCRIPT: [u64; 55] = [
     0x03_01_0024_2000,
     0x00_02_0024_1ffc,
     0x04_06_0000_0000,
-    0x01_03_d801_2000,
-    0x02_04_d801_2000,
-    0x00_05_d801_0042,
+    0x01_03_e401_2000,
+    0x02_04_e401_2000,
+    0x00_05_e401_0042,
     0x04_06_0000_0000,
-    0x00_0e_d801_0040,
+    0x00_0e_e401_0040,
     0x00_0f_240c_0040,
     0x00_10_300c_0040,
     0x00_11_3c0c_0040,
@@ -50,13 +50,17 @@ const SCRIPT: [u64; 55] = [
     0x00_16_6c18_0040,
     0x00_17_7818_0040,
     0x00_18_8418_0040,
-    0x03_19_9c18_2000,
+    0x03_19_9c24_2000,
     0x05_07_0000_0000,
     0x05_09_0000_1000,
     0x05_09_0003_1000,
     0x05_09_0004_1000,
     0x05_09_0005_1000,
-    0x03_1a_b424_3000,
+    0x05_09_003f_1000,
+    0x05_09_0040_1000,
+    0x05_09_007f_1000,
+    0x05_09_0080_1000,
+    0x03_1a_c024_3000,
     0x05_07_0000_0000,
     0x05_07_0001_0000,
     0x05_07_0002_0000,
@@ -147,9 +151,9 @@ fn numbered(m: &[u8], i: u32, from: u32) {
 
 // The records of every list, 12 bytes each. List A: large 010000 to 10020000, both; section 300000 to 11200000, read; tiny 500400 to
 // 10000C00, both. From 36 on one that is bad each: type 4; virtual 1000000; virtual 010400, small; physical 10020800, small; access 1;
-// byte 11 not zero. From 108 on large 010000, small 01F000, large 010000, the same with access 0. From 156 on small 000000 and tiny 001000.
-// From 180 on small 200000, large 100000, tiny 000000. At 216 one byte.
-fn rows() -> [u8; 217] {
+// byte 11 not zero. From 108 on large 010000, small 01F000, large 010000, the same with access 0. From 156 on small 000000, tiny 001000 and
+// large 010000. From 192 on small 200000, large 100000, tiny 000000. At 228 one byte.
+fn rows() -> [u8; 229] {
     *b"\x00\x00\x01\x00\x00\x00\x02\x10\x01\x03\x00\x00\
         \x00\x00\x30\x00\x00\x00\x20\x11\x00\x02\x00\x00\
         \x00\x04\x50\x00\x00\x0C\x00\x10\x03\x03\x00\x00\
@@ -165,6 +169,7 @@ fn rows() -> [u8; 217] {
         \x00\x00\x01\x00\x00\x00\x02\x10\x01\x00\x00\x00\
         \x00\x00\x00\x00\x00\x00\x00\x10\x02\x02\x00\x00\
         \x00\x10\x00\x00\x00\x04\x10\x10\x03\x03\x00\x00\
+        \x00\x00\x01\x00\x00\x00\x02\x10\x01\x02\x00\x00\
         \x00\x00\x20\x00\x00\x00\x00\x10\x02\x03\x00\x00\
         \x00\x00\x10\x00\x00\x00\x01\x10\x01\x03\x00\x00\
         \x00\x00\x00\x00\x00\x04\x10\x10\x03\x03\x00\x00\
@@ -178,7 +183,7 @@ fn label(n: u32) {
           |coarse word |fine word |behind the first level|between the tables|the last word\
           |the word behind it|one byte|type 4|virtual 1000000|virtual 010400, small\
           |physical 10020800, small|access 1|byte 11 not zero|second record short\
-          |large 010000, small 01F000|small 01F000, large 010000|twice, and with access 0|small and tiny\
+          |large 010000, small 01F000|small 01F000, large 010000|twice, and with access 0|small, tiny and large\
           |megabytes 2, 1, 0|no records|read |write |changed\n",
         n,
     );
@@ -189,8 +194,8 @@ fn build(base: u32, from: usize, bytes: usize, room: usize) -> [u8; 12288] {
     let mut m = [0xEEu8; 12288];
     if room <= 12288 {
         let all = rows();
-        if from <= 217 {
-            if bytes <= 217 - from {
+        if from <= 229 {
+            if bytes <= 229 - from {
                 answered(builder::build(
                     &all[from..from + bytes],
                     PhysicalAddress(base),

@@ -23,7 +23,8 @@ pub(crate) fn show_all() {
 }
 
 // Words of list A's image, placed at 20000000: words of the first table; words 16, 18 and 31 of the coarse table at word
-// 256, and beside them a tiny and a small one; word 1 of the fine table at word 1024, and beside it a small and a large one.
+// 256, and beside them a tiny and a small one; word 1 of the fine table at word 1024, and beside it a small and a large one, with
+// bits above the type that are ignored.
 fn image() -> [u8; 8192] {
     let m = put(
         put(put([0u8; 8192], 0, 0x20000401), 3, 0x11200802),
@@ -37,9 +38,9 @@ fn image() -> [u8; 8192] {
     );
     let m = put(put(m, 288, 0x10030033), 289, 0x10031022);
     put(
-        put(put(m, 1025, 0x10000C33), 1027, 0x10000032),
+        put(put(m, 1025, 0x10000C33), 1027, 0x10002C32),
         1028,
-        0x10000031,
+        0x1004F021,
     )
 }
 
@@ -55,7 +56,7 @@ fn put(m: [u8; 8192], i: usize, w: u32) -> [u8; 8192] {
 }
 
 // The bench sheet's addresses, with the image as the external memory; then a coarse table's tiny word, which is no page,
-// its small one, and a fine table's small and large ones, which are none.
+// its small one, and a fine table's small and large ones.
 // Then the image as the on-chip memory, walks from other bases, and refusal 4.
 fn walks<'a>(image: &'a [u8], zero: &'a [u8]) {
     walked(zero, 0x1000, image, 0x20000000, 0x20000000, 0x010000);

@@ -8,7 +8,7 @@ pub first-at : (j n base va : ℕ) → upper j base ≡ base → va / 2 ^ 20 < n
 unfolding firstAt
 first-at j n base va e h = ap₂ (λ (b i : ℕ). b + 4 * i) e (mod-eq-of-lt h)
 
-aligned : (b : ℕ) → b % 128 ≡ 0 → upper baseBits b ≡ b
+pub aligned : (b : ℕ) → b % 128 ≡ 0 → upper baseBits b ≡ b
 unfolding upper
 aligned b e = omega (arith, e)
 

@@ -1,29 +1,70 @@
 -- What the descriptors give. Assumes nothing.
-use Rattle.walk.specs.Names.{_≡_, false, ℕ, _/_, _%_, _^_, _<_, upper, physical, lowBits, Kind, VirtualAddress, Page, First, Found, Table}
-use Rattle.walk.proofs.Names.{refl, sym, _∙_, arith, eq-eqb, ne-eqb, pick-yes, pick-no, firstOf, pageOf, secondOf, physicalOf, Room}
+use Rattle.walk.specs.Names.{_≡_, false, ℕ, _/_, _%_, _^_, _<_, eqb, pick, lowBits, Kind, VirtualAddress, Page, Found, Table}
+use Rattle.walk.proofs.Names.{refl, sym, _∙_, subst, arith, eq-eqb, ne-eqb, pick-yes, pick-no, firstOf, pageOf, secondOf, physicalOf, Room}
 use Rattle.walk.proofs.Names.{ProperFirst, Proper, isMissing}
-use lib.Dec.{lit<}
+use lib.Dec.{lit≤, lit<}
+use borrow.Author.Tests.{eqb-true, eqb-false}
+use Rattle.page.specs.Words.{typeOf}
+use Prim.Native.Nat.{_≤_}
 use Rattle.page.proofs.Picks.{pick-by}
 use Rattle.page.proofs.Lower.{upper-lt, upper-upper, joined-low, joined-high}
-use Rattle.walk.specs.Descriptors.{sectionOf}
+use Rattle.walk.specs.Descriptors.{sectionOf, tinyIn}
 use Rattle.walk.specs.Distances.{ProperPage}
+use Rattle.walk.specs.Repeated.{wordBits}
 
--- a word that the code tells by its two lowest bits, where the definition asks for others first
-module _ (w : ℕ) where
-  pub first-coarse : w % 4 ≡ 1 → First.Coarse (physical (upper 10 w)) ≡ firstOf w
-  unfolding firstOf
-  first-coarse e = sym (pick-no _ _ _ (ne-eqb (w % 4) 0 (λ q. omega (arith, q, e))) ∙ pick-yes _ _ _ (eq-eqb _ _ e))
+-- a choice of four by a word's two lowest bits
+module _ {A : Type 0} (a b c d : A) (w : ℕ) where
+  abbrev four : A
+  four = pick (eqb (w % 4) 0) a (pick (eqb (w % 4) 1) b (pick (eqb (w % 4) 2) c d))
 
-  pub first-section : w % 4 ≡ 2 → First.Whole (sectionOf w) ≡ firstOf w
-  unfolding firstOf
-  first-section e =
+  pub bits-01 : w % 4 ≡ 1 → b ≡ four
+  bits-01 e = sym (pick-no _ _ _ (ne-eqb (w % 4) 0 (λ q. omega (arith, q, e))) ∙ pick-yes _ _ _ (eq-eqb _ _ e))
+
+  pub bits-10 : w % 4 ≡ 2 → c ≡ four
+  bits-10 e =
       sym (pick-no _ _ _ (ne-eqb (w % 4) 0 (λ q. omega (arith, q, e)))
       ∙ pick-no _ _ _ (ne-eqb (w % 4) 1 (λ q. omega (arith, q, e)))
       ∙ pick-yes _ _ _ (eq-eqb _ _ e))
 
-  pub second-small : w % 4 ≡ 2 → Found.Page (pageOf Kind.Small w) ≡ secondOf Table.Coarse w
+  pub bits-11 : (w % 4 ≡ 0 → ⊥) → (w % 4 ≡ 1 → ⊥) → (w % 4 ≡ 2 → ⊥) → d ≡ four
+  bits-11 x y z = sym (pick-no _ _ _ (ne-eqb _ _ x) ∙ pick-no _ _ _ (ne-eqb _ _ y) ∙ pick-no _ _ _ (ne-eqb _ _ z))
+
+-- in a coarse table a word that is neither large nor small is no page
+pub coarse-none : (w : ℕ) → (w % 4 ≡ 1 → ⊥) → (w % 4 ≡ 2 → ⊥) → Found.NoPage ≡ secondOf Table.Coarse w
+unfolding secondOf
+coarse-none w x y =
+    pick-by (λ (f : Found). Found.NoPage ≡ f) _ _ _ (λ _. refl)
+    (λ _. sym (pick-no _ _ _ (ne-eqb _ _ x) ∙ pick-no _ _ _ (ne-eqb _ _ y)))
+
+word-bits : (t : Table) → wordBits t ≤ 12
+word-bits Table.Coarse = lit≤ tt
+word-bits Table.Fine = lit≤ tt
+
+-- what holds of no page, and of the page of each kind that a word may say in a table, holds of what it says
+module _ (P : Found → Type 0) (w : ℕ) (none : P Found.NoPage) where
+  abbrev Pages : Table → Type 0
+  Pages t = (k : Kind) → wordBits t ≤ lowBits k → w % 4 ≡ typeOf k → P (Found.Page (pageOf k w))
+
+  tiny-by : (t : Table) → Pages t → w % 4 ≡ 3 → P (tinyIn t w)
+  tiny-by Table.Coarse page e = none
+  tiny-by Table.Fine page e = page Kind.Tiny (lit≤ tt) e
+
+  pub second-by : (t : Table) → Pages t → P (secondOf t w)
   unfolding secondOf
-  second-small e = sym (pick-no _ _ _ (ne-eqb (w % 4) 1 (λ q. omega (arith, q, e))) ∙ pick-yes _ _ _ (eq-eqb _ _ e))
+  second-by t page =
+      pick-by P _ _ _ (λ _. none)
+      (λ x. pick-by P _ _ _ (λ y. page Kind.Large (omega (arith, word-bits t)) (eqb-true _ _ y))
+      (λ y. pick-by P _ _ _ (λ z. page Kind.Small (word-bits t) (eqb-true _ _ z))
+      (λ z. tiny-by t page (omega (arith, eqb-false (w % 4) 0 x, eqb-false (w % 4) 1 y, eqb-false (w % 4) 2 z)))))
+
+-- a page has at least the addresses of a word of its table, and the word says its kind by its two lowest bits
+abbrev Says : Table → ℕ → Found → Type 0
+Says t w (Found.Page p) = (wordBits t ≤ lowBits (p .kind)) × (w % 4 ≡ typeOf (p .kind))
+Says t w Found.NoPage = Unit
+Says t w Found.Missing = Unit
+
+pub second-says : (t : Table) (w : ℕ) (p : Page) → secondOf t w ≡ Found.Page p → (wordBits t ≤ lowBits (p .kind)) × (w % 4 ≡ typeOf (p .kind))
+second-says t w p e = subst (Says t w) e (second-by (Says t w) w tt t (λ k h e. (h, e)))
 
 -- a first-level word's table ends below 2^32
 pub room : (w : ℕ) → w < 2 ^ 32 → Room (firstOf w)
@@ -48,11 +89,7 @@ first-proper w =
     (λ _. pick-by ProperFirst _ _ _ (λ _. section-proper w) (λ _. tt)))
 
 pub second-proper : (t : Table) (w : ℕ) → Proper (secondOf t w)
-unfolding secondOf
-second-proper Table.Coarse w =
-    pick-by Proper _ _ _ (λ _. page-proper Kind.Large w)
-    (λ _. pick-by Proper _ _ _ (λ _. page-proper Kind.Small w) (λ _. tt))
-second-proper Table.Fine w = pick-by Proper _ _ _ (λ _. page-proper Kind.Tiny w) (λ _. tt)
+second-proper t w = second-by Proper w tt t (λ k _ _. page-proper k w)
 
 -- a physical address has the address's lower bits and the page's upper ones, at every page size
 module _ (p : Page) (va : VirtualAddress) where
@@ -64,8 +101,4 @@ module _ (p : Page) (va : VirtualAddress) where
 
 -- a second-level word is not missing
 pub second-there : (t : Table) (w : ℕ) → false ≡ isMissing (secondOf t w)
-unfolding secondOf
-second-there Table.Coarse w =
-    pick-by (λ (f : Found). false ≡ isMissing f) _ _ _ (λ _. refl)
-    (λ _. pick-by (λ (f : Found). false ≡ isMissing f) _ _ _ (λ _. refl) (λ _. refl))
-second-there Table.Fine w = pick-by (λ (f : Found). false ≡ isMissing f) _ _ _ (λ _. refl) (λ _. refl)
+second-there t w = second-by (λ (f : Found). false ≡ isMissing f) w refl t (λ _ _ _. refl)

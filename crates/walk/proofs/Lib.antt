@@ -4,3 +4,4 @@ pub mod Walks
 pub mod Words
 pub mod Difference
 pub mod Laws
+pub mod Repeats

@@ -17,11 +17,17 @@ firstOf w =
 abbrev pub pageOf : Kind → ℕ → Page
 pageOf k w = record { kind = k; frame = physical (upper (lowBits k) w); access = w / 2 ^ 4 % 4 }
 
--- a second-level word, by bits 1:0: a coarse table has large (01) and small (10) pages, a fine one tiny (11), all else is no page
+-- a tiny word: a page in a fine table, none in a coarse one
+abbrev pub tinyIn : Table → ℕ → Found
+tinyIn Table.Coarse w = Found.NoPage
+tinyIn Table.Fine w = Found.Page (pageOf Kind.Tiny w)
+
+-- a second-level word, by bits 1:0: fault, large page, small page, tiny page (02, P3: in a fine table too)
 unfoldable pub secondOf : Table → ℕ → Found
-secondOf Table.Coarse w =
-    pick (eqb (w % 4) 1) (Found.Page (pageOf Kind.Large w)) (pick (eqb (w % 4) 2) (Found.Page (pageOf Kind.Small w)) Found.NoPage)
-secondOf Table.Fine w = pick (eqb (w % 4) 3) (Found.Page (pageOf Kind.Tiny w)) Found.NoPage
+secondOf t w =
+    pick (eqb (w % 4) 0) Found.NoPage
+    (pick (eqb (w % 4) 1) (Found.Page (pageOf Kind.Large w))
+    (pick (eqb (w % 4) 2) (Found.Page (pageOf Kind.Small w)) (tinyIn t w)))
 
 -- a page's upper bits and an address's lower ones
 abbrev pub physicalOf : Page → VirtualAddress → PhysicalAddress

@@ -5,7 +5,7 @@ unfoldable pub use Rattle.memory.specs.Memory.{placeIn, placeWithin}
 pub use Rattle.memory.specs.declared.Place.{Place}
 pub use Rattle.memory.specs.declared.Reads.{Reads}
 pub use Rattle.memory.specs.declared.Source.{Source}
-pub use Rattle.page.specs.Ground.{Bool, _%_, _*_, _+_, _/_, _<_, _^_, _≡_, eqb, false, true, ℕ}
+pub use Rattle.page.specs.Ground.{Bool, _%_, _*_, _+_, _-_, _/_, _<_, _^_, _≡_, eqb, false, true, ℕ}
 unfoldable pub use Rattle.page.specs.Low.{joined, upper}
 unfoldable pub use Rattle.page.specs.Pick.{pick}
 pub use Rattle.page.specs.Words.{lowBits, megabytes, physical}

@@ -61,7 +61,7 @@ fn page_of(kind: Kind, w: u32) -> Page
     }
 }
 
-// What a second-level word says.
+// What a second-level word says: a coarse table has no tiny page.
 pub fn decode_second(table: Table, w: u32) -> Found
     ensures { λ r. ⌜ r ≡ secondOf table w ⌝ }
 {
@@ -72,8 +72,10 @@ pub fn decode_second(table: Table, w: u32) -> Found
             _ => return Found::NoPage,
         },
         Table::Fine => match w % 4 {
-            3 => return Found::Page(page_of(Kind::Tiny, w)),
-            _ => return Found::NoPage,
+            0 => return Found::NoPage,
+            1 => return Found::Page(page_of(Kind::Large, w)),
+            2 => return Found::Page(page_of(Kind::Small, w)),
+            _ => return Found::Page(page_of(Kind::Tiny, w)),
         },
     }
 }

@@ -4,7 +4,6 @@ use Rattle.wire.proofs.Names.{refl, sym, ap, ap₂, _∙_, append-assoc
 use Rattle.wire.proofs.Names.{length-take-le, le-leb, pick-yes, wordBytes, bytesOf, placed, wordsPut, spliced, runPut}
 use Rattle.wire.proofs.Placing.{written-fits}
 use mathlib.Core.List.{append-nil}
-use native.Mathlib.Nat.{mul-assoc, mul-comm, add-mul}
 use native.Mathlib.Numerals.{add-two, add-three}
 use lib.ListN.{set, List·getD-append}
 use lib.Seq.{sets-eq, getD-append-add, getD-take, getD-drop, ext-getD}
@@ -182,20 +181,6 @@ low-bytes x q =
 pub rest-bytes : (x : ℕ) → wordBytes (x % 4294967296) ≡ wordBytes x
 rest-bytes x = sym (low-bytes (x % 4294967296) (x / 4294967296)) ∙ ap wordBytes (let e : x % 4294967296 + 4294967296 * (x / 4294967296) ≡ x = omega arith in e)
 
--- so it is made of low 32 bits alone
-pub rise-bytes : (w d y : ℕ) → wordBytes (w % 4294967296 + d % 4294967296 * (y % 4294967296)) ≡ wordBytes (w + d * y)
-rise-bytes w d y =
-    let r : ℕ = d % 4294967296 in
-    let s : ℕ = y % 4294967296 in
-    let e : ℕ = d / 4294967296 in
-    let z : ℕ = y / 4294967296 in
-    let a : d * y ≡ r * y + 4294967296 * (e * y) =
-    ap (λ (k : ℕ). k * y) (let i : d ≡ r + 4294967296 * e = omega arith in i) ∙ add-mul r (4294967296 * e) y ∙ ap (λ (k : ℕ). r * y + k) (mul-assoc 4294967296 e y) in
-    let b : y * r ≡ s * r + 4294967296 * (z * r) =
-    ap (λ (k : ℕ). k * r) (let i : y ≡ s + 4294967296 * z = omega arith in i) ∙ add-mul s (4294967296 * z) r ∙ ap (λ (k : ℕ). s * r + k) (mul-assoc 4294967296 z r) in
-    sym (low-bytes (w % 4294967296 + r * s) (w / 4294967296 + e * y + z * r))
-    ∙ ap wordBytes (let i : w % 4294967296 + r * s + 4294967296 * (w / 4294967296 + e * y + z * r) ≡ w + d * y = omega (arith, mul-comm y r, mul-comm s r) in i)
-
 one-word : (l : List ℕ) (at w v : ℕ) → wordBytes w ≡ wordBytes v → placed l at (w ∷ []) ≡ spliced l at (λ (_ : ℕ). v) 1
 unfolding placed bytesOf spliced bytesBy
 one-word l at w v e = ap (λ (b : List ℕ). take at l ++ (b ++ drop (at + 4) l)) e
@@ -206,13 +191,9 @@ pub one-more : (l m n : List ℕ) (a k w : ℕ) (h : ℕ → ℕ) → a + 4 * (k
 one-more l m n a k w h fits e p q = q ∙ ap (λ (o : List ℕ). placed o (a + 4 * k) (w ∷ [])) p ∙ one-word (spliced l a h k) (a + 4 * k) w (h k) e ∙ spliced-more l a k (h k) h fits refl
 
 -- words that have room
-pub run-fits : (l : List ℕ) (at n w d : ℕ) → at + 4 * n ≤ length l → runPut l at n w d ≡ spliced l at (λ (y : ℕ). w + d * y) n
+pub run-fits : (l : List ℕ) (at n w : ℕ) → at + 4 * n ≤ length l → runPut l at n w ≡ spliced l at (λ (_ : ℕ). w) n
 unfolding runPut
-run-fits l at n w d h = pick-yes _ _ _ (le-leb _ _ h)
-
--- words that do not rise are alike
-pub run-level : (l : List ℕ) (at n w : ℕ) → at + 4 * n ≤ length l → spliced l at (λ (y : ℕ). w + 0 * y) n ≡ spliced l at (λ (_ : ℕ). w) n
-run-level l at n w h = spliced-same l at n (λ (y : ℕ). w + 0 * y) (λ (_ : ℕ). w) h (λ j c. omega arith)
+run-fits l at n w h = pick-yes _ _ _ (le-leb _ _ h)
 
 -- words of a list, that are those of f
 list-bytes : (f : ℕ → ℕ) (k : ℕ) (ws : List ℕ) → ((j : ℕ) → j < length ws → wordBytes (getD ws j 0) ≡ wordBytes (f (k + j))) → bytesBy f k ++ bytesOf ws ≡ bytesBy f (k + length ws)

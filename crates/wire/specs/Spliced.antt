@@ -11,6 +11,6 @@ bytesBy f (suc k) = bytesBy f k ++ wordBytes (f k)
 unfoldable pub spliced : List ℕ → ℕ → (ℕ → ℕ) → ℕ → List ℕ
 spliced l at f k = take at l ++ (bytesBy f k ++ drop (at + 4 * k) l)
 
--- n numbers that rise by d from w on, as words in a memory where there is room for them, nothing where there is not
-unfoldable pub runPut : List ℕ → ℕ → ℕ → ℕ → ℕ → List ℕ
-runPut l at n w d = pick (leb (at + 4 * n) (length l)) (spliced l at (λ (y : ℕ). w + d * y) n) l
+-- a word n times over in a memory where there is room for it, nothing where there is not
+unfoldable pub runPut : List ℕ → ℕ → ℕ → ℕ → List ℕ
+runPut l at n w = pick (leb (at + 4 * n) (length l)) (spliced l at (λ (_ : ℕ). w) n) l

@@ -45,8 +45,8 @@ pub fn room(len: usize, at: usize, n: usize) -> bool
     n <= (len - at) / 4
 }
 
-// The low 32 bits of a number, at an offset.
-fn put_word(out: &mut [u8], at: usize, w: u64)
+// A word, at an offset.
+fn put_word(out: &mut [u8], at: usize, w: u32)
     requires { ⌜ at + 4 ≤ length (now out) ⌝ }
     ensures { λ _. ⌜ now (out .exit) ≡ placed (now (out .entry)) at (w ∷ []) ⌝ }
 {
@@ -64,7 +64,7 @@ fn put_all(out: &mut [u8], at: usize, words: &[u32])
     let n = words.len();
     let mut i: usize = 0;
     while i < n {
-        put_word(out, at + 4 * i, words[i] as u64);
+        put_word(out, at + 4 * i, words[i]);
         i += 1;
     }
 }
@@ -78,28 +78,24 @@ pub fn put(out: &mut [u8], at: usize, words: &[u32])
     }
 }
 
-// Words that rise by a step and have room, from an offset on: the low 32 bits of each number.
-fn put_rise(out: &mut [u8], at: usize, n: usize, w: u64, d: u64)
+// A word that has room a number of times over, from an offset on.
+fn put_equal(out: &mut [u8], at: usize, n: usize, w: u32)
     requires { ⌜ at + 4 * n ≤ length (now out) ⌝ }
-    ensures { λ _. ⌜ now (out .exit) ≡ spliced (now (out .entry)) at (λ (y : ℕ). w + d * y) n ⌝ }
+    ensures { λ _. ⌜ now (out .exit) ≡ spliced (now (out .entry)) at (λ (_ : ℕ). w) n ⌝ }
 {
     let mut y: usize = 0;
     while y < n {
-        put_word(
-            out,
-            at + 4 * y,
-            w % 4294967296 + d % 4294967296 * (y as u64 % 4294967296),
-        );
+        put_word(out, at + 4 * y, w);
         y += 1;
     }
 }
 
-// Words that rise by a step, from an offset on, where they have room.
-pub fn put_run(out: &mut [u8], at: usize, n: usize, w: u64, d: u64)
-    ensures { λ _. ⌜ now (out .exit) ≡ runPut (now (out .entry)) at n w d ⌝ }
+// A word a number of times over, from an offset on, where it has room.
+pub fn put_run(out: &mut [u8], at: usize, n: usize, w: u32)
+    ensures { λ _. ⌜ now (out .exit) ≡ runPut (now (out .entry)) at n w ⌝ }
 {
     if room(out.len(), at, n) {
-        put_rise(out, at, n, w, d);
+        put_equal(out, at, n, w);
     }
 }
 

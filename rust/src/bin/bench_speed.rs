@@ -1,6 +1,6 @@
 //! Speed of the proved implementation against the second program, through the
 //! byte boundary, in one process: nx_run on sessions of each sort of call and
-//! nx_build on nine lists. Rounds of the two are interleaved; the table has
+//! nx_build on ten lists. Rounds of the two are interleaved; the table has
 //! medians with their quartiles, and the median of the rounds' own ratios.
 //! Before that the two are seen to write the same bytes.
 //!
@@ -138,6 +138,11 @@ fn lists() -> Vec<(String, usize, Vec<u8>)> {
         let kind = if n.is_multiple_of(16) { 3 } else { 1 };
         record((n / 16) << 20 | (n % 16) << 16, n << 16, kind)
     };
+    // A tiny page, a small one and two large ones by turns, sixteen in each megabyte.
+    let turns = |n: u32| {
+        let kind = [3, 2, 1, 1][n as usize % 4];
+        record((n / 16) << 20 | (n % 16) << 16, n << 16, kind)
+    };
     let of = |count: u32, one: &dyn Fn(u32) -> [u8; 12]| (0..count).flat_map(one).collect();
     vec![
         ("0 records".into(), 2_000, Vec::new()),
@@ -149,6 +154,7 @@ fn lists() -> Vec<(String, usize, Vec<u8>)> {
         ("256 small".into(), 100, of(256, &alike(2, 12, 32))),
         ("256 tiny".into(), 100, of(256, &alike(3, 10, 32))),
         ("225 large in fine tables".into(), 40, of(240, &fine)),
+        ("240 mixed in fine tables".into(), 40, of(240, &turns)),
     ]
 }
 

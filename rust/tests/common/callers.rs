@@ -104,7 +104,8 @@ impl Caller {
             9..=18 => {
                 let address = world.address(dice);
                 plan.push_back(request(dice.below(2) as u8, address));
-                let near = address ^ dice.below(1 << 10);
+                let bits = dice.pick(&[10, 10, 12, 16]);
+                let near = address ^ dice.below(1 << bits);
                 plan.push_back(request(dice.below(2) as u8, near));
             }
             _ => plan.push_back(any_call(dice, world)),

@@ -1,5 +1,6 @@
 //! What a run of the differential tests has seen, counted by name.
 
+use super::lists::{self, Record};
 use super::*;
 use std::collections::BTreeMap;
 use std::fmt::Write as _;
@@ -38,6 +39,70 @@ impl Coverage {
         let short: Vec<_> = names.iter().filter(|name| self.count(name) < least).collect();
         assert!(short.is_empty(), "seen fewer than {least} times: {short:?}");
     }
+}
+
+/// What an accepted list has in one megabyte.
+pub fn see_list(seen: &mut Coverage, list: &[Record]) {
+    let (mixed, full) = lists::mixed_megabytes(list);
+    seen.see_if(mixed > 0, "large, small and tiny pages in a megabyte");
+    seen.see_if(mixed > 1, "large, small and tiny pages in some megabytes");
+    seen.see_if(full > 0, "a full megabyte of large, small and tiny pages");
+    seen.see_if(full > 1, "full megabytes of large, small and tiny pages");
+}
+
+/// What `see_list` must have seen.
+pub const LISTS: [&str; 4] = [
+    "large, small and tiny pages in a megabyte",
+    "large, small and tiny pages in some megabytes",
+    "a full megabyte of large, small and tiny pages",
+    "full megabytes of large, small and tiny pages",
+];
+
+/// The second-level word that a walk ended in, by its address and the first-level
+/// word: its table and type. Where its page has more words than one, also whether
+/// they are equal to it; if not, whether it is alone or which is the first other one.
+pub fn see_word(seen: &mut Coverage, lending: &Lending, first: u32, at: u32) {
+    let (table, small) = if first & 3 == 3 { ("fine", 4) } else { ("coarse", 1) };
+    let fetch = |at| Second.fetch(lending, at) as u32;
+    let own = fetch(at);
+    let (kind, count) =
+        [("fault", 1), ("large", 16 * small), ("small", small), ("tiny", 1)][own as usize & 3];
+    seen.see(format!("{table} table's {kind} word"));
+    if count == 1 {
+        return;
+    }
+    let head = at & !(4 * count - 1);
+    let others: Vec<u32> = (0..count).filter(|n| fetch(head + 4 * n) != own).collect();
+    let part = |n| match n {
+        0 => "at the head",
+        n if n == count - 1 => "at the end",
+        _ => "in the middle",
+    };
+    let how = match others[..] {
+        [] => "as all of its group".into(),
+        _ if others.len() as u32 == count - 1 => format!("alone {}", part((at - head) / 4)),
+        [other, ..] => format!("of a group broken {}", part(other)),
+    };
+    seen.see(format!("{table} table's {kind} word, {how}"));
+}
+
+/// What `see_word` must have seen.
+pub fn words() -> Vec<String> {
+    let mut names = Vec::new();
+    for table in ["coarse", "fine"] {
+        for kind in ["fault", "large", "small", "tiny"] {
+            names.push(format!("{table} table's {kind} word"));
+        }
+    }
+    for word in ["coarse table's large word", "fine table's large word", "fine table's small word"]
+    {
+        names.push(format!("{word}, as all of its group"));
+        for at in ["at the head", "in the middle", "at the end"] {
+            names.push(format!("{word}, alone {at}"));
+            names.push(format!("{word}, of a group broken {at}"));
+        }
+    }
+    names
 }
 
 /// What one call was, seen from its answer and the states around it.

@@ -33,6 +33,12 @@ impl Record {
         Record { virtual_start, physical, kind, access }
     }
 
+    /// The record that these bytes of an accepted list are.
+    fn read(bytes: &[u8]) -> Record {
+        let (virtual_start, physical) = (super::word(bytes, 0), super::word(bytes, 4));
+        Record { virtual_start, physical, kind: bytes[8], access: bytes[9] }
+    }
+
     pub fn bytes(&self) -> [u8; 12] {
         let mut bytes = [0; 12];
         bytes[..4].copy_from_slice(&self.virtual_start.to_le_bytes());
@@ -53,6 +59,26 @@ impl Record {
 
 pub fn bytes(list: &[Record]) -> Vec<u8> {
     list.iter().flat_map(Record::bytes).collect()
+}
+
+/// The records of an accepted list.
+pub fn records(bytes: &[u8]) -> Vec<Record> {
+    bytes.chunks_exact(12).map(Record::read).collect()
+}
+
+/// Of an accepted list: the megabytes that hold large, small and tiny pages, and
+/// how many of these have no gap.
+pub fn mixed_megabytes(list: &[Record]) -> (usize, usize) {
+    let (mut mixed, mut full) = (0, 0);
+    for megabyte in 0..16 {
+        let pages = || list.iter().filter(|record| record.virtual_start >> 20 == megabyte);
+        let has = |kind| pages().any(|record| record.kind == kind);
+        if has(1) && has(2) && has(3) {
+            mixed += 1;
+            full += usize::from(pages().map(Record::size).sum::<u32>() == 1 << 20);
+        }
+    }
+    (mixed, full)
 }
 
 /// List A of the bench sheet.
@@ -169,6 +195,36 @@ pub fn exactly(dice: &mut Dice, count: usize, kinds: &[u8], megabytes: usize) ->
 pub fn full(dice: &mut Dice) -> Vec<Record> {
     let megabytes = 1 + dice.below(16) as usize;
     exactly(dice, MOST_RECORDS, &ALL_KINDS, megabytes)
+}
+
+/// A good list, in any order, of megabytes that hold large, small and tiny pages.
+/// Some of them have no gap.
+pub fn mixed(dice: &mut Dice) -> Vec<Record> {
+    let mut megabytes: Vec<u32> = (0..16).map(|megabyte| megabyte << 20).collect();
+    dice.shuffle(&mut megabytes);
+    let mut list = Vec::new();
+    for &megabyte in &megabytes[..1 + dice.below(8) as usize] {
+        let cut = megabyte | dice.below(1 << 20);
+        let gaps = dice.once_in(2);
+        divide(dice, &mut list, Record::holding(megabyte, 0), cut, gaps);
+    }
+    dice.shuffle(&mut list);
+    list.truncate(MOST_RECORDS);
+    list
+}
+
+/// A page, or smaller ones in its place: tiny ones at an address that it is cut at,
+/// elsewhere now and then. There may be gaps, but not at that address.
+fn divide(dice: &mut Dice, list: &mut Vec<Record>, page: Record, cut: u32, gaps: bool) {
+    let Record { virtual_start, kind, .. } = page;
+    if kind < 3 && (page.holds(cut) || dice.once_in(8)) {
+        let step = SIZES[kind as usize + 1] as usize;
+        for start in (virtual_start..virtual_start + page.size()).step_by(step) {
+            divide(dice, list, Record::holding(start, kind + 1), cut, gaps);
+        }
+    } else if page.holds(cut) || !(gaps && dice.once_in(3)) {
+        list.push(Record::anywhere(dice, virtual_start, kind));
+    }
 }
 
 /// A tiny page in every megabyte: sixteen fine tables.

@@ -5,6 +5,7 @@
 
 pub mod callers;
 pub mod coverage;
+pub mod groups;
 pub mod lists;
 pub mod places;
 pub mod rows;

@@ -1,7 +1,7 @@
 //! Where the word came from (P6): what bytes 4 to 7 of an answer have to say of
 //! a call, seen from what was lent, what came out, and the fetch.
 
-use super::coverage::Coverage;
+use super::coverage::{see_word, Coverage};
 use super::*;
 use second::boundary::{ANSWER, METERS_AT, STATE};
 
@@ -17,14 +17,14 @@ pub struct Told<'a> {
     pub after: &'a [u8],
 }
 
-/// The low bits of the page that a walk found, by its first-level word and its
-/// last one; `None` where that is no page.
-fn page_bits(first: u32, last: u32) -> Option<u32> {
+/// The page that a walk found, by its first-level word and its last one: its type and
+/// how many low bits it has. `None` where that is no page.
+fn page(first: u32, last: u32) -> Option<(u32, u32)> {
     match (first & 3, last & 3) {
-        (2, _) => Some(20),
-        (1, 1) => Some(16),
-        (1, 2) => Some(12),
-        (3, 3) => Some(10),
+        (2, _) => Some((0, 20)),
+        (1 | 3, 1) => Some((1, 16)),
+        (1 | 3, 2) => Some((2, 12)),
+        (3, 3) => Some((3, 10)),
         _ => None,
     }
 }
@@ -81,7 +81,8 @@ impl Told<'_> {
 
     /// A place is said exactly where the call walked; then both programs fetch
     /// a word there, it is the one that the tables lead to, its row is the last
-    /// of its memory, and it says what the answer says.
+    /// of its memory, it says what the answer says, and the slot that was filled is
+    /// of that word's own kind.
     pub fn check(&self, programs: [&dyn Program; 2]) {
         let [program, _] = programs;
         let words = self.words(program);
@@ -120,26 +121,34 @@ impl Told<'_> {
             assert_eq!((words, row), (read, at >> 10), "{}", self.message());
         }
 
-        let bits = page_bits(first, last);
-        let leads_to =
-            |physical: i64| bits.is_some_and(|bits| physical >> bits == i64::from(last >> bits));
+        let page = page(first, last);
+        let access = if read == 1 { last >> 10 & 3 } else { last >> 4 & 3 };
+        let leads_to = |physical: i64| {
+            page.is_some_and(|(_, bits)| {
+                let within = (1 << bits) - 1;
+                physical == i64::from(last & !within | address & within)
+            })
+        };
         let agrees = match number {
             100 => leads_to(value),
             102 => leads_to(value + i64::from(address)),
-            // A prefetch that filled the larger of victim and lock base.
-            0 => {
-                let old = View(self.before);
-                let slot = old.victim().max(old.lock_base());
-                let [_, _, high, low] = View(self.after).slot(slot.into());
-                leads_to(i64::from(high) << 16 | i64::from(low))
-            }
-            23 => {
-                let access = if read == 1 { last >> 10 & 3 } else { last >> 4 & 3 };
-                bits.is_some() && access < 2 + u32::from(View(self.after).pending().1)
-            }
-            _ => bits.is_none(),
+            // A prefetch that filled a slot.
+            0 => page.is_some(),
+            23 => page.is_some() && access < 2 + u32::from(View(self.after).pending().1),
+            _ => page.is_none(),
         };
         assert!(agrees, "{}, where {last:08x} is", self.message());
+        if let (Some((kind, bits)), false) = (page, report) {
+            // Page number, V and type; frame and access.
+            let upper = u32::MAX << bits;
+            let cam = (address & upper) >> 6 | 4 | kind;
+            let ram = last & upper | access << 8;
+            let old = View(self.before);
+            let slot = old.victim().max(old.lock_base());
+            let halves = [cam >> 16, cam & 0xFFFF, ram >> 16, ram & 0xFFFF];
+            let filled = View(self.after).slot(slot.into()).map(u32::from);
+            assert_eq!(filled, halves, "{}, slot {slot}", self.message());
+        }
     }
 
     /// What kind of place was said, or of call without one.
@@ -161,6 +170,11 @@ impl Told<'_> {
             seen.see_if(two && !fault, "place of a page of a table");
             seen.see_if(!two && fault, "place of a fault at the first level");
             seen.see_if(two && fault, "place of a fault at the second level");
+            if two {
+                let base = [0, self.lending.on_base, self.lending.external_base];
+                let at = base[(self.from >> 28) as usize] + (self.from & 0x0FFF_FFFF);
+                see_word(seen, &self.lending, first as u32, at);
+            }
             seen.see_if(number == 23, "place of a permission fault after a walk");
             seen.see_if(request && number == 100, "place of a request's address");
             seen.see_if(request && number != 100, "place of a request's fault");

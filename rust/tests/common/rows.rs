@@ -192,6 +192,55 @@ pub fn large_pages_have_sixteen_words(program: &dyn Program) {
     }
 }
 
+/// In a fine table a large page's word stands sixty-four times and a small one's four
+/// times, and each of them leads to the page (P3); a coarse table's tiny word to none.
+pub fn fine_tables_repeat_words(program: &dyn Program) {
+    let page =
+        |virtual_start, physical, kind, access| Record { virtual_start, physical, kind, access };
+    let list = [
+        page(0x01_0000, 0x1002_0000, 1, 3),
+        page(0x02_0000, 0x1003_1000, 2, 2),
+        page(0x00_0400, 0x1000_0C00, 3, 3),
+    ];
+    let memory = image(program, &list, 65_536);
+    assert_eq!((memory.len(), word(&memory, 0)), (8_192, 0x2000_1003));
+    for n in 0..1_024 {
+        let expected = match n {
+            1 => 0x1000_0C33,
+            64..=127 => 0x1002_0031,
+            128..=131 => 0x1003_1022,
+            _ => 0,
+        };
+        assert_eq!(word(&memory, 0x1000 + 4 * n), expected, "word {n}");
+    }
+    let lending = Lending::plain(&memory, BASE);
+    // Requests and shift reports; the same page's last byte is then a match.
+    let pages = [
+        (1, 0x01_0000, 64, 0x1002_0000, 0x01_FFFF, [0, 0x0405, 0x1002, 0x0300]),
+        (0, 0x02_0000, 4, 0x1003_1000, 0x02_0FFF, [0, 0x0806, 0x1003, 0x1200]),
+    ];
+    for (access, start, count, to, last, slot) in pages {
+        for n in 0..count {
+            let within = n * 0x400 + 0x2AB;
+            let calls = [request(access, start + within), request(access, last), shift(start)];
+            let (got, after) = play(program, &lending, &calls);
+            let (first, second) = (to + i64::from(within), to + i64::from(last - start));
+            let expected = [address(first), address(second), (102, to - i64::from(start))];
+            assert_eq!(got, expected, "word {n} from {start:06x}");
+            assert_eq!(View(&after).slot(0), slot);
+            assert_eq!((1..32).map(|n| View(&after).slot(n)).max(), Some([0; 4]));
+            assert_eq!((View(&after).words(), View(&after).victim()), (2, 1));
+        }
+    }
+    for outside in [0x00_0000, 0x00_0800, 0x00_FFFF, 0x02_1000] {
+        assert_eq!(answers(program, &memory, &[request(0, outside)]), [(21, 0)]);
+    }
+    let mut coarse = image(program, &lists::list_a(), 65_536);
+    put_word(&mut coarse, 0x448, 0x1002_0033);
+    let calls = [request(0, 0x01_2345), drop_fault(), shift(0x01_2345), write(PREFETCH, 0x48)];
+    assert_eq!(answers(program, &coarse, &calls), [(21, 0), (0, 0), (21, 0), (24, 0)]);
+}
+
 /// "Taking section access from bits 5:4."
 pub fn section_access_is_in_11_10(program: &dyn Program) {
     let expected = [[23, 23], [23, 23], [100, 23], [100, 100]];
@@ -318,11 +367,12 @@ pub fn words_come_from(program: &dyn Program) {
 pub type Row = (&'static str, fn(&dyn Program));
 
 /// Every row.
-pub const ROWS: [Row; 10] = [
+pub const ROWS: [Row; 11] = [
     ("bench sheet", bench_sheet),
     ("empty list", empty_list),
     ("flushing by lock base", flush_goes_by_p),
     ("a large page's word once", large_pages_have_sixteen_words),
+    ("pages of a fine table", fine_tables_repeat_words),
     ("section access from 5:4", section_access_is_in_11_10),
     ("a retry metered as fresh", retries_are_not_fresh),
     ("a cached fault", faults_are_not_cached),

@@ -55,10 +55,57 @@ fn descriptor(dice: &mut Dice, types: &[u32]) -> u32 {
     dice.word() & !3 | dice.pick(types)
 }
 
+/// Fills a table, coarse or fine by its size, with pages whose words are repeated,
+/// with words that stand alone, and then breaks some groups of words: at the head, in
+/// the middle, at the end, anywhere. Gives addresses in its megabyte, of what was
+/// broken and of others in the same group.
+fn draw_table(dice: &mut Dice, table: &mut [u8]) -> Vec<u32> {
+    let count = table.len() / 4;
+    let (large, small) = (count / 16, count / 256);
+    let mut words = vec![0; count];
+    for block in words.chunks_mut(large) {
+        if dice.once_in(2) {
+            block.fill(descriptor(dice, &[1]));
+            continue;
+        }
+        for group in block.chunks_mut(small) {
+            match dice.below(6) {
+                0 => {}
+                1 => group.fill_with(|| descriptor(dice, &[3, 3, 0, 1, 2])),
+                _ => group.fill(descriptor(dice, &[2])),
+            }
+        }
+    }
+    let mut hot = Vec::new();
+    for _ in 0..8 + dice.below(24) {
+        let size = dice.pick(&[large, small]) as u32;
+        let head = dice.below(count as u32) & !(size - 1);
+        let within = [0, size / 2, size - 1, dice.below(size)];
+        let broken = head + dice.pick(&within);
+        if !dice.once_in(4) {
+            let word = &mut words[broken as usize];
+            *word = match dice.below(4) {
+                0 => *word ^ 1 << dice.below(32),
+                1 => *word ^ 0x10 << dice.below(2),
+                _ => descriptor(dice, &[0, 1, 1, 2, 2, 3]),
+            };
+        }
+        for n in [broken, head + dice.pick(&within), head + dice.below(size)] {
+            let page = (1 << 20) / count as u32;
+            hot.push(n * page + dice.below(page));
+        }
+    }
+    for (at, word) in words.into_iter().enumerate() {
+        put_word(table, 4 * at, word);
+    }
+    hot
+}
+
 impl World {
     pub fn new(dice: &mut Dice) -> World {
         let mut world = match dice.below(10) {
-            0..=4 => World::built(dice),
+            0..=3 => World::built(dice),
+            4..=6 => World::foreign(dice),
             _ => World::drawn(dice),
         };
         if dice.once_in(2) {
@@ -77,8 +124,12 @@ impl World {
     /// The image of a good list, perhaps with some bits turned, and a few words
     /// in the other memory.
     fn built(dice: &mut Dice) -> World {
-        let most = dice.pick(&[0, 1, 4, 16, 60, 200]);
-        let list = lists::good(dice, most);
+        let list = if dice.once_in(4) {
+            lists::mixed(dice)
+        } else {
+            let most = dice.pick(&[0, 1, 4, 16, 60, 200]);
+            lists::good(dice, most)
+        };
         let bytes = lists::bytes(&list);
         let mut on = vec![0; 131_072];
         let length = boundary::build(&bytes, 0, &mut on) as usize;
@@ -111,6 +162,42 @@ impl World {
             hot.truncate(4 + dice.below(30) as usize);
         }
         World { on, on_base, external, external_base, tables: on_base, hot }
+    }
+
+    /// A first-level table in one memory; in the other coarse and fine tables of pages
+    /// whose words are mostly repeated as they should be, with some groups broken.
+    fn foreign(dice: &mut Dice) -> World {
+        let mut external = vec![0; 4_096 * (1 + dice.below(3)) as usize];
+        let external_base = any_base(dice, external.len(), 4_096);
+        let mut on = vec![0; 256];
+        let on_base = base_beside(dice, external_base, external.len(), on.len());
+        let tables = on_base.next_multiple_of(128);
+        // A fine table or four coarse ones in each 4,096 bytes: a word that points at
+        // each, and addresses in its megabyte.
+        let mut pointers: Vec<(u32, Vec<u32>)> = Vec::new();
+        for at in (0..external.len()).step_by(4_096) {
+            let (size, bits) = dice.pick(&[(4_096, 3), (1_024, 1)]);
+            for at in (at..at + 4_096).step_by(size) {
+                let hot = draw_table(dice, &mut external[at..at + size]);
+                pointers.push(((external_base + at as u32) | bits, hot));
+            }
+        }
+        let mut hot = Vec::new();
+        for megabyte in 0..16 {
+            let n = dice.below(pointers.len() as u32) as usize;
+            let (mut word, within) = &pointers[n];
+            match dice.below(12) {
+                0 => word = descriptor(dice, &[0, 2]),
+                // Taken for a table of the other kind.
+                1 => word ^= 2,
+                _ => hot.extend(within.iter().map(|within| megabyte << 20 | within)),
+            }
+            put_word(&mut on, (tables - on_base + 4 * megabyte) as usize, word);
+        }
+        hot.push(0);
+        dice.shuffle(&mut hot);
+        hot.truncate(8 + dice.below(80) as usize);
+        World { on, on_base, external, external_base, tables, hot }
     }
 
     /// Words from nowhere, with a first-level table that mostly points into the

@@ -25,9 +25,6 @@ mul-put-word-2 c = omega arith
 shared-slice-read-put-word : tie.Need-shared-slice-read-put-word Inv-loop μ-loop
 shared-slice-read-put-word c = omega arith
 
-cast-put-word : tie.Need-cast-put-word Inv-loop μ-loop
-cast-put-word c = record { fits = omega (arith, c .shared-slice-known2 .given (c .before .before .before .loop .i)) }
-
 put-word-requires : tie.Need-put-word-requires Inv-loop μ-loop
 put-word-requires c κs = omega arith
 
@@ -67,7 +64,6 @@ put-all-spec =
     add-put-word
     mul-put-word-2
     shared-slice-read-put-word
-    cast-put-word
     put-word-requires
     add-i
     loop-less

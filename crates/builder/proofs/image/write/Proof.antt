@@ -36,15 +36,15 @@ returns-2 c known =
     let e = c .before .before .place .ensures .ends ms known in
     (e, sym (written-short ms (a .base) (a .out .now) (omega (arith, c .if2 .taken))))
 
-write-zeros-requires : tie.Need-write-zeros-requires
-write-zeros-requires c κs = search needs
+write-run-requires : tie.Need-write-run-requires
+write-run-requires c κs = search needs
 
 slice-aggregate-write-first : tie.Need-slice-aggregate-write-first
 slice-aggregate-write-first c = search needs
 
 write-first-requires : tie.Need-write-first-requires
 write-first-requires c κs =
-    let zeros = c .before .before .before .before .write-zeros in
+    let zeros = c .before .before .before .before .write-run in
     let room = c .before .before .before .before .before .before .if2 .left in
     level-more _ _ _ (omega (arith, zeros .kept .0)) (c .before .before .before .before .before .before .before .before .place .ensures .level)
 
@@ -58,7 +58,7 @@ write-mappings-requires c κs =
     let s11 = s9 .before .before in
     let s13 = s11 .before .before in
     let first = s4 .write-first in
-    let zeros = s9 .write-zeros in
+    let zeros = s9 .write-run in
     let room = s11 .if2 .left in
     level-more _ _ _ (omega (arith, zeros .kept .0, first .kept .1 .1 .0)) (s13 .place .ensures .level)
 
@@ -71,7 +71,7 @@ returns-3 c known =
     let ms = mappings (a .records .now) in
     let q = c .before .before .before .before .before .before .before .before .before .before .before .before .before .before .before .before .place in
     let p = q .ensures in
-    let z = c .before .before .before .before .before .before .before .before .before .before .before .before .write-zeros in
+    let z = c .before .before .before .before .before .before .before .before .before .before .before .before .write-run in
     let f = c .before .before .before .before .before .before .before .write-first in
     let e = p .ends ms known in
     let fits = c .before .before .before .before .before .before .before .before .before .before .before .before .before .before .if2 .left in
@@ -97,7 +97,7 @@ write-spec =
     place-requires
     cast-len
     returns-2
-    write-zeros-requires
+    write-run-requires
     slice-aggregate-write-first
     write-first-requires
     slice-aggregate-write-mappings

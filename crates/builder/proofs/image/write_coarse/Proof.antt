@@ -1,6 +1,6 @@
 use Rattle.builder.specs.Names.{Second}
-use Rattle.builder.proofs.Names.{refl, now, arith, Kind, needs}
-use Rattle.builder.proofs.Runs.{own-count, coarse-turn}
+use Rattle.builder.proofs.Names.{refl, arith, Kind, needs}
+use Rattle.builder.proofs.Runs.{own-count, page-turn}
 use Rattle.builder.proofs.image.write_coarse.Statement.{statement}
 use Rattle.builder.proofs.image.write_coarse.Tie as tie
 
@@ -16,65 +16,38 @@ mul-o c = search needs
 add-o : tie.Need-add-o
 add-o c = search needs
 
-page-start-requires : tie.Need-page-start-requires
-page-start-requires c κs = search needs
-
-cast-w : tie.Need-cast-w
-cast-w c = search needs
-
-cast-w-2 : tie.Need-cast-w-2
-cast-w-2 c = search needs
-
-mul-w : tie.Need-mul-w
-mul-w c = search needs
-
-add-w : tie.Need-add-w
-add-w c = search needs
+page-word-requires : tie.Need-page-word-requires
+page-word-requires c κs = search needs
 
 enum-told : tie.Need-enum-told
 enum-told c = search needs
 
-add-write-run : tie.Need-add-write-run
-add-write-run c = search needs
-
 write-run-requires : tie.Need-write-run-requires
 write-run-requires c κs =
-    let word-in = c .before .before .before .before .before .word-in in
-    let pre = c .before .before .before .before .before .before .before .before .pre in
-    let args = c .before .before .before .before .before .before .before .before .args in
-    omega (arith, word-in .ensures, pre, own-count (args .m) Kind.Section (c .before .enum-told .given .1) (args .out .now) 0 0 0 Second.Coarse)
+    let s4 = c .before .before .before .before in
+    let s6 = s4 .before .before in
+    omega (arith, s4 .word-in .ensures, s6 .pre, own-count Second.Coarse (s6 .args .m) Kind.Section (c .before .enum-told .given .1))
 
 enum-told-2 : tie.Need-enum-told-2
 enum-told-2 c = search needs
 
-add-write-run-2 : tie.Need-add-write-run-2
-add-write-run-2 c = search needs
-
 write-run-requires-2 : tie.Need-write-run-requires-2
 write-run-requires-2 c κs =
-    let word-in = c .before .before .before .before .before .word-in in
-    let pre = c .before .before .before .before .before .before .before .before .pre in
-    let args = c .before .before .before .before .before .before .before .before .args in
-    omega (arith, word-in .ensures, pre, own-count (args .m) Kind.Large (c .before .enum-told2 .given .1) (args .out .now) 0 0 0 Second.Coarse)
+    let s4 = c .before .before .before .before in
+    let s6 = s4 .before .before in
+    omega (arith, s4 .word-in .ensures, s6 .pre, own-count Second.Coarse (s6 .args .m) Kind.Large (c .before .enum-told2 .given .1))
 
 enum-told-3 : tie.Need-enum-told-3
 enum-told-3 c = search needs
 
-add-write-run-3 : tie.Need-add-write-run-3
-add-write-run-3 c = search needs
-
 write-run-requires-3 : tie.Need-write-run-requires-3
 write-run-requires-3 c κs =
-    let word-in = c .before .before .before .before .before .word-in in
-    let pre = c .before .before .before .before .before .before .before .before .pre in
-    let args = c .before .before .before .before .before .before .before .before .args in
-    omega (arith, word-in .ensures, pre, own-count (args .m) Kind.Small (c .before .enum-told3 .given .1) (args .out .now) 0 0 0 Second.Coarse)
+    let s4 = c .before .before .before .before in
+    let s6 = s4 .before .before in
+    omega (arith, s4 .word-in .ensures, s6 .pre, own-count Second.Coarse (s6 .args .m) Kind.Small (c .before .enum-told3 .given .1))
 
 enum-told-4 : tie.Need-enum-told-4
 enum-told-4 c = search needs
-
-add-write-run-4 : tie.Need-add-write-run-4
-add-write-run-4 c = search needs
 
 write-run-requires-4 : tie.Need-write-run-requires-4
 write-run-requires-4 c κs = search needs
@@ -84,56 +57,40 @@ same-length c = search needs
 
 returns : tie.Need-returns
 returns c =
-    let write-run = c .before .before .write-run in
-    let enum-told = c .before .before .before .before .enum-told in
-    let page-start = c .before .before .before .before .before .before .before .page-start in
-    let word-in = c .before .before .before .before .before .before .before .before .word-in in
-    let args = c .before .before .before .before .before .before .before .before .before .before .before .args in
-    let pre = c .before .before .before .before .before .before .before .before .before .before .before .pre in
-    coarse-turn (args .m) Kind.Section (enum-told .given .1) (args .out .now) _ (args .at) (word-in .result) (page-start .result) 256 (word-in .ensures) (page-start .ensures) refl pre
-    (write-run .ensures)
+    let s4 = c .before .before .before .before in
+    let s7 = s4 .before .before .before in
+    let args = s7 .before .before .args in
+    page-turn Second.Coarse (args .m) Kind.Section (s4 .enum-told .given .1) (args .out .now) _ (args .at) (s7 .word-in .result) _ 256 (s7 .word-in .ensures) (s4 .before .before .page-word .ensures) refl (c .before .before .write-run .ensures)
 
 same-length-2 : tie.Need-same-length-2
 same-length-2 c = search needs
 
 returns-2 : tie.Need-returns-2
 returns-2 c =
-    let write-run2 = c .before .before .write-run2 in
-    let enum-told2 = c .before .before .before .before .enum-told2 in
-    let page-start = c .before .before .before .before .before .before .before .page-start in
-    let word-in = c .before .before .before .before .before .before .before .before .word-in in
-    let args = c .before .before .before .before .before .before .before .before .before .before .before .args in
-    let pre = c .before .before .before .before .before .before .before .before .before .before .before .pre in
-    coarse-turn (args .m) Kind.Large (enum-told2 .given .1) (args .out .now) _ (args .at) (word-in .result) (page-start .result) 16 (word-in .ensures) (page-start .ensures) refl pre
-    (write-run2 .ensures)
+    let s4 = c .before .before .before .before in
+    let s7 = s4 .before .before .before in
+    let args = s7 .before .before .args in
+    page-turn Second.Coarse (args .m) Kind.Large (s4 .enum-told2 .given .1) (args .out .now) _ (args .at) (s7 .word-in .result) _ 16 (s7 .word-in .ensures) (s4 .before .before .page-word .ensures) refl (c .before .before .write-run2 .ensures)
 
 same-length-3 : tie.Need-same-length-3
 same-length-3 c = search needs
 
 returns-3 : tie.Need-returns-3
 returns-3 c =
-    let write-run3 = c .before .before .write-run3 in
-    let enum-told3 = c .before .before .before .before .enum-told3 in
-    let page-start = c .before .before .before .before .before .before .before .page-start in
-    let word-in = c .before .before .before .before .before .before .before .before .word-in in
-    let args = c .before .before .before .before .before .before .before .before .before .before .before .args in
-    let pre = c .before .before .before .before .before .before .before .before .before .before .before .pre in
-    coarse-turn (args .m) Kind.Small (enum-told3 .given .1) (args .out .now) _ (args .at) (word-in .result) (page-start .result) 1 (word-in .ensures) (page-start .ensures) refl pre
-    (write-run3 .ensures)
+    let s4 = c .before .before .before .before in
+    let s7 = s4 .before .before .before in
+    let args = s7 .before .before .args in
+    page-turn Second.Coarse (args .m) Kind.Small (s4 .enum-told3 .given .1) (args .out .now) _ (args .at) (s7 .word-in .result) _ 1 (s7 .word-in .ensures) (s4 .before .before .page-word .ensures) refl (c .before .before .write-run3 .ensures)
 
 same-length-4 : tie.Need-same-length-4
 same-length-4 c = search needs
 
 returns-4 : tie.Need-returns-4
 returns-4 c =
-    let write-run4 = c .before .before .write-run4 in
-    let enum-told4 = c .before .before .before .before .enum-told4 in
-    let page-start = c .before .before .before .before .before .before .before .page-start in
-    let word-in = c .before .before .before .before .before .before .before .before .word-in in
-    let args = c .before .before .before .before .before .before .before .before .before .before .before .args in
-    let pre = c .before .before .before .before .before .before .before .before .before .before .before .pre in
-    coarse-turn (args .m) Kind.Tiny (enum-told4 .given .1) (args .out .now) _ (args .at) (word-in .result) (page-start .result) 0 (word-in .ensures) (page-start .ensures) refl pre
-    (write-run4 .ensures)
+    let s4 = c .before .before .before .before in
+    let s7 = s4 .before .before .before in
+    let args = s7 .before .before .args in
+    page-turn Second.Coarse (args .m) Kind.Tiny (s4 .enum-told4 .given .1) (args .out .now) _ (args .at) (s7 .word-in .result) _ 0 (s7 .word-in .ensures) (s4 .before .before .page-word .ensures) refl (c .before .before .write-run4 .ensures)
 
 pub write-coarse-spec : {M : Type 1} → statement M
 write-coarse-spec =
@@ -143,22 +100,14 @@ write-coarse-spec =
     cast-o
     mul-o
     add-o
-    page-start-requires
-    cast-w
-    cast-w-2
-    mul-w
-    add-w
+    page-word-requires
     enum-told
-    add-write-run
     write-run-requires
     enum-told-2
-    add-write-run-2
     write-run-requires-2
     enum-told-3
-    add-write-run-3
     write-run-requires-3
     enum-told-4
-    add-write-run-4
     write-run-requires-4
     same-length
     returns

@@ -1,5 +1,5 @@
 use Rattle.builder.specs.Names.{_/_, _^_, megabytes, mappings, Second, tableOf, tableStart}
-use Rattle.builder.proofs.Names.{refl, _∙_, arith, needs, run-level}
+use Rattle.builder.proofs.Names.{refl, arith, needs}
 use Rattle.builder.proofs.Levels.{start-even, names-fine, names-coarse, names-none, fine-room, coarse-room}
 use Rattle.builder.proofs.Parts.{mapping-past, mapping-section, mapping-page}
 use Rattle.builder.proofs.image.write_mapping.Statement.{statement}
@@ -79,11 +79,8 @@ cast-write-run c = search needs
 mul-write-run : tie.Need-mul-write-run
 mul-write-run c = search needs
 
-section-of-requires : tie.Need-section-of-requires
-section-of-requires c κs = search needs
-
-cast-write-run-2 : tie.Need-cast-write-run-2
-cast-write-run-2 c = search needs
+section-word-requires : tie.Need-section-word-requires
+section-word-requires c κs = search needs
 
 write-run-requires : tie.Need-write-run-requires
 write-run-requires c κs = search needs
@@ -107,8 +104,8 @@ returns-4 c known room =
     let mb = m .result .at .0 / 2 ^ 20 in
     mapping-section ms (a .args .j) (m .result) (m .ensures) (a .pre .1) (a .args .out .now) room mb lt refl Second.Absent
     (names-none (tableOf ms mb) (tableStart megabytes ms mb) _ (start-even ms mb) (known mb lt) (s6 .if2 .left) (s5 .if3 .left))
-    (s3 .section-of .result) (s2 .write-run .last .0) (s3 .section-of .ensures) refl
-    (s2 .write-run .ensures ∙ run-level _ _ _ _ (omega (arith, a .pre .0 .room)))
+    (s3 .section-word .result) (s2 .write-run .last .0) (s3 .section-word .ensures) refl
+    (s2 .write-run .ensures)
 
 pub write-mapping-spec : {M : Type 1} → statement M
 write-mapping-spec =
@@ -130,8 +127,7 @@ write-mapping-spec =
     returns-3
     cast-write-run
     mul-write-run
-    section-of-requires
-    cast-write-run-2
+    section-word-requires
     write-run-requires
     same-length-3
     returns-4)

@@ -10,7 +10,7 @@ same-length : tie.Need-same-length
 same-length c = search needs
 
 returns : tie.Need-returns
-returns c = c .before .before .put-run .ensures ∙ run-fits _ _ _ _ _ (c .before .before .before .before .before .pre)
+returns c = c .before .before .put-run .ensures ∙ run-fits _ _ _ _ (c .before .before .before .before .before .pre)
 
 pub write-run-spec : {M : Type 1} → statement M
 write-run-spec = tie.close (tie.spec put-run-requires same-length returns)

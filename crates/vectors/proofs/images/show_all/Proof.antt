@@ -3,10 +3,10 @@ use Rattle.vectors.proofs.images.show_all.Statement.{statement}
 use Rattle.vectors.proofs.images.show_all.Tie as tie
 
 abbrev Inv-loop : tie.InvT-loop
-Inv-loop m₀ i₀ m i = i ≤ 55
+Inv-loop m₀ i₀ m i = i ≤ 59
 
 abbrev μ-loop : tie.MeasureT-loop
-μ-loop m₀ i₀ m i = 55 - i
+μ-loop m₀ i₀ m i = 59 - i
 
 loop-holds : tie.Need-loop-holds Inv-loop μ-loop
 loop-holds c = search needs

@@ -1,7 +1,7 @@
 use Rattle.tables.specs.Names.{upper}
 use Rattle.tables.proofs.Names.{arith, needs}
-use Rattle.tables.proofs.words.section_of.Statement.{statement}
-use Rattle.tables.proofs.words.section_of.Tie as tie
+use Rattle.tables.proofs.words.section_word.Statement.{statement}
+use Rattle.tables.proofs.words.section_word.Tie as tie
 
 page-start-requires : tie.Need-page-start-requires
 page-start-requires c κs = search needs
@@ -20,6 +20,6 @@ add-result-2 c = omega (arith, c .before .page-start .ensures)
 returns : tie.Need-returns
 returns c = search needs
 
-pub section-of-spec : {M : Type 1} → statement M
-section-of-spec =
+pub section-word-spec : {M : Type 1} → statement M
+section-word-spec =
     tie.close (tie.spec page-start-requires mul-result add-result add-result-2 returns)
