@@ -5,6 +5,8 @@ mod cli;
 mod columns;
 mod convert;
 mod files;
+mod grid;
+mod labels;
 mod list;
 mod map;
 mod parse;

@@ -1,7 +1,7 @@
 use Rattle.nx.proofs.Names.{_-_, needs}
 use Prim.Native.Nat.{_≤_}
-use Rattle.nx.proofs.map.labels.Statement.{statement}
-use Rattle.nx.proofs.map.labels.Tie as tie
+use Rattle.nx.proofs.labels.all.Statement.{statement}
+use Rattle.nx.proofs.labels.all.Tie as tie
 
 abbrev Inv-loop : tie.InvT-loop
 Inv-loop records t lines n ok₀ from₀ lanes₀ k₀ ok from lanes k = k ≤ n
@@ -42,8 +42,8 @@ loop-again c = search needs
 returns-2 : tie.Need-returns-2 Inv-loop μ-loop
 returns-2 c = search needs
 
-pub labels-spec : {M : Type 1} → statement M
-labels-spec =
+pub all-spec : {M : Type 1} → statement M
+all-spec =
     tie.close
     (tie.spec
     Inv-loop

@@ -1,7 +1,7 @@
 use Rattle.nx.proofs.Names.{_-_, needs}
 use Prim.Native.Nat.{_≤_}
-use Rattle.nx.proofs.map.run_end.Statement.{statement}
-use Rattle.nx.proofs.map.run_end.Tie as tie
+use Rattle.nx.proofs.labels.run_end.Statement.{statement}
+use Rattle.nx.proofs.labels.run_end.Tie as tie
 
 abbrev Inv-loop : tie.InvT-loop
 Inv-loop records t lines i purpose n end₀ k₀ end k = k ≤ n
