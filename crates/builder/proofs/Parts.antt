@@ -104,7 +104,8 @@ module _ (n : ℕ) (all : List Mapping) where
       (tables-same ms ns i o (λ j h. f j (omega arith)))
 
   -- the word at an offset inside megabyte i's table is that table's
-  in-part : (ms : List Mapping) (k i o : ℕ) → i < k → tableStart n all i ≤ o → o < tableEnd n all (suc i) → partTables n all ms k o ≡ secondWord ms (tableOf all i) i ((o - tableStart n all i) / 4)
+  in-part : (ms : List Mapping) (k i o : ℕ) → i < k → tableStart n all i ≤ o → o < tableEnd n all (suc i)
+      → partTables n all ms k o ≡ secondWord ms (tableOf all i) i ((o - tableStart n all i) / 4)
   unfolding partTables
   in-part ms zero i o h lo hi = absurd (omega arith)
   in-part ms (suc k) i o h lo hi = elim (decLe k i) [
@@ -182,14 +183,19 @@ module _ (n : ℕ) (all ms : List Mapping) (m : Mapping) (base : ℕ) (fits : (i
           ∙ ap (secondWord (m ∷ ms) t mb) w
           ∙ second-in t mb (wordIn t m + (j - x)) m (fits mb) (short-in t _ (omega (arith, inside))) ms (omega arith) (omega arith))
 
+      -- word j of the image is one of the mapping's words in megabyte k's table
+      abbrev Among : ℕ → ℕ → Type 0
+      Among k j =
+          (wordIn (tableOf all k) m ≤ (4 * j - tableStart n all k) / 4)
+          × ((4 * j - tableStart n all k) / 4 < wordIn (tableOf all k) m + wordsIn (tableOf all k) k m)
+
       pub part-beside : (j : ℕ) → (x ≤ j → j < x + wordsIn t mb m → ⊥) → partWord n all ms base j ≡ partWord n all (m ∷ ms) base j
       part-beside j out =
           part-same j
           (λ l e. off-mega m j (λ g. some (ap tableSize (ap (tableOf all) (sym here ∙ g) ∙ e))))
           (λ i l lo hi p. elim (ℕ-discrete i mb) [
             | yes e ↦
-                let q : (wordIn t m ≤ (4 * j - tableStart n all mb) / 4) × ((4 * j - tableStart n all mb) / 4 < wordIn t m + wordsIn t mb m) =
-                subst (λ (k : ℕ). (wordIn (tableOf all k) m ≤ (4 * j - tableStart n all k) / 4) × ((4 * j - tableStart n all k) / 4 < wordIn (tableOf all k) m + wordsIn (tableOf all k) k m)) e p in
+                let q : Among mb j = subst (λ (k : ℕ). Among k j) e p in
                 let v : tableStart n all mb ≤ 4 * j = subst (λ (k : ℕ). tableStart n all k ≤ 4 * j) e lo in
                 let a = aligned in
                 out (omega (arith, q .0)) (omega (arith, q .1))

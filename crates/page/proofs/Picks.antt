@@ -1,6 +1,10 @@
 -- The laws of a choice and of the two tests. Assumes nothing.
-use mathlib.Core.Path.{_≡_, refl}
+use mathlib.Core.Path.{_≡_, refl, sym, _∙_}
 use mathlib.Core.Bool.{Bool, true, false, _&&_, _||_, true≢false, false≢true}
+use Prim.Native.Nat.{ℕ, _%_}
+use native.Mathlib.Omega.{arith}
+use lib.Dec.{eqb}
+use borrow.Author.Tests.{eq-eqb, ne-eqb}
 use Rattle.page.specs.Pick.{pick, _and_, _or_}
 
 pub pick-yes : {A : Type 0} (t : Bool) (a b : A) → t ≡ true → pick t a b ≡ a
@@ -18,6 +22,23 @@ pub pick-by : {A : Type 0} (P : A → Type 0) (t : Bool) (a b : A) → (t ≡ tr
 unfolding pick
 pick-by P true a b h k = h refl
 pick-by P false a b h k = k refl
+
+-- a choice of four by a number's two lowest bits
+module _ {A : Type 0} (a b c d : A) (w : ℕ) where
+  abbrev chosen : A
+  chosen = pick (eqb (w % 4) 0) a (pick (eqb (w % 4) 1) b (pick (eqb (w % 4) 2) c d))
+
+  pub bits-01 : w % 4 ≡ 1 → b ≡ chosen
+  bits-01 e = sym (pick-no _ _ _ (ne-eqb (w % 4) 0 (λ q. omega (arith, q, e))) ∙ pick-yes _ _ _ (eq-eqb _ _ e))
+
+  pub bits-10 : w % 4 ≡ 2 → c ≡ chosen
+  bits-10 e =
+      sym (pick-no _ _ _ (ne-eqb (w % 4) 0 (λ q. omega (arith, q, e)))
+      ∙ pick-no _ _ _ (ne-eqb (w % 4) 1 (λ q. omega (arith, q, e)))
+      ∙ pick-yes _ _ _ (eq-eqb _ _ e))
+
+  pub bits-11 : (w % 4 ≡ 0 → ⊥) → (w % 4 ≡ 1 → ⊥) → (w % 4 ≡ 2 → ⊥) → d ≡ chosen
+  bits-11 x y z = sym (pick-no _ _ _ (ne-eqb _ _ x) ∙ pick-no _ _ _ (ne-eqb _ _ y) ∙ pick-no _ _ _ (ne-eqb _ _ z))
 
 pub and-yes : (t x : Bool) → t ≡ true → (t and x) ≡ x
 unfolding _and_

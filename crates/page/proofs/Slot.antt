@@ -1,7 +1,7 @@
 -- What a slot's two words say after they were made, dropped or flushed. Assumes nothing.
 use mathlib.Core.Path.{_≡_, refl, sym, ap, ap₂, _∙_}
 use mathlib.Core.Bool.{Bool, true, false, _&&_}
-use Prim.Native.Nat.{ℕ, _-_, _*_, _/_, _%_, _^_, _<_, _≤_}
+use Prim.Native.Nat.{ℕ, _+_, _-_, _*_, _/_, _%_, _^_, _<_, _≤_}
 use native.Mathlib.Omega.{arith}
 use lib.Dec.{eqb, ltb}
 use lib.Bits.{bitXor}
@@ -12,8 +12,8 @@ use Rattle.page.specs.Pick.{_and_}
 use Rattle.page.specs.Low.{upper, agree, joined}
 use Rattle.page.specs.Words.{lowBits, typeOf, kindOf, physical, wordValid, wordPreserved, wordTag, wordAccess, wordMatches, wordAddress}
 use Rattle.page.specs.Words.{wordDropped, wordFlushed, madeCam, madeRam}
-use Rattle.page.proofs.Picks.{pick-yes, pick-no, and-yes, and-no, and-is}
-use Rattle.page.proofs.Lower.{upper-high, joined-agree, apart-agree, pages-agree}
+use Rattle.page.proofs.Picks.{pick-yes, pick-no, bits-01, bits-10, bits-11, and-yes, and-no, and-is}
+use Rattle.page.proofs.Lower.{upper-le, upper-high, joined-agree, apart-agree, pages-agree}
 
 -- a page is at least a tiny one and at most a section
 pub lowBits-ge : (k : Kind) → 10 ≤ lowBits k
@@ -38,15 +38,9 @@ typeOf-lt Kind.Tiny = omega arith
 pub kindOf-type : (w : ℕ) (k : Kind) → w % 4 ≡ typeOf k → kindOf w ≡ k
 unfolding kindOf
 kindOf-type w Kind.Section e = pick-yes _ _ _ (eq-eqb _ _ e)
-kindOf-type w Kind.Large e = pick-no _ _ _ (ne-eqb (w % 4) 0 (λ q. omega (arith, q, e))) ∙ pick-yes _ _ _ (eq-eqb _ _ e)
-kindOf-type w Kind.Small e =
-    pick-no _ _ _ (ne-eqb (w % 4) 0 (λ q. omega (arith, q, e)))
-    ∙ pick-no _ _ _ (ne-eqb (w % 4) 1 (λ q. omega (arith, q, e)))
-    ∙ pick-yes _ _ _ (eq-eqb _ _ e)
-kindOf-type w Kind.Tiny e =
-    pick-no _ _ _ (ne-eqb (w % 4) 0 (λ q. omega (arith, q, e)))
-    ∙ pick-no _ _ _ (ne-eqb (w % 4) 1 (λ q. omega (arith, q, e)))
-    ∙ pick-no _ _ _ (ne-eqb (w % 4) 2 (λ q. omega (arith, q, e)))
+kindOf-type w Kind.Large e = sym (bits-01 _ _ _ _ w e)
+kindOf-type w Kind.Small e = sym (bits-10 _ _ _ _ w e)
+kindOf-type w Kind.Tiny e = sym (bits-11 _ _ _ _ w (λ q. omega (arith, q, e)) (λ q. omega (arith, q, e)) (λ q. omega (arith, q, e)))
 
 -- a page starts at a multiple of 1,024
 pub start-1024 : (k : Kind) (x : ℕ) → upper (lowBits k) x % 1024 ≡ 0
@@ -55,6 +49,10 @@ start-1024 Kind.Section x = omega arith
 start-1024 Kind.Large x = omega arith
 start-1024 Kind.Small x = omega arith
 start-1024 Kind.Tiny x = omega arith
+
+-- so ten bits have room below it, in a word of 32
+pub start-room : (k : Kind) (x : ℕ) → x < 2 ^ 32 → upper (lowBits k) x + 1023 < 2 ^ 32
+start-room k x h = omega (arith, upper-le (lowBits k) x, start-1024 k x)
 
 -- what a walk stores says what the walk found
 module _ (k : Kind) (va : ℕ) where

@@ -105,8 +105,8 @@ Allows Second.Absent Kind.Small = ⊥
 Allows Second.Absent Kind.Tiny = ⊥
 
 -- a mapping of megabyte i is of a kind that a table has
-abbrev pub Own : Second → ℕ → Mapping → Type 0
-Own t i m = m .at .0 / 2 ^ 20 ≡ i → Allows t (m .kind)
+abbrev pub KindFits : Second → ℕ → Mapping → Type 0
+KindFits t i m = m .at .0 / 2 ^ 20 ≡ i → Allows t (m .kind)
 
 fine-allows : (k : Kind) → (typeOf k ≡ typeOf Kind.Section → ⊥) → Allows Second.Fine k
 fine-allows Kind.Section s = s refl
@@ -127,11 +127,11 @@ absent-allows Kind.Small h = omega arith
 absent-allows Kind.Tiny h = omega arith
 
 -- each mapping of a list without overlaps is of a kind that its megabyte's table has
-pub own-kinds : (ms : List Mapping) (i : ℕ) → Disjoint ms → All (Own (tableOf ms i) i) ms
+pub kinds-fit : (ms : List Mapping) (i : ℕ) → Disjoint ms → All (KindFits (tableOf ms i) i) ms
 unfolding tableOf
-own-kinds ms i d =
-    pick-by (λ t. All (Own t i) ms) _ _ _ (λ tiny. all-map ms (λ m s v. fine-allows (m .kind) (s v)) (no-section i Kind.Tiny ms d (λ e. omega (arith, e)) tiny))
-    (λ tiny. pick-by (λ t. All (Own t i) ms) _ _ _
+kinds-fit ms i d =
+    pick-by (λ t. All (KindFits t i) ms) _ _ _ (λ tiny. all-map ms (λ m s v. fine-allows (m .kind) (s v)) (no-section i Kind.Tiny ms d (λ e. omega (arith, e)) tiny))
+    (λ tiny. pick-by (λ t. All (KindFits t i) ms) _ _ _
     (λ other. all-map2 ms (λ m n s v. coarse-allows (m .kind) (n v) (s v)) (free ms i Kind.Tiny tiny) (either (hasKind ms i Kind.Large) refl other))
     (λ other. all-map ms (λ m n v. absent-allows (m .kind) (low-20 (m .kind) (n .0 v) (n .1 v) (n .2 v))) (none-of ms i tiny other)))
   where

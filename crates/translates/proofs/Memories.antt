@@ -2,7 +2,7 @@
 use Rattle.translates.specs.Names.{_≡_, true, List, ℕ, _+_, _-_, _≤_, _<_, length, getD, take, drop, VirtualAddress, Lent, lentOk, Mapping}
 use Rattle.translates.specs.Names.{Held, holder, imageLength, image}
 use Rattle.translates.proofs.Names.{refl, sym, ap, ap₂, _∙_, Bool, false, suc, _*_, _/_, _%_, _^_, arith, mod-eq-of-lt, lit<, length-take}
-use Rattle.translates.proofs.Names.{getD-take, getD-drop, upper, virtual, lowBits, pick-yes, pick-no, pick-by, typeOf-lt}
+use Rattle.translates.proofs.Names.{getD-take, getD-drop, upper, virtual, pick-yes, pick-no, pick-by, typeOf-lt}
 use Rattle.translates.proofs.Names.{placeIn, wordOf, Place, Read, readIn, All, OnHeld, all-holder, Second, tableOf, tableSize, tableStart}
 use Rattle.translates.proofs.Names.{sectionWord, firstBy, firstWord, pageWord, addressOf, secondWord, inTables, imageWord}
 use Rattle.translates.proofs.Names.{bytesBy, end-next, end-last, Has, Standing}
@@ -13,8 +13,7 @@ use native.Mathlib.Nat.{mod-add-div', div-div-eq-div-mul}
 use borrow.Author.Tests.{le-leb, ltb-true}
 use lib.ListN.{length-drop}
 use Rattle.page.proofs.Picks.{and-yes}
-use Rattle.page.proofs.Lower.{upper-le}
-use Rattle.page.proofs.Slot.{start-1024}
+use Rattle.page.proofs.Slot.{start-room}
 use Rattle.memory.specs.Memory.{liesIn, placeWithin, partAt}
 use Rattle.wire.specs.Words.{littleEndian, wordBytes}
 use Rattle.memory.proofs.Places.{place-ok, held-once}
@@ -30,7 +29,7 @@ abbrev pub Phys : Mapping → Type 0
 Phys m = m .to .0 < 2 ^ 32
 
 page-fits : (m : Mapping) → Phys m → pageWord (Held.By m) < 2 ^ 32
-page-fits m h = omega (arith, upper-le (lowBits (m .kind)) (m .to .0), start-1024 (m .kind) (m .to .0), typeOf-lt (m .kind))
+page-fits m h = omega (arith, start-room (m .kind) (m .to .0) h, typeOf-lt (m .kind))
 
 second-fits : (va : VirtualAddress) (h : Held) → OnHeld (λ m. Phys m × (Mappings.holds m va ≡ true)) h → pageWord h < 2 ^ 32
 second-fits va (Held.By m) o = page-fits m (o .0)

@@ -12,7 +12,7 @@ use Rattle.records.proofs.Holders.{holds-megabyte, holder-agree}
 use Rattle.tables.specs.Tables.{startAfter}
 use Rattle.tables.proofs.Places.{end-first, end-start, end-4, start-4, size-4}
 use Rattle.tables.proofs.Offsets.{in-table}
-use Rattle.tables.proofs.Fits.{Fit, fit, Own, own-kinds}
+use Rattle.tables.proofs.Fits.{Fit, fit, KindFits, kinds-fit}
 use Rattle.tables.proofs.Regions.{step-le}
 use Rattle.translates.proofs.Written.{foundFor, Known, fine-found, coarse-found, first-fine, first-coarse, section-found, firstFor}
 
@@ -36,9 +36,9 @@ on-map P Q f Held.Nobody o = tt
 known : (ms : List Mapping) → All Narrow ms → Disjoint ms → (va : VirtualAddress) (t : Second) → tableOf ms (va .0 / 2 ^ 20) ≡ t → OnHeld (Known t) (holder ms va)
 known ms narrow apart va t e =
     let i : ℕ = va .0 / 2 ^ 20 in
-    let own : All (Own t i) ms = subst (λ (u : Second). All (Own u i) ms) e (own-kinds ms i apart) in
-    let both : All (λ m. Narrow m × Own t i m) ms = all-map2 ms (λ m x y. (x, y)) narrow own in
-    on-map (λ m. (Narrow m × Own t i m) × (holds m va ≡ true)) (Known t)
+    let own : All (KindFits t i) ms = subst (λ (u : Second). All (KindFits u i) ms) e (kinds-fit ms i apart) in
+    let both : All (λ m. Narrow m × KindFits t i m) ms = all-map2 ms (λ m x y. (x, y)) narrow own in
+    on-map (λ m. (Narrow m × KindFits t i m) × (holds m va ≡ true)) (Known t)
     (λ m o. (o .0 .0, o .0 .1 (sym (holds-megabyte m va (o .1))))) (holder ms va) (all-holder _ ms va both)
 
 abbrev pub source : (ℕ → Place) → ℕ → Source

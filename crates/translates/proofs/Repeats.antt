@@ -5,8 +5,9 @@ use Rattle.translates.proofs.Names.{firstOf, secondOf, holds, Disjoint,
 use Rattle.translates.proofs.Names.{stepBits, addressOf, pageWord, sectionWord, secondWord, pick, virtual}
 use Rattle.page.proofs.Slot.{kindOf-type}
 use Rattle.walk.specs.Statements.{bare}
-use Rattle.walk.specs.Repeated.{wordBits, tableWords, repeats, saidIn, Repeated, RepeatedBelow, RepeatedAfter, AllRepeated}
-use Rattle.walk.proofs.Laws.{bits-10, second-says}
+use Rattle.walk.specs.Repeated.{wordBits, indexLimit, repeats, foundIn, Repeated, RepeatedBelow, RepeatedAfter, AllRepeated}
+use Rattle.page.proofs.Picks.{bits-10}
+use Rattle.walk.proofs.Laws.{second-says}
 use Rattle.walk.proofs.Repeats.{one-page}
 use Rattle.records.proofs.Alls.{every}
 use Rattle.records.proofs.Holders.{holder-same, holds-over}
@@ -20,10 +21,10 @@ index-of Second.Coarse i j h = (omega arith, omega arith)
 index-of Second.Absent i j h = absurd (omega arith)
 
 -- a table of the builder's and the walk's kind of table for it
-abbrev Alike : Second → Table → Type 0
-Alike t u = (stepBits t ≡ wordBits u) × (tableSize t ≡ 4 * tableWords u)
+abbrev SameTable : Second → Table → Type 0
+SameTable t u = (stepBits t ≡ wordBits u) × (tableSize t ≡ 4 * indexLimit u)
 
-module _ (ms : List Mapping) (apart : Disjoint ms) (t : Second) (u : Table) (is : Alike t u) (i j j′ : ℕ) (p : Page) (short : 4 * j < tableSize t) (short′ : 4 * j′ < tableSize t)
+module _ (ms : List Mapping) (apart : Disjoint ms) (t : Second) (u : Table) (is : SameTable t u) (i j j′ : ℕ) (p : Page) (short : 4 * j < tableSize t) (short′ : 4 * j′ < tableSize t)
     (same : j′ / repeats u (p .kind) ≡ j / repeats u (p .kind)) where
   abbrev a : VirtualAddress
   a = addressOf t i j
@@ -43,17 +44,17 @@ module _ (ms : List Mapping) (apart : Disjoint ms) (t : Second) (u : Table) (is 
       at b k e = subst (λ (s : ℕ). b .0 / 2 ^ s % 2 ^ (20 - s) ≡ k) (is .0) e
 
   -- so they are held by the same mapping
-  held : (h : Held) → holder ms a ≡ h → secondOf u (pageWord h) ≡ Found.Page p → holder ms a′ ≡ h
-  held (Held.By m) e f =
+  same-holder : (h : Held) → holder ms a ≡ h → secondOf u (pageWord h) ≡ Found.Page p → holder ms a′ ≡ h
+  same-holder (Held.By m) e f =
       let kind : m .kind ≡ p .kind = sym (kindOf-type _ (m .kind) (page-type m)) ∙ kindOf-type _ (p .kind) (second-says u _ p f .1) in
       let here : holds m a ≡ true = subst (OnHeld (λ x. Unit × (holds x a ≡ true))) e (all-holder (λ _. Unit) ms a (every ms (λ _. tt))) .1 in
       let page : a′ .0 / 2 ^ lowBits (p .kind) ≡ a .0 / 2 ^ lowBits (p .kind) = in-page (ap (λ (h : Held). secondOf u (pageWord h)) e ∙ f) in
       holder-same ms a a′ m apart e (holds-over m a a′ (subst (λ (k : Kind). a .0 / 2 ^ lowBits k ≡ a′ .0 / 2 ^ lowBits k) (sym kind) (sym page)) here)
-  held Held.Nobody e f = let z : _≡_ {A = ℕ} 0 1 = cc (none-found u) in absurd (omega arith)
+  same-holder Held.Nobody e f = let z : _≡_ {A = ℕ} 0 1 = cc (none-found u) in absurd (omega arith)
 
   pub same-word : secondOf u (secondWord ms t i j) ≡ Found.Page p → secondWord ms t i j′ ≡ secondWord ms t i j
   unfolding secondWord
-  same-word e = ap pageWord (held (holder ms a) refl e)
+  same-word e = ap pageWord (same-holder (holder ms a) refl e)
 
 -- read back from any reading that has the image
 module _ (n : ℕ) (ms : List Mapping) (base : ℕ) (rd : ℕ → Read) (place : ℕ → Place) (mem : Stands rd place n ms base) (apart : Disjoint ms) (unit : base % 4096 ≡ 0)
@@ -65,13 +66,13 @@ module _ (n : ℕ) (ms : List Mapping) (base : ℕ) (rd : ℕ → Read) (place :
       ∙ table-read n ms base rd place mem i low j (subst (λ (v : Second). 4 * j < tableSize v) (sym e) h)
       ∙ ap (λ (v : Second). Read.Word (secondWord ms v i j) (place (base + (tableStart n ms i + 4 * j)))) e
 
-  repeated : (t : Second) (u : Table) → Alike t u → tableOf ms i ≡ t → Repeated rd u (base + tableStart n ms i)
+  repeated : (t : Second) (u : Table) → SameTable t u → tableOf ms i ≡ t → Repeated rd u (base + tableStart n ms i)
   repeated t u is e j j′ p l l′ said same =
       let h : 4 * j < tableSize t = omega (arith, is .1) in
       let h′ : 4 * j′ < tableSize t = omega (arith, is .1) in
       ap bare (read-at t j′ e h′)
       ∙ ap (λ (w : ℕ). bare (Read.Word w (place 0)))
-      (same-word ms apart t u is i j j′ p h h′ same (sym (ap (saidIn u) (read-at t j e h)) ∙ said))
+      (same-word ms apart t u is i j j′ p h h′ same (sym (ap (foundIn u) (read-at t j e h)) ∙ said))
       ∙ sym (ap bare (read-at t j e h))
 
   no-table : (h : Held) → RepeatedBelow rd (firstOf (sectionWord h))

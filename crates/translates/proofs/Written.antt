@@ -8,7 +8,7 @@ use Rattle.page.specs.Words.{typeOf}
 use Rattle.page.proofs.Slot.{lowBits-ge}
 use Rattle.walk.specs.declared.First.{First}
 use Rattle.walk.specs.Descriptors.{pageOf}
-use Rattle.walk.proofs.Laws.{bits-01, bits-10, bits-11}
+use Rattle.page.proofs.Picks.{bits-01, bits-10, bits-11}
 use Rattle.tables.proofs.Fits.{Allows}
 
 -- the fields of a word of q upper-free low bits: type below, access in bits 5:4, the rest above

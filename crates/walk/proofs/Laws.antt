@@ -1,6 +1,6 @@
 -- What the descriptors give. Assumes nothing.
-use Rattle.walk.specs.Names.{_≡_, false, ℕ, _/_, _%_, _^_, _<_, eqb, pick, lowBits, Kind, VirtualAddress, Page, Found, Table}
-use Rattle.walk.proofs.Names.{refl, sym, _∙_, subst, arith, eq-eqb, ne-eqb, pick-yes, pick-no, firstOf, pageOf, secondOf, physicalOf, Room}
+use Rattle.walk.specs.Names.{_≡_, false, ℕ, _/_, _%_, _^_, _<_, lowBits, Kind, VirtualAddress, Page, Found, Table}
+use Rattle.walk.proofs.Names.{refl, sym, _∙_, subst, arith, ne-eqb, pick-no, firstOf, pageOf, secondOf, physicalOf, Room}
 use Rattle.walk.proofs.Names.{ProperFirst, Proper, isMissing}
 use lib.Dec.{lit≤, lit<}
 use borrow.Author.Tests.{eqb-true, eqb-false}
@@ -11,23 +11,6 @@ use Rattle.page.proofs.Lower.{upper-lt, upper-upper, joined-low, joined-high}
 use Rattle.walk.specs.Descriptors.{sectionOf, tinyIn}
 use Rattle.walk.specs.Distances.{ProperPage}
 use Rattle.walk.specs.Repeated.{wordBits}
-
--- a choice of four by a word's two lowest bits
-module _ {A : Type 0} (a b c d : A) (w : ℕ) where
-  abbrev four : A
-  four = pick (eqb (w % 4) 0) a (pick (eqb (w % 4) 1) b (pick (eqb (w % 4) 2) c d))
-
-  pub bits-01 : w % 4 ≡ 1 → b ≡ four
-  bits-01 e = sym (pick-no _ _ _ (ne-eqb (w % 4) 0 (λ q. omega (arith, q, e))) ∙ pick-yes _ _ _ (eq-eqb _ _ e))
-
-  pub bits-10 : w % 4 ≡ 2 → c ≡ four
-  bits-10 e =
-      sym (pick-no _ _ _ (ne-eqb (w % 4) 0 (λ q. omega (arith, q, e)))
-      ∙ pick-no _ _ _ (ne-eqb (w % 4) 1 (λ q. omega (arith, q, e)))
-      ∙ pick-yes _ _ _ (eq-eqb _ _ e))
-
-  pub bits-11 : (w % 4 ≡ 0 → ⊥) → (w % 4 ≡ 1 → ⊥) → (w % 4 ≡ 2 → ⊥) → d ≡ four
-  bits-11 x y z = sym (pick-no _ _ _ (ne-eqb _ _ x) ∙ pick-no _ _ _ (ne-eqb _ _ y) ∙ pick-no _ _ _ (ne-eqb _ _ z))
 
 -- in a coarse table a word that is neither large nor small is no page
 pub coarse-none : (w : ℕ) → (w % 4 ≡ 1 → ⊥) → (w % 4 ≡ 2 → ⊥) → Found.NoPage ≡ secondOf Table.Coarse w
@@ -58,13 +41,13 @@ module _ (P : Found → Type 0) (w : ℕ) (none : P Found.NoPage) where
       (λ z. tiny-by t page (omega (arith, eqb-false (w % 4) 0 x, eqb-false (w % 4) 1 y, eqb-false (w % 4) 2 z)))))
 
 -- a page has at least the addresses of a word of its table, and the word says its kind by its two lowest bits
-abbrev Says : Table → ℕ → Found → Type 0
-Says t w (Found.Page p) = (wordBits t ≤ lowBits (p .kind)) × (w % 4 ≡ typeOf (p .kind))
-Says t w Found.NoPage = Unit
-Says t w Found.Missing = Unit
+abbrev PageSaid : Table → ℕ → Found → Type 0
+PageSaid t w (Found.Page p) = (wordBits t ≤ lowBits (p .kind)) × (w % 4 ≡ typeOf (p .kind))
+PageSaid t w Found.NoPage = Unit
+PageSaid t w Found.Missing = Unit
 
 pub second-says : (t : Table) (w : ℕ) (p : Page) → secondOf t w ≡ Found.Page p → (wordBits t ≤ lowBits (p .kind)) × (w % 4 ≡ typeOf (p .kind))
-second-says t w p e = subst (Says t w) e (second-by (Says t w) w tt t (λ k h e. (h, e)))
+second-says t w p e = subst (PageSaid t w) e (second-by (PageSaid t w) w tt t (λ k h e. (h, e)))
 
 -- a first-level word's table ends below 2^32
 pub room : (w : ℕ) → w < 2 ^ 32 → Room (firstOf w)

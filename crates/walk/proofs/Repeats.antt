@@ -9,7 +9,7 @@ use Rattle.page.proofs.Slot.{lowBits-le}
 use Rattle.walk.specs.Statements.{bare}
 use Rattle.walk.specs.Uniform.{Uniform}
 use Rattle.walk.proofs.Laws.{second-says}
-use Rattle.walk.specs.Repeated.{wordBits, tableWords, repeats, saidIn, Repeated, RepeatedBelow, RepeatedAfter, AllRepeated}
+use Rattle.walk.specs.Repeated.{wordBits, indexLimit, repeats, foundIn, Repeated, RepeatedBelow, RepeatedAfter, AllRepeated}
 
 -- a table whose words leave s low bits alone: two addresses lie in one page of n low bits exactly where they lie in one megabyte
 -- and their words in one aligned group of 2^(n - s). This is the fact about repeated words, over how many there are.
@@ -36,34 +36,34 @@ module _ (s n : ℕ) (sn : s ≤ n) (n20 : n ≤ 20) where
       top z = shr-shr z n (20 - n) ∙ ap (λ (k : ℕ). z / 2 ^ k) (let e : n + (20 - n) ≡ 20 = omega arith in e)
 
 -- a page has at least the addresses of the word that says it
-said-bits : (t : Table) (r : Read) (p : Page) → saidIn t r ≡ Found.Page p → wordBits t ≤ lowBits (p .kind)
-said-bits t Read.Missing p e = let z : _≡_ {A = ℕ} 0 1 = cc in absurd (omega arith)
-said-bits t (Read.Word w q) p e = second-says t w p e .0
+found-bits : (t : Table) (r : Read) (p : Page) → foundIn t r ≡ Found.Page p → wordBits t ≤ lowBits (p .kind)
+found-bits t Read.Missing p e = let z : _≡_ {A = ℕ} 0 1 = cc in absurd (omega arith)
+found-bits t (Read.Word w q) p e = second-says t w p e .0
 
 -- what a word says does not depend on where it lies
-said-bare : (t : Table) (r : Read) → saidIn t (bare r) ≡ saidIn t r
-said-bare t Read.Missing = refl
-said-bare t (Read.Word w p) = refl
+found-bare : (t : Table) (r : Read) → foundIn t (bare r) ≡ foundIn t r
+found-bare t Read.Missing = refl
+found-bare t (Read.Word w p) = refl
 
-found-second : (t : Table) (s : Source) (b : ℕ) (r : Read) → afterSecond t s b r .found ≡ saidIn t r
+found-second : (t : Table) (s : Source) (b : ℕ) (r : Read) → afterSecond t s b r .found ≡ foundIn t r
 found-second t s b Read.Missing = refl
 found-second t s b (Read.Word w p) = refl
 
 -- the same page is found at every address of it
 module _ (rd : ℕ → Read) (va va′ : ℕ) (p : Page) (same : va′ / 2 ^ lowBits (p .kind) ≡ va / 2 ^ lowBits (p .kind)) where
   abbrev wordFor : Table → ℕ → ℕ
-  wordFor t x = x / 2 ^ wordBits t % tableWords t
+  wordFor t x = x / 2 ^ wordBits t % indexLimit t
 
   abbrev read : Table → ℕ → ℕ → Read
   read t at x = rd (at + 4 * wordFor t x)
 
-  in-table : (t : Table) (at : ℕ) → Repeated rd t at → saidIn t (read t at va) ≡ Found.Page p → saidIn t (read t at va′) ≡ Found.Page p
+  in-table : (t : Table) (at : ℕ) → Repeated rd t at → foundIn t (read t at va) ≡ Found.Page p → foundIn t (read t at va′) ≡ Found.Page p
   in-table t at rep e =
-      sym (said-bare t (read t at va′))
-      ∙ ap (saidIn t)
+      sym (found-bare t (read t at va′))
+      ∙ ap (foundIn t)
       (rep (wordFor t va) (wordFor t va′) p (mod-lt _ (pow-pos (20 - wordBits t))) (mod-lt _ (pow-pos (20 - wordBits t))) e
-      (one-group (wordBits t) (lowBits (p .kind)) (said-bits t (read t at va) p e) (lowBits-le (p .kind)) va′ va same))
-      ∙ said-bare t (read t at va)
+      (one-group (wordBits t) (lowBits (p .kind)) (found-bits t (read t at va) p e) (lowBits-le (p .kind)) va′ va same))
+      ∙ found-bare t (read t at va)
       ∙ e
 
   below : (s s′ : Source) (d : First) → RepeatedBelow rd d → byFirst rd va s d .found ≡ Found.Page p → byFirst rd va′ s′ d .found ≡ Found.Page p
@@ -90,5 +90,8 @@ repeated-uniform rd dec j n base end pos rep va va′ p low e same =
     ∙ after rd (va .0) (va′ .0) p same dec at (rd at) (rep (va .0 / 2 ^ 20 % n) (mod-lt _ pos)) e
 
 -- how many words a page takes
-pub repeat-counts : (repeats Table.Coarse Kind.Large ≡ 16) × (repeats Table.Coarse Kind.Small ≡ 1) × (repeats Table.Fine Kind.Large ≡ 64) × (repeats Table.Fine Kind.Small ≡ 4) × (repeats Table.Fine Kind.Tiny ≡ 1)
-repeat-counts = (refl, refl, refl, refl, refl)
+pub coarse-counts : (repeats Table.Coarse Kind.Large ≡ 16) × (repeats Table.Coarse Kind.Small ≡ 1)
+coarse-counts = (refl, refl)
+
+pub fine-counts : (repeats Table.Fine Kind.Large ≡ 64) × (repeats Table.Fine Kind.Small ≡ 4) × (repeats Table.Fine Kind.Tiny ≡ 1)
+fine-counts = (refl, refl, refl)

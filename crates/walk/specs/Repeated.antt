@@ -8,23 +8,23 @@ abbrev pub wordBits : Table → ℕ
 wordBits Table.Coarse = 12
 wordBits Table.Fine = 10
 
--- the words of a table
-abbrev pub tableWords : Table → ℕ
-tableWords t = 2 ^ (20 - wordBits t)
+-- the first index past the words of a table
+abbrev pub indexLimit : Table → ℕ
+indexLimit t = 2 ^ (20 - wordBits t)
 
 -- how many words a page takes: a large one 16 of a coarse table and 64 of a fine one, a small one 1 and 4, a tiny one 1 of a fine one
 abbrev pub repeats : Table → Kind → ℕ
 repeats t k = 2 ^ (lowBits k - wordBits t)
 
--- what a word that was read says in a table
-abbrev pub saidIn : Table → Read → Found
-saidIn t Read.Missing = Found.Missing
-saidIn t (Read.Word w p) = secondOf t w
+-- what is found in a table by a read
+abbrev pub foundIn : Table → Read → Found
+foundIn t Read.Missing = Found.Missing
+foundIn t (Read.Word w p) = secondOf t w
 
 -- each word of the table at an address that says a page stands equal over its whole aligned group, of as many words as the page takes
 abbrev pub Repeated : (ℕ → Read) → Table → ℕ → Type 0
 Repeated rd t at =
-    (j j′ : ℕ) (p : Page) → j < tableWords t → j′ < tableWords t → saidIn t (rd (at + 4 * j)) ≡ Found.Page p →
+    (j j′ : ℕ) (p : Page) → j < indexLimit t → j′ < indexLimit t → foundIn t (rd (at + 4 * j)) ≡ Found.Page p →
     j′ / repeats t (p .kind) ≡ j / repeats t (p .kind) → bare (rd (at + 4 * j′)) ≡ bare (rd (at + 4 * j))
 
 -- so do those of the table that a first-level word names, if it names one

@@ -186,9 +186,13 @@ unfolding placed bytesOf spliced bytesBy
 one-word l at w v e = ap (λ (b : List ℕ). take at l ++ (b ++ drop (at + 4) l)) e
 
 -- one word, put behind k words of h
-pub one-more : (l m n : List ℕ) (a k w : ℕ) (h : ℕ → ℕ) → a + 4 * (k + 1) ≤ length l → wordBytes w ≡ wordBytes (h k) → m ≡ spliced l a h k → n ≡ placed m (a + 4 * k) (w ∷ [])
-    → n ≡ spliced l a h (k + 1)
-one-more l m n a k w h fits e p q = q ∙ ap (λ (o : List ℕ). placed o (a + 4 * k) (w ∷ [])) p ∙ one-word (spliced l a h k) (a + 4 * k) w (h k) e ∙ spliced-more l a k (h k) h fits refl
+pub one-more : (l m n : List ℕ) (a k w : ℕ) (h : ℕ → ℕ) → a + 4 * (k + 1) ≤ length l → wordBytes w ≡ wordBytes (h k) → m ≡ spliced l a h k
+    → n ≡ placed m (a + 4 * k) (w ∷ []) → n ≡ spliced l a h (k + 1)
+one-more l m n a k w h fits e p q =
+    q
+    ∙ ap (λ (o : List ℕ). placed o (a + 4 * k) (w ∷ [])) p
+    ∙ one-word (spliced l a h k) (a + 4 * k) w (h k) e
+    ∙ spliced-more l a k (h k) h fits refl
 
 -- words that have room
 pub run-fits : (l : List ℕ) (at n w : ℕ) → at + 4 * n ≤ length l → runPut l at n w ≡ spliced l at (λ (_ : ℕ). w) n
@@ -196,7 +200,8 @@ unfolding runPut
 run-fits l at n w h = pick-yes _ _ _ (le-leb _ _ h)
 
 -- words of a list, that are those of f
-list-bytes : (f : ℕ → ℕ) (k : ℕ) (ws : List ℕ) → ((j : ℕ) → j < length ws → wordBytes (getD ws j 0) ≡ wordBytes (f (k + j))) → bytesBy f k ++ bytesOf ws ≡ bytesBy f (k + length ws)
+list-bytes : (f : ℕ → ℕ) (k : ℕ) (ws : List ℕ) → ((j : ℕ) → j < length ws → wordBytes (getD ws j 0) ≡ wordBytes (f (k + j)))
+    → bytesBy f k ++ bytesOf ws ≡ bytesBy f (k + length ws)
 unfolding bytesBy bytesOf
 list-bytes f k [] e = append-nil (bytesBy f k) ∙ ap (bytesBy f) (let i : k ≡ k + 0 = omega arith in i)
 list-bytes f k (w ∷ ws) e =
@@ -210,6 +215,7 @@ pub words-fit : (l : List ℕ) (at n : ℕ) (ws : List ℕ) (f : ℕ → ℕ) �
 unfolding placed spliced bytesBy
 words-fit l at n ws f c h e =
     written-fits l at ws (omega arith)
-    ∙ ap (λ (b : List ℕ). take at l ++ (b ++ drop (at + 4 * length ws) l)) (list-bytes f 0 ws (λ j g. e j (omega arith) ∙ ap (λ (i : ℕ). wordBytes (f i)) (let i : j ≡ 0 + j = omega arith in i)))
+    ∙ ap (λ (b : List ℕ). take at l ++ (b ++ drop (at + 4 * length ws) l))
+    (list-bytes f 0 ws (λ j g. e j (omega arith) ∙ ap (λ (i : ℕ). wordBytes (f i)) (let i : j ≡ 0 + j = omega arith in i)))
     ∙ ap (λ (k : ℕ). take at l ++ (bytesBy f k ++ drop (at + 4 * length ws) l)) (let i : 0 + length ws ≡ n = omega arith in i)
     ∙ ap (λ (k : ℕ). take at l ++ (bytesBy f n ++ drop (at + 4 * k) l)) c

@@ -1,9 +1,8 @@
 use Rattle.page.specs.Words.{kindOf}
 use Rattle.page.specs.declared.Kind.{Kind}
-use mathlib.Core.Path.{sym, _∙_}
-use Rattle.page.proofs.Picks.{pick-no}
+use mathlib.Core.Path.{sym}
+use Rattle.page.proofs.Picks.{bits-11}
 use Rattle.page.proofs.Slot.{kindOf-type}
-use borrow.Author.Tests.{ne-eqb}
 use Rattle.page.proofs.kind_of.Statement.{statement}
 use Rattle.page.proofs.kind_of.Tie as tie
 
@@ -18,7 +17,7 @@ returns-3 c = sym (kindOf-type _ Kind.Small (c .match .keys3))
 
 returns-4 : tie.Need-returns-4
 unfolding kindOf
-returns-4 c = sym (pick-no _ _ _ (ne-eqb _ _ (c .match .rest .0 .0 .1)) ∙ pick-no _ _ _ (ne-eqb _ _ (c .match .rest .0 .1)) ∙ pick-no _ _ _ (ne-eqb _ _ (c .match .rest .1)))
+returns-4 c = bits-11 _ _ _ _ _ (c .match .rest .0 .0 .1) (c .match .rest .0 .1) (c .match .rest .1)
 
 pub kind-of-spec : {M : Type 1} → statement M
 kind-of-spec = tie.close (tie.spec returns returns-2 returns-3 returns-4)

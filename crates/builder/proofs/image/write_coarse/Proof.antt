@@ -60,7 +60,9 @@ returns c =
     let s4 = c .before .before .before .before in
     let s7 = s4 .before .before .before in
     let args = s7 .before .before .args in
-    page-turn Second.Coarse (args .m) Kind.Section (s4 .enum-told .given .1) (args .out .now) _ (args .at) (s7 .word-in .result) _ 256 (s7 .word-in .ensures) (s4 .before .before .page-word .ensures) refl (c .before .before .write-run .ensures)
+    let at = s7 .word-in in
+    let word = s4 .before .before .page-word in
+    page-turn Second.Coarse (args .m) Kind.Section (s4 .enum-told .given .1) (args .out .now) _ (args .at) (at .result) _ 256 (at .ensures) (word .ensures) refl (c .before .before .write-run .ensures)
 
 same-length-2 : tie.Need-same-length-2
 same-length-2 c = search needs
@@ -70,7 +72,9 @@ returns-2 c =
     let s4 = c .before .before .before .before in
     let s7 = s4 .before .before .before in
     let args = s7 .before .before .args in
-    page-turn Second.Coarse (args .m) Kind.Large (s4 .enum-told2 .given .1) (args .out .now) _ (args .at) (s7 .word-in .result) _ 16 (s7 .word-in .ensures) (s4 .before .before .page-word .ensures) refl (c .before .before .write-run2 .ensures)
+    let at = s7 .word-in in
+    let word = s4 .before .before .page-word in
+    page-turn Second.Coarse (args .m) Kind.Large (s4 .enum-told2 .given .1) (args .out .now) _ (args .at) (at .result) _ 16 (at .ensures) (word .ensures) refl (c .before .before .write-run2 .ensures)
 
 same-length-3 : tie.Need-same-length-3
 same-length-3 c = search needs
@@ -80,7 +84,9 @@ returns-3 c =
     let s4 = c .before .before .before .before in
     let s7 = s4 .before .before .before in
     let args = s7 .before .before .args in
-    page-turn Second.Coarse (args .m) Kind.Small (s4 .enum-told3 .given .1) (args .out .now) _ (args .at) (s7 .word-in .result) _ 1 (s7 .word-in .ensures) (s4 .before .before .page-word .ensures) refl (c .before .before .write-run3 .ensures)
+    let at = s7 .word-in in
+    let word = s4 .before .before .page-word in
+    page-turn Second.Coarse (args .m) Kind.Small (s4 .enum-told3 .given .1) (args .out .now) _ (args .at) (at .result) _ 1 (at .ensures) (word .ensures) refl (c .before .before .write-run3 .ensures)
 
 same-length-4 : tie.Need-same-length-4
 same-length-4 c = search needs
@@ -90,7 +96,9 @@ returns-4 c =
     let s4 = c .before .before .before .before in
     let s7 = s4 .before .before .before in
     let args = s7 .before .before .args in
-    page-turn Second.Coarse (args .m) Kind.Tiny (s4 .enum-told4 .given .1) (args .out .now) _ (args .at) (s7 .word-in .result) _ 0 (s7 .word-in .ensures) (s4 .before .before .page-word .ensures) refl (c .before .before .write-run4 .ensures)
+    let at = s7 .word-in in
+    let word = s4 .before .before .page-word in
+    page-turn Second.Coarse (args .m) Kind.Tiny (s4 .enum-told4 .given .1) (args .out .now) _ (args .at) (at .result) _ 0 (at .ensures) (word .ensures) refl (c .before .before .write-run4 .ensures)
 
 pub write-coarse-spec : {M : Type 1} → statement M
 write-coarse-spec =

@@ -1,7 +1,5 @@
-use Rattle.tables.specs.Names.{lowBits}
 use Rattle.tables.proofs.Names.{arith, needs}
-use Rattle.page.proofs.Lower.{upper-le}
-use Rattle.page.proofs.Slot.{start-1024, typeOf-lt}
+use Rattle.page.proofs.Slot.{start-room, typeOf-lt}
 use Rattle.tables.proofs.words.page_word.Statement.{statement}
 use Rattle.tables.proofs.words.page_word.Tie as tie
 
@@ -14,7 +12,7 @@ mul-result c = search needs
 add-result : tie.Need-add-result
 add-result c =
     let m = c .before .before .before .args .m in
-    omega (arith, c .before .page-start .ensures, start-1024 (m .kind) (m .to .0), upper-le (lowBits (m .kind)) (m .to .0))
+    omega (arith, c .before .page-start .ensures, start-room (m .kind) (m .to .0) (omega arith))
 
 type-of-requires : tie.Need-type-of-requires
 type-of-requires c κs = search needs
@@ -22,7 +20,7 @@ type-of-requires c κs = search needs
 add-result-2 : tie.Need-add-result-2
 add-result-2 c =
     let m = c .before .before .before .before .args .m in
-    omega (arith, c .type-of .ensures, typeOf-lt (m .kind), c .before .before .page-start .ensures, start-1024 (m .kind) (m .to .0), upper-le (lowBits (m .kind)) (m .to .0))
+    omega (arith, c .type-of .ensures, typeOf-lt (m .kind), c .before .before .page-start .ensures, start-room (m .kind) (m .to .0) (omega arith))
 
 returns : tie.Need-returns
 returns c = search needs

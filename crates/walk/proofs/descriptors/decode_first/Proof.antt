@@ -1,6 +1,6 @@
 use Rattle.walk.specs.Names.{First, upper}
 use Rattle.walk.proofs.Names.{firstOf, sym, _∙_, ap, pick-yes, eq-eqb, needs}
-use Rattle.walk.proofs.Laws.{bits-01, bits-10, bits-11}
+use Rattle.page.proofs.Picks.{bits-01, bits-10, bits-11}
 use Rattle.walk.proofs.descriptors.decode_first.Statement.{statement}
 use Rattle.walk.proofs.descriptors.decode_first.Tie as tie
 

@@ -1,6 +1,7 @@
 use Rattle.walk.specs.Names.{Found, Table}
 use Rattle.walk.proofs.Names.{secondOf, sym, _∙_, ap, pick-yes, eq-eqb, needs}
-use Rattle.walk.proofs.Laws.{bits-01, bits-10, bits-11, coarse-none}
+use Rattle.page.proofs.Picks.{bits-01, bits-10, bits-11}
+use Rattle.walk.proofs.Laws.{coarse-none}
 use Rattle.walk.proofs.descriptors.decode_second.Statement.{statement}
 use Rattle.walk.proofs.descriptors.decode_second.Tie as tie
 
