@@ -58,6 +58,12 @@ int main(void) {
         return 1;
     }
     printf("image of %" PRIu64 " bytes\n", built);
+    printf("checked: %" PRIX64 "\n", nx_check(memory, sizeof memory, BASE));
+    uint64_t listed = nx_list(memory, sizeof memory, BASE, records, sizeof records);
+    for (uint64_t at = 0; at < listed; at += NX_RECORD_BYTES) {
+        const uint8_t *page = records + at;
+        printf("page %06" PRIX64 " to %08" PRIX64 ", type %d, access %d\n", get(page, 4), get(page + 4, 4), page[8], page[9]);
+    }
 
     put_call(calls, NX_WRITE, 0x1C, 0, BASE >> 16); /* base, high half; the low half is 0 in a fresh device */
     put_call(calls + 12, NX_WRITE, 0x08, 0, 7);     /* control: walking, on, no reset */

@@ -67,6 +67,21 @@ extern "C" {
  * (0 for refusal 4); then `memory` is unchanged. Bytes after the image stay. */
 uint64_t nx_build(const uint8_t *records, size_t records_len, uint32_t base, uint8_t *memory, size_t memory_len);
 
+/* Checks the image that `memory`, at `base`, holds, whoever built it: the first-level table stands at the start.
+ * Gives 0 where the first-level table and every table that it points at lie inside, and each large or small word stands equal
+ * over its whole aligned group (16 or 1 words of a coarse table, 64 or 4 of a fine one); or 2^63 + number * 2^32 + address:
+ * 4 (0) for a base that is no multiple of 128, a length that is no multiple of 4 or over 131,072, an end over 2^32; 17 for a
+ * table that is not wholly inside, by the address of the first-level word that names it (by `base` where the first level
+ * itself has no room); 18 for a large or small word whose group is not all equal, by its address. It is the first such word,
+ * in first-level order and then by index. */
+uint64_t nx_check(const uint8_t *memory, size_t memory_len, uint32_t base);
+
+/* Lists the pages of an image that nx_check accepts, in rising virtual order, one record for each, as nx_build takes them but
+ * with an access of 0 or 1 where a page permits nothing. Gives the bytes written to `out`; later bytes stay. Or gives a
+ * refusal, `out` unchanged: those of nx_check, then 12 with the number of pages where `out` is too short for them. */
+#define NX_MOST_PAGES 16384
+uint64_t nx_list(const uint8_t *memory, size_t memory_len, uint32_t base, uint8_t *out, size_t out_len);
+
 /* Runs the calls in order from a fresh device, fresh meters and a fresh bill, each with these two memories and prices. Writes
  * an answer for each call and then the state to `out`, and gives the number of bytes written; or 0, `out` unchanged, where
  * `calls_len` is no multiple of 12, a call is not as said, a price's kind is over 1, or `out` is too short. */

@@ -2,8 +2,9 @@
 
 use crate::memory::Place;
 
-/// Refusals 1 to 12. A refused call changes nothing at all. They and the faults
-/// are as wide as an address: every outcome then has one layout, quick to hand over.
+/// Refusals 1 to 12, and 17 and 18 (P4). A refused call changes nothing at all.
+/// They and the faults are as wide as an address: every outcome then has one
+/// layout, quick to hand over.
 #[derive(Clone, Copy, PartialEq, Eq, Debug)]
 #[repr(u32)]
 pub enum Refusal {
@@ -29,8 +30,27 @@ pub enum Refusal {
     Record = 10,
     /// A record that overlaps an earlier one.
     Overlap = 11,
-    /// An image longer than the memory.
+    /// An image longer than the memory, or a list of pages longer than its room.
     Room = 12,
+    /// A table that does not lie wholly inside the memory.
+    Outside = 17,
+    /// A large or small word whose group differs.
+    Unequal = 18,
+}
+
+/// A refusal that names something: the index of a record, a count, the address of a word;
+/// refusal 4 names nothing, which is 0.
+#[derive(Clone, Copy, PartialEq, Eq, Debug)]
+pub struct Refused {
+    pub refusal: Refusal,
+    pub at: u32,
+}
+
+impl Refused {
+    /// As it crosses the boundary: 2^63 + number * 2^32 + what it names.
+    pub const fn number(self) -> u64 {
+        1 << 63 | (self.refusal as u64) << 32 | self.at as u64
+    }
 }
 
 /// Faults 21 to 24. They are answers, and leave a pending fault behind.
@@ -150,6 +170,9 @@ mod tests {
     fn numbers_of_the_paper() {
         assert_eq!(Answer::Refused(Refusal::Address).number(), 1);
         assert_eq!(Answer::Refused(Refusal::Room).number(), 12);
+        let outside = Refused { refusal: Refusal::Outside, at: 0xFFFF_FFFC };
+        assert_eq!(outside.number(), 0x8000_0011_FFFF_FFFC);
+        assert_eq!(Refused { refusal: Refusal::Unequal, at: 4 }.number(), 0x8000_0012_0000_0004);
         assert_eq!(Answer::Faulted(Fault::Translation).number(), 21);
         assert_eq!(Answer::Faulted(Fault::Prefetch).number(), 24);
         assert_eq!(Answer::Physical(0xFFFF_FFFF).value(), 0xFFFF_FFFF);

@@ -1,9 +1,10 @@
-//! The byte boundary: build, run, from and fetch over byte slices. All numbers
-//! are little-endian.
+//! The byte boundary: build, run, from, fetch, check and list over byte slices. All
+//! numbers are little-endian.
 
-use crate::answer::{Fault, Reply};
+use crate::answer::{Fault, Refused, Reply};
+use crate::audit;
 use crate::bill::{Bill, Price, Prices};
-use crate::builder::{self, Refused};
+use crate::builder;
 use crate::memory::{Memories, Place};
 use crate::meters::Meters;
 use crate::slots::SLOTS;
@@ -63,7 +64,7 @@ impl<'a> Lending<'a> {
 /// The bill's total and miss figure, which cross beside a state.
 pub type Figures = (f64, f64);
 
-/// The four functions of the boundary, of whichever program.
+/// The functions of the boundary, of whichever program.
 pub trait Program {
     fn name(&self) -> &'static str;
 
@@ -81,6 +82,10 @@ pub trait Program {
     ) -> u64;
 
     fn fetch(&self, lending: &Lending, address: u32) -> u64;
+
+    fn check(&self, memory: &[u8], base: u32) -> u64;
+
+    fn list(&self, memory: &[u8], base: u32, out: &mut [u8]) -> u64;
 }
 
 /// This program.
@@ -114,14 +119,35 @@ impl Program for Second {
     fn fetch(&self, lending: &Lending, address: u32) -> u64 {
         fetch(lending, address)
     }
+
+    fn check(&self, memory: &[u8], base: u32) -> u64 {
+        check(memory, base)
+    }
+
+    fn list(&self, memory: &[u8], base: u32, out: &mut [u8]) -> u64 {
+        list(memory, base, out)
+    }
 }
 
 /// The image's length; or 2^63 + number * 2^32 + index or count.
 pub fn build(records: &[u8], base: u32, memory: &mut [u8]) -> u64 {
-    match builder::build(records, base, memory) {
-        Ok(length) => length as u64,
-        Err(Refused { refusal, at }) => 1 << 63 | (refusal as u64) << 32 | u64::from(at),
-    }
+    length_or_refusal(builder::build(records, base, memory))
+}
+
+/// 0 where an image is accepted; or 2^63 + number * 2^32 + the address of a word.
+pub fn check(memory: &[u8], base: u32) -> u64 {
+    length_or_refusal(audit::check(memory, base).map(|()| 0))
+}
+
+/// Bytes of records; or 2^63 + number * 2^32 + the address of a word or the number of
+/// pages.
+pub fn list(memory: &[u8], base: u32, out: &mut [u8]) -> u64 {
+    length_or_refusal(audit::list(memory, base, out))
+}
+
+/// A length, or the number of a refusal.
+fn length_or_refusal(result: Result<usize, Refused>) -> u64 {
+    result.map_or_else(Refused::number, |length| length as u64)
 }
 
 /// Memory * 2^60 + offset * 2^32 + word; 0 where the four bytes are nowhere.

@@ -217,3 +217,25 @@ fn builds_as_numbers() {
     assert_eq!(build(&[0], 0, &mut [1; 64]), 1 << 63 | 10 << 32);
     assert_eq!(build(&[], 0, &mut [1; 60]), 1 << 63 | 12 << 32);
 }
+
+#[test]
+fn audits_as_numbers() {
+    // A section for megabyte 1, without access.
+    let mut memory = [0; 64];
+    memory[4..8].copy_from_slice(&0x5550_0002_u32.to_le_bytes());
+    assert_eq!(check(&memory, 0x80), 0);
+    let mut out = [0xAA; 13];
+    assert_eq!(list(&memory, 0x80, &mut out), 12);
+    assert_eq!(out, [0, 0, 0x10, 0, 0, 0, 0x50, 0x55, 0, 0, 0, 0, 0xAA]);
+    assert_eq!(list(&memory, 0x80, &mut out[..11]), 1 << 63 | 12 << 32 | 1);
+    assert_eq!(check(&memory, 0x40), 1 << 63 | 4 << 32);
+    assert_eq!(check(&memory[4..], 0xFFFF_FF80), 1 << 63 | 17 << 32 | 0xFFFF_FF80);
+    memory[60] = 1;
+    assert_eq!(check(&memory, 0x80), 1 << 63 | 17 << 32 | 0xBC);
+    assert_eq!(list(&memory, 0x80, &mut out), 1 << 63 | 17 << 32 | 0xBC);
+    // One large word in a coarse table at 400.
+    let mut memory = [0; 0x400];
+    memory[..4].copy_from_slice(&0x0000_0402_u32.to_le_bytes());
+    memory[8..12].copy_from_slice(&0x0000_0401_u32.to_le_bytes());
+    assert_eq!(check(&memory, 0x400), 1 << 63 | 18 << 32 | 0x408);
+}

@@ -1,6 +1,6 @@
 //! "The builder": from a list of records to an image of address tables.
 
-use crate::answer::Refusal;
+use crate::answer::{Refusal, Refused};
 use crate::memory;
 use crate::walk::Kind;
 
@@ -13,14 +13,6 @@ const MEGABYTES: usize = 16;
 const FIRST_LEVEL: usize = 64;
 const COARSE: usize = 1_024;
 const FINE: usize = 4_096;
-
-/// A refusal of the builder: 4 with 0, 10 and 11 with a record's index, 12
-/// with the count of records.
-#[derive(Clone, Copy, PartialEq, Eq, Debug)]
-pub struct Refused {
-    pub refusal: Refusal,
-    pub at: u32,
-}
 
 /// One good record.
 #[derive(Clone, Copy)]
@@ -157,8 +149,9 @@ fn survey(records: &[u8]) -> Result<Tables, Refused> {
 }
 
 /// Builds the image of a list of records for a memory with a physical base.
-/// Gives the image's length. A refusal leaves the memory as it was; bytes after
-/// the image stay in any case.
+/// Gives the image's length. Refused 4 with 0, 10 and 11 with a record's index, 12 with
+/// the count of records. A refusal leaves the memory as it was; bytes after the image
+/// stay in any case.
 pub fn build(records: &[u8], base: u32, memory: &mut [u8]) -> Result<usize, Refused> {
     if !base.is_multiple_of(FINE as u32) || !memory::lawful(base, memory.len()) {
         return Err(Refused { refusal: Refusal::Memory, at: 0 });

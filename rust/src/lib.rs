@@ -4,9 +4,10 @@
 //!
 //! It is an oracle for differential tests and a yardstick for speed. Section
 //! names in the comments are those of paper 01; tables are those of source 000;
-//! P5 and P6 are requests of paper 02.
+//! P3 to P6 are requests of paper 02.
 
 pub mod answer;
+pub mod audit;
 pub mod bill;
 pub mod boundary;
 pub mod builder;

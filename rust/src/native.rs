@@ -94,6 +94,16 @@ mod c {
             external_base: u32,
             address: u32,
         ) -> u64;
+
+        pub fn nx_check(memory: *const u8, memory_len: usize, base: u32) -> u64;
+
+        pub fn nx_list(
+            memory: *const u8,
+            memory_len: usize,
+            base: u32,
+            out: *mut u8,
+            out_len: usize,
+        ) -> u64;
     }
 }
 
@@ -182,6 +192,14 @@ impl Program for Native {
             )
         }
     }
+
+    fn check(&self, memory: &[u8], base: u32) -> u64 {
+        unsafe { c::nx_check(memory.as_ptr(), memory.len(), base) }
+    }
+
+    fn list(&self, memory: &[u8], base: u32, out: &mut [u8]) -> u64 {
+        unsafe { c::nx_list(memory.as_ptr(), memory.len(), base, out.as_mut_ptr(), out.len()) }
+    }
 }
 
 #[cfg(not(native))]
@@ -203,6 +221,14 @@ impl Program for Native {
     }
 
     fn fetch(&self, _: &Lending, _: u32) -> u64 {
+        match self.0 {}
+    }
+
+    fn check(&self, _: &[u8], _: u32) -> u64 {
+        match self.0 {}
+    }
+
+    fn list(&self, _: &[u8], _: u32, _: &mut [u8]) -> u64 {
         match self.0 {}
     }
 }

@@ -111,12 +111,8 @@ pub fn walk(memories: &Memories, base: u32, address: u32) -> Option<Walk> {
             };
             Some(Walk { before: Some(first), last: Read { place, physical: at }, page })
         }
-        // A section: base 31:20, access 11:10.
-        2 => {
-            let frame = word & 0xFFF0_0000;
-            let page = Page { kind: Kind::Section, frame, access: (word >> 10 & 3) as u8 };
-            Some(Walk { before: None, last: first, page: Some(page) })
-        }
+        // A section ends the walk.
+        2 => Some(Walk { before: None, last: first, page: Some(section(word)) }),
         // A fine table holds pages of all three kinds (P3).
         _ => {
             let at = (word & 0xFFFF_F000) + (address >> 10 & 0x3FF) * 4;
@@ -132,9 +128,16 @@ pub fn walk(memories: &Memories, base: u32, address: u32) -> Option<Walk> {
     }
 }
 
+/// The section of a first-level word: base 31:20, access 11:10.
+#[inline]
+pub(crate) fn section(word: u32) -> Page {
+    let frame = word & !Kind::Section.within();
+    Page { kind: Kind::Section, frame, access: (word >> 10 & 3) as u8 }
+}
+
 /// The page of a second-level word (Table 2): access in 5:4.
 #[inline]
-fn second_level(kind: Kind, word: u32) -> Page {
+pub(crate) fn second_level(kind: Kind, word: u32) -> Page {
     Page { kind, frame: word & !kind.within(), access: (word >> 4 & 3) as u8 }
 }
 

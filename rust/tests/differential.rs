@@ -168,11 +168,6 @@ impl Build<'_> {
     }
 }
 
-/// The builder's answer where it refuses.
-const fn refused(number: u64, at: u64) -> u64 {
-    1 << 63 | number << 32 | at
-}
-
 // ---------------------------------------------------------------------------
 // The tests
 

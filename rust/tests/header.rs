@@ -14,6 +14,10 @@ use std::process::Command;
 
 const EXPECTED: &str = "\
 image of 8192 bytes
+checked: 0
+page 010000 to 10020000, type 1, access 3
+page 300000 to 11200000, type 0, access 2
+page 500400 to 10000C00, type 3, access 3
 call 0: 0 0
 call 1: 0 0
 call 2: 100 10022345, from on-chip offset 448
@@ -63,4 +67,5 @@ fn limit_of_records() {
     };
     assert_eq!(figure("NX_MOST_RECORDS"), MOST_RECORDS);
     assert_eq!(figure("NX_MOST_RECORDS") * figure("NX_RECORD_BYTES"), MOST_BYTES);
+    assert_eq!(figure("NX_MOST_PAGES"), 16 * 1_024);
 }

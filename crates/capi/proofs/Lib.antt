@@ -1,3 +1,4 @@
 pub mod Names
 pub mod Indices
 pub mod Fetched
+pub mod Counts

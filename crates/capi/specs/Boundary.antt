@@ -1,7 +1,7 @@
 -- What each function of the boundary answers and leaves in the lent bytes.
 use Rattle.capi.specs.Names.{runWith, ℕ, List, pick, Lent, placeIn, fetchedIn, wordOf, Prices, buildOf, freshBench, Float, isState}
-use Rattle.capi.specs.Names.{benchIn, lockIn, Ran, ran}
-use Rattle.capi.specs.Numbers.{placeNumber, builtWord}
+use Rattle.capi.specs.Names.{benchIn, lockIn, Ran, ran, megabytes, listOf}
+use Rattle.capi.specs.Numbers.{placeNumber, builtWord, inventoryWord}
 
 -- a run from a fresh bench
 abbrev pub runOf : Lent → Prices → ℕ → ℕ → List ℕ → List ℕ → Ran
@@ -19,3 +19,7 @@ fetchOf m a = placeNumber (placeIn m a) (wordOf (fetchedIn m a))
 -- a build's answer in one number, and the memory after it
 unfoldable pub buildRan : List ℕ → ℕ → List ℕ → Ran
 buildRan records base memory = ran (builtWord (buildOf records base memory .answer)) (buildOf records base memory .memory)
+
+-- an image's pages: the answer in one number, and the lent list after it
+unfoldable pub listRan : List ℕ → ℕ → List ℕ → Ran
+listRan memory base out = ran (inventoryWord (listOf megabytes memory base out .answer)) (listOf megabytes memory base out .records)

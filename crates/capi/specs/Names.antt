@@ -1,5 +1,11 @@
 -- What the definitions of this crate are written with.
 pub use lib.Ieee.{Float}
+unfoldable pub use Rattle.audit.specs.Check.{checkOf}
+pub use Rattle.audit.specs.Check.{verdictNumber, verdictValue}
+unfoldable pub use Rattle.audit.specs.List.{listOf}
+pub use Rattle.audit.specs.List.{inventoryNumber, inventoryValue}
+pub use Rattle.audit.specs.declared.Inventory.{Inventory}
+pub use Rattle.audit.specs.declared.Verdict.{Verdict}
 unfoldable pub use Rattle.builder.specs.Build.{buildOf}
 pub use Rattle.builder.specs.Build.{builtNumber, builtValue}
 pub use Rattle.builder.specs.declared.Built.{Built}
@@ -8,6 +14,7 @@ unfoldable pub use Rattle.memory.specs.Memory.{placeIn}
 pub use Rattle.memory.specs.declared.Place.{Place}
 pub use Rattle.page.specs.Ground.{List, _%_, _*_, _+_, _^_, _≡_, _≤_, length, ℕ}
 unfoldable pub use Rattle.page.specs.Pick.{pick}
+pub use Rattle.page.specs.Words.{megabytes}
 pub use Rattle.prices.specs.declared.Prices.{Prices}
 pub use Rattle.run.specs.Answers.{cutPlace, placeCode}
 pub use Rattle.run.specs.Run.{Ran, ran}

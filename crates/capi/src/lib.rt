@@ -3,8 +3,9 @@ mod numbers;
 
 use page::PhysicalAddress;
 use session::Bench;
-ghost use Rattle.capi.specs.Names.{_≡_, lent, pricesOf, ran};
-ghost use Rattle.capi.specs.Boundary.{runOf, fromOf, fetchOf, buildRan};
+ghost use Rattle.capi.specs.Names.{_≡_, megabytes, lent, pricesOf, ran, checkOf};
+ghost use Rattle.capi.specs.Boundary.{runOf, fromOf, fetchOf, buildRan, listRan};
+ghost use Rattle.capi.specs.Numbers.{verdictWord};
 
 // Builds the tables of a list in a memory.
 #[no_mangle]
@@ -12,6 +13,22 @@ pub extern "C" fn nx_build(records: &[u8], base: u32, memory: &mut [u8]) -> u64
     ensures { λ r. ⌜ ran r (now (memory .exit)) ≡ buildRan (now (records .entry)) base (now (memory .entry)) ⌝ }
 {
     numbers::built_number(builder::build(records, PhysicalAddress(base), memory))
+}
+
+// Checks the image that a memory holds.
+#[no_mangle]
+pub extern "C" fn nx_check(memory: &[u8], base: u32) -> u64
+    ensures { λ r. ⌜ r ≡ verdictWord (checkOf megabytes (now (memory .entry)) base) ⌝ }
+{
+    numbers::verdict_number(audit::check(memory, PhysicalAddress(base)))
+}
+
+// Lists the pages of the image that a memory holds.
+#[no_mangle]
+pub extern "C" fn nx_list(memory: &[u8], base: u32, out: &mut [u8]) -> u64
+    ensures { λ r. ⌜ ran r (now (out .exit)) ≡ listRan (now (memory .entry)) base (now (out .entry)) ⌝ }
+{
+    numbers::inventory_number(audit::list(memory, PhysicalAddress(base), out))
 }
 
 // Runs calls from a fresh bench.

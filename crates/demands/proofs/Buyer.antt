@@ -1,6 +1,6 @@
 -- Demand 3 in the buyer's order, and a session with list A. Assumes nothing.
 use Rattle.demands.specs.Demands.Names.{_≡_, Bool, true, List, [], _∷_, _++_, ℕ, zero, suc, _<_, ltb, length, drop, replicate, Access, virtual}
-use Rattle.demands.specs.Demands.Names.{megabytes, Lent, lentOk, mappings, meaning, imageLength, image, Built, roomOk, answerOf, buildOf}
+use Rattle.demands.specs.Demands.Names.{megabytes, Lent, LentAt, lentOk, mappings, meaning, imageLength, image, Built, roomOk, answerOf, buildOf}
 use Rattle.demands.specs.Demands.Names.{moneyOk, freshBill, Answer, BilledCall, after, Admitted, Standing, Bytes, recordsA, baseA, Device}
 use Rattle.demands.proofs.Names.{refl, sym, _∙_, ap, ap₂, subst, inl, inr, arith, pick, byteOf, holder, image-length-is, accepted}
 use Rattle.demands.proofs.Names.{leaves-image, meantAs, ValuesFit, Session}
@@ -14,8 +14,9 @@ use borrow.Author.Tests.{ltb-true}
 use Rattle.page.specs.Pick.{_and_, _or_}
 use Rattle.page.specs.Low.{upper, joined}
 use Rattle.page.specs.Words.{kindOf}
-use Rattle.page.proofs.Picks.{and-yes, and-left, and-right}
-use Rattle.memory.specs.Memory.{memoryOk, apart, memoriesOk}
+use Rattle.page.proofs.Picks.{and-left, and-right}
+use Rattle.memory.specs.Memory.{memoriesOk}
+use Rattle.memory.proofs.Places.{none-beside}
 use Rattle.wire.specs.Words.{wordOf, wordBytes}
 use Rattle.records.specs.Mappings.{mappingsFrom, mappingOf, holds}
 use Rattle.wire.specs.Spliced.{bytesBy}
@@ -23,14 +24,14 @@ use Rattle.prices.specs.Prices.{figureOk, every}
 use Rattle.translates.specs.Statements.{Has}
 use Rattle.translates.proofs.Theorems.{bytes-drop, built-has}
 use Rattle.translates.proofs.Samples.{accepts-a}
-use Rattle.demands.specs.Buyer.{LentAt, BuiltThenCalled, builtIn, BuiltSession, roomA, pricesA, memoryA, deviceA, callsA, byteA, Exhibited}
+use Rattle.demands.specs.Buyer.{BuiltThenCalled, builtIn, BuiltSession, roomA, pricesA, memoryA, deviceA, callsA, byteA, Exhibited}
 use Rattle.demands.proofs.Lists.{start-is}
 use Rattle.demands.proofs.Proved.{demand-3}
 use Rattle.demands.proofs.Answering.{requests-answered}
 
 -- a memory that was built in has the image, wherever it is lent
 module _ (rs : List ℕ) (base len : ℕ) (before : List ℕ) where
-  answer-is : buildOf rs base before .answer ≡ Built.Length len → answerOf rs base (length before) ≡ Built.Length len
+  pub answer-is : buildOf rs base before .answer ≡ Built.Length len → answerOf rs base (length before) ≡ Built.Length len
   unfolding buildOf
   answer-is e = e
 
@@ -39,12 +40,12 @@ module _ (rs : List ℕ) (base len : ℕ) (before : List ℕ) where
       subst (λ (x : ℕ). Has l x base (image megabytes (mappings rs) base)) (sym f)
       (subst (λ (x : List ℕ). Has x base base (image megabytes (mappings rs) base)) (sym e) (built-has rs base len before h))
 
-  stands : (m : Lent) → LentAt (buildOf rs base before .memory) base m → answerOf rs base (length before) ≡ Built.Length len → Standing m base (image megabytes (mappings rs) base)
+  pub stands : (m : Lent) → LentAt (buildOf rs base before .memory) base m → answerOf rs base (length before) ≡ Built.Length len → Standing m base (image megabytes (mappings rs) base)
   stands m (inl l) h = inl (stands-at (m .on) (m .onbase) (l .0) (l .1) h)
   stands m (inr l) h = inr (stands-at (m .ext) (m .extbase) (l .0) (l .1) h)
 
 -- and it is lent by `builtIn`
-is-lent : (rs : List ℕ) (base : ℕ) (before : List ℕ) → LentAt (buildOf rs base before .memory) base (builtIn rs base before)
+pub is-lent : (rs : List ℕ) (base : ℕ) (before : List ℕ) → LentAt (buildOf rs base before .memory) base (builtIn rs base before)
 is-lent rs base before = inr (refl, refl)
 
 pub built-then-called : BuiltThenCalled
@@ -52,7 +53,7 @@ built-then-called rs base len before m v p b₀ cs b c va a r bytes e l =
     demand-3 rs base (length before) len m v p b₀ cs b c va a r bytes (answer-is rs base len before e) (stands rs base len before m l (answer-is rs base len before e))
 
 -- bytes
-bytes-append : (xs ys : List ℕ) → Bytes xs → Bytes ys → Bytes (xs ++ ys)
+pub bytes-append : (xs ys : List ℕ) → Bytes xs → Bytes ys → Bytes (xs ++ ys)
 bytes-append xs ys f g i = elim (decLe (length xs) i) [
   | yes h ↦
       let s : i ≡ length xs + (i - length xs) = omega arith in
@@ -60,7 +61,7 @@ bytes-append xs ys f g i = elim (decLe (length xs) i) [
   | no h ↦ subst (λ (x : ℕ). x < 256) (sym (List·getD-append xs ys 0 i (omega arith))) (f i)
 ]
 
-word-bytes : (w : ℕ) → Bytes (wordBytes w)
+pub word-bytes : (w : ℕ) → Bytes (wordBytes w)
 word-bytes w zero = omega arith
 word-bytes w (suc zero) = omega arith
 word-bytes w (suc (suc zero)) = omega arith
@@ -87,25 +88,12 @@ bytes-below [] h i = omega arith
 bytes-below (x ∷ xs) h zero = ltb-true x 256 (and-left _ _ h)
 bytes-below (x ∷ xs) h (suc i) = bytes-below xs (and-right (ltb x 256) _ h) i
 
--- an empty memory may be lent beside any
-none-ok : memoryOk 0 0 ≡ true
-unfolding memoryOk _and_
-none-ok = refl
-
-none-apart : (base n : ℕ) → apart 0 0 base n ≡ true
-unfolding apart _or_
-none-apart base n = refl
-
-none-beside : (base n : ℕ) → memoryOk base n ≡ true → memoriesOk 0 0 base n ≡ true
-unfolding memoriesOk
-none-beside base n h = and-yes _ _ none-ok ∙ and-yes _ _ h ∙ none-apart base n
-
 -- an accepted build leaves as many bytes as there were, and bytes where there were bytes
 module _ (rs : List ℕ) (base len : ℕ) (before : List ℕ) (e : answerOf rs base (length before) ≡ Built.Length len) where
   abbrev img : List ℕ
   img = image megabytes (mappings rs) base
 
-  built-length : length (buildOf rs base before .memory) ≡ length before
+  pub built-length : length (buildOf rs base before .memory) ≡ length before
   built-length =
       let a = accepted rs base (length before) len e in
       ap length (leaves-image rs base len before e)
@@ -119,7 +107,7 @@ module _ (rs : List ℕ) (base len : ℕ) (before : List ℕ) (e : answerOf rs b
       subst Bytes (sym (leaves-image rs base len before e))
       (bytes-append img (drop len before) (bytes-of _ (imageLength megabytes (mappings rs) / 4)) (bytes-drop len before h))
 
-  built-lent : lentOk (builtIn rs base before) ≡ true
+  pub built-lent : lentOk (builtIn rs base before) ≡ true
   unfolding roomOk
   built-lent =
       let a = accepted rs base (length before) len e in

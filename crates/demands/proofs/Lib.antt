@@ -4,4 +4,5 @@ pub mod Building
 pub mod Proved
 pub mod Answering
 pub mod Buyer
+pub mod Foreign
 pub mod Signed

@@ -4,6 +4,7 @@ use Rattle.demands.specs.Signed.{Signed}
 use Rattle.demands.proofs.Proved.{demand-1, demand-2, demand-3}
 use Rattle.demands.proofs.Answering.{requests-answered, retries-answered}
 use Rattle.demands.proofs.Buyer.{built-then-called, built-session, exhibited}
+use Rattle.demands.proofs.Foreign.{foreign}
 
 pub signed : Signed
 signed = record {
@@ -16,4 +17,5 @@ signed = record {
   built = built-then-called;
   sessions = built-session;
   exhibited = exhibited;
+  foreign = foreign;
 }

@@ -1,14 +1,10 @@
 -- Demand 3 in the buyer's order: build a list into a memory, lend that memory, start, call. And a session with list A.
-use Rattle.demands.specs.Demands.Names.{lockAt, virtual, physical, ℕ, _≡_, false, List, [], _∷_, replicate, PhysicalAddress, Lent, lent, f1}
+use Rattle.demands.specs.Demands.Names.{lockAt, virtual, physical, ℕ, _≡_, false, List, [], _∷_, replicate, PhysicalAddress, Lent, LentAt, lentAlone, f1}
 use Rattle.demands.specs.Demands.Names.{freshBill, mappings, meaning, Built, buildOf, Price, isRefusal, Access, VirtualAddress, Bill, Prices}
 use Rattle.demands.specs.Demands.Names.{Answer, Device, prefetchAt, acknowledgeAt, requestOf, Call, request, write, read, drop-fault, Said}
-use Rattle.demands.specs.Demands.Names.{step, BilledCall, after, Admitted, asked, asks, TurnsOn, start, Bytes, recordsA, baseA, _⊎_}
+use Rattle.demands.specs.Demands.Names.{step, BilledCall, after, Admitted, asked, asks, TurnsOn, start, Bytes, recordsA, baseA}
 use Rattle.demands.specs.Demands.{AsList}
 use Rattle.demands.specs.Answering.{ValuesFit, Session}
-
--- bytes are lent at a base, as the on-chip or the external memory
-abbrev pub LentAt : List ℕ → ℕ → Lent → Type 0
-LentAt bytes base m = ((m .on ≡ bytes) × (m .onbase ≡ base)) ⊎ ((m .ext ≡ bytes) × (m .extbase ≡ base))
 
 -- a list is built into a memory, that memory is lent at the list's base, the unit is started from it and called: each request or
 -- retry that is not refused answers as the list alone would
@@ -25,10 +21,6 @@ BuiltThenCalled =
     step m (after m (start m base v p b₀) cs) b c .said ≡ Said.Answered r →
     isRefusal r ≡ false →
     AsList r (meaning (mappings rs) va a)
-
--- bytes lent as the external memory, beside an empty on-chip one
-abbrev pub lentAlone : List ℕ → ℕ → Lent
-lentAlone bytes base = lent [] 0 bytes base
 
 -- what a build leaves in a memory, so lent
 abbrev pub builtIn : List ℕ → ℕ → List ℕ → Lent

@@ -1,8 +1,9 @@
--- All that the buyer signs: the three demands, and what keeps the third from being hollow.
+-- All that the buyer signs: the three demands, what keeps the third from being hollow, and images that were not built here.
 use Rattle.demands.specs.Demands.Names.{StartedInAnyOrder}
 use Rattle.demands.specs.Demands.{Demand1, Demand2, Demand3}
 use Rattle.demands.specs.Answering.{RequestsAnswered, RetriesAnswered}
 use Rattle.demands.specs.Buyer.{BuiltThenCalled, BuiltSession, Exhibited}
+use Rattle.demands.specs.Foreign.{Foreign}
 
 pub record Signed : Type 0 where
   pub first : Demand1
@@ -14,3 +15,4 @@ pub record Signed : Type 0 where
   pub built : BuiltThenCalled
   pub sessions : BuiltSession
   pub exhibited : Exhibited
+  pub foreign : Foreign

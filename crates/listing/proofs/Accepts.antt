@@ -8,7 +8,7 @@ use Rattle.listing.proofs.Names.{recordOf, pasted, Reading, reading, by
 use lib.Seq.{take-append-le, drop-append-le}
 use Rattle.records.specs.Refusals.{bad, overlapping, checkedFrom, begun}
 use Rattle.listing.specs.Theorems.{NeverBad}
-use Rattle.listing.proofs.Pastes.{pasted-length}
+use Rattle.wire.proofs.Pastes.{pasted-length}
 use Rattle.listing.proofs.Sound.{SoundSaid, sound-said, Sound, record-formed}
 
 -- a record that lies in the front of a memory

@@ -13,7 +13,7 @@ use lib.Seq.{take-add, take-all, getD-take, getD-drop, ext-getD, getD-set-other,
 use Rattle.wire.specs.Words.{littleEndian}
 use Rattle.listing.specs.Theorems.{ReadAgain}
 use Rattle.listing.proofs.Turns.{behind, lines-first}
-use Rattle.listing.proofs.Pastes.{pasted-none, pasted-then, pasted-length}
+use Rattle.wire.proofs.Pastes.{pasted-none, pasted-then, pasted-length}
 use Rattle.listing.proofs.Columns.{mappings-count, printed-length}
 use Rattle.listing.proofs.Reread.{bare, High, in-bare, said-bare}
 use Rattle.listing.proofs.Spelling.{In, run-append}

@@ -8,7 +8,8 @@ use Rattle.records.specs.Mappings.{noMapping}
 use Rattle.listing.specs.Prints.{accessColumn, Printing, printing}
 use Rattle.wire.specs.Words.{Shown}
 use Rattle.listing.specs.Theorems.{PrintedWithin}
-use Rattle.listing.proofs.Pastes.{pasted-none, followed}
+use Rattle.listing.proofs.Pastes.{followed}
+use Rattle.wire.proofs.Pastes.{pasted-none}
 
 pub kind-length : (k : Kind) → length (kindColumn k) ≡ 8
 kind-length Kind.Section = refl

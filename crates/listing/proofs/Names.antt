@@ -21,11 +21,11 @@ pub use Rattle.listing.specs.Prints.{hexColumn, kindColumn, shownAt}
 pub use Rattle.wire.specs.Words.{shown}
 unfoldable pub use Rattle.listing.specs.Purposes.{commentOf, purposeOf, solidTo, startOf}
 pub use Rattle.listing.specs.Texts.{Reading, bySaid, longestText, reading}
-unfoldable pub use Rattle.listing.specs.Texts.{linesOf, readLines, readText, recordOf}
+unfoldable pub use Rattle.listing.specs.Texts.{linesOf, readLines, readText}
 unfoldable pub use Rattle.wire.specs.Words.{pasted, wordOf}
 unfoldable pub use Rattle.listing.specs.Words.{accessNamed, belongs, blank, kindNamed, rest, runLength, sameBytes, word}
 pub use Rattle.listing.specs.Words.{unindented}
 pub use Rattle.page.proofs.Picks.{and-left, and-no, and-right, and-yes, or-no, or-yes, pick-by, pick-no, pick-yes}
 unfoldable pub use Rattle.page.specs.Words.{kindOf}
 unfoldable pub use Rattle.records.specs.Checks.{proper}
-unfoldable pub use Rattle.records.specs.Mappings.{mappingOf, mappingsFrom}
+unfoldable pub use Rattle.records.specs.Mappings.{mappingOf, mappingsFrom, recordOf}

@@ -1,11 +1,12 @@
 -- A mapping that a line says is proper, and its record is well-formed. Assumes nothing.
-use Rattle.listing.specs.Names.{_≡_, Bool, true, false, List, ℕ, _+_, _*_, _/_, _%_, _<_, eqb, ltb, pick, _and_, _or_, megabytes, limit, typeOf}
+use Rattle.listing.specs.Names.{_≡_, Bool, true, false, List, ℕ, _<_, eqb, ltb, _and_, _or_, megabytes, limit, typeOf}
 use Rattle.listing.specs.Names.{Kind, Mapping, multiple, wellFormed, Number, Named, Address, Said}
-use Rattle.listing.proofs.Names.{refl, sym, ap, _∙_, arith, mod-eq-of-lt, lt-ltb, leb-false, eqb-true, kindOf, pick-by, and-yes, and-right}
-use Rattle.listing.proofs.Names.{or-no, wordOf, mappingOf, proper, end, hexNumber, word, rest, kindNamed, accessNamed, addressBy, addressIn}
+use Rattle.listing.proofs.Names.{refl, sym, ap, _∙_, arith, lt-ltb, leb-false, eqb-true, pick-by, and-yes, and-right}
+use Rattle.listing.proofs.Names.{or-no, proper, end, hexNumber, word, rest, kindNamed, accessNamed, addressBy, addressIn}
 use Rattle.listing.proofs.Names.{mapping, lineEnded, fromAccess, afterPhysical, fromPhysical, afterVirtual, fromVirtual, afterKind, fromKind}
 use Rattle.listing.proofs.Names.{uncommented, body, parsed, recordOf}
 use borrow.Author.Tests.{eqb-false}
+use Rattle.records.proofs.Records.{record-says}
 
 -- an address that is read lies below its end and is a multiple of the page's size
 abbrev Stands : ℕ → Kind → Address → Type 0
@@ -90,23 +91,7 @@ pub sound-said : (l : List ℕ) → SoundSaid (parsed l)
 unfolding parsed
 sound-said l = pick-by SoundSaid _ _ _ (λ _. tt) (λ _. sound-line (uncommented (body l)))
 
--- a sound mapping's record says it
-word-of-bytes : (x : ℕ) → x < end → x % 256 + 256 * (x / 256 % 256) + 65536 * (x / 65536 % 256) + 16777216 * (x / 16777216 % 256) ≡ x
-word-of-bytes x h =
-    let a : x / 65536 ≡ x / 256 / 256 = omega arith in
-    let b : x / 16777216 ≡ x / 65536 / 256 = omega arith in
-    sum (x % 256) (x / 256 % 256) (x / 65536 % 256) (x / 16777216 % 256) (x / 256) (x / 65536) (x / 16777216) x (omega arith) (omega arith) (omega arith) (omega arith)
-  where
-    sum : (a b c d p q r x : ℕ) → a + 256 * p ≡ x → b + 256 * q ≡ p → c + 256 * r ≡ q → d ≡ r → a + 256 * b + 65536 * c + 16777216 * d ≡ x
-    sum a b c d p q r x e f g h = omega arith
-
-kind-of-type : (k : Kind) → kindOf (typeOf k) ≡ k
-unfolding kindOf pick
-kind-of-type Kind.Section = refl
-kind-of-type Kind.Large = refl
-kind-of-type Kind.Small = refl
-kind-of-type Kind.Tiny = refl
-
+-- a sound mapping's record is well-formed
 type-small : (k : Kind) → ltb (typeOf k) 4 ≡ true
 type-small Kind.Section = refl
 type-small Kind.Large = refl
@@ -124,12 +109,8 @@ access-small : (m : Mapping) → Sound m → m .access < 256
 unfolding proper
 access-small m s = two-or-three (m .access) (and-right _ _ (and-right _ _ (and-right _ _ (s .formed))))
 
-pub record-says : (m : Mapping) → Sound m → mappingOf (recordOf m) ≡ m
-unfolding mappingOf recordOf wordOf pick
-record-says m s =
-    rw (word-of-bytes (m .at .0) (omega (arith, s .virtual)), word-of-bytes (m .to .0) (s .physical), kind-of-type (m .kind), mod-eq-of-lt (access-small m s))
-
 pub record-formed : (m : Mapping) → Sound m → wellFormed megabytes (recordOf m) ≡ true
 unfolding wellFormed recordOf _and_
 record-formed m s =
-    and-yes _ _ (type-small (m .kind)) ∙ and-yes _ _ (ap (proper megabytes) (record-says m s) ∙ s .formed)
+    and-yes _ _ (type-small (m .kind)) ∙ and-yes _ _ (ap (proper megabytes)
+    (record-says m (record { virtual = omega (arith, s .virtual); physical = s .physical; access = access-small m s })) ∙ s .formed)

@@ -2,7 +2,8 @@
 use Rattle.listing.specs.Names.{ℕ, _*_, _≤_, _≡_, List, [], _∷_, _++_, length, set, Kind, Mapping, recordSize, most, Wrong, Listed}
 use Rattle.listing.specs.Lines.{mapping}
 use Rattle.listing.specs.Purposes.{span, purposeOf}
-use Rattle.listing.specs.Texts.{recordOf, reading, readText}
+use Rattle.listing.specs.Texts.{reading, readText}
+use Rattle.records.specs.Mappings.{recordOf}
 use Rattle.wire.specs.Words.{pasted}
 
 -- "# list A", a line feed

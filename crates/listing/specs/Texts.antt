@@ -1,8 +1,9 @@
 -- A text as lines, and its mappings as the builder's records (01, "The builder"), up to the first bad line.
-use Rattle.listing.specs.Names.{ℕ, suc, _*_, _%_, _≤_, List, [], _∷_, _++_, eqb, ltb, leb, length, set, pick, _or_, typeOf, Mapping, recordSize}
+use Rattle.listing.specs.Names.{ℕ, suc, _*_, _≤_, List, [], _∷_, eqb, ltb, leb, length, set, pick, _or_, Mapping, recordSize}
 use Rattle.listing.specs.Names.{most, Wrong, Said, Listed}
 use Rattle.listing.specs.Lines.{parsed}
-use Rattle.wire.specs.Words.{wordBytes, pasted}
+use Rattle.records.specs.Mappings.{recordOf}
+use Rattle.wire.specs.Words.{pasted}
 
 -- the most bytes of a text
 abbrev pub longestText : ℕ
@@ -17,10 +18,6 @@ onto x (l ∷ t) = (x ∷ l) ∷ t
 unfoldable pub linesOf : List ℕ → List (List ℕ)
 linesOf [] = [] ∷ []
 linesOf (x ∷ t) = pick (eqb x 10) ([] ∷ linesOf t) (onto x (linesOf t))
-
--- a mapping's record: virtual, physical, type, access, two zero bytes
-unfoldable pub recordOf : Mapping → List ℕ
-recordOf m = wordBytes (m .at .0) ++ (wordBytes (m .to .0) ++ (typeOf (m .kind) ∷ m .access % 256 ∷ 0 ∷ 0 ∷ []))
 
 -- what reading leaves: the answer, the memory of the records, and that of the line numbers
 pub record Reading : Type 0 where

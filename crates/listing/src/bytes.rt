@@ -2,7 +2,7 @@
 use page::Kind;
 use records::Mapping;
 ghost use Rattle.listing.specs.Names.{_≡_, _+_, _≤_, length, typeOf};
-ghost use Rattle.listing.specs.Texts.{recordOf};
+ghost use Rattle.records.specs.Mappings.{recordOf};
 ghost use Rattle.wire.specs.Words.{pasted};
 
 // Bytes, into a memory from an index on.

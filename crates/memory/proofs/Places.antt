@@ -1,7 +1,7 @@
 -- Refusal 4 and the places of four bytes. Assumes nothing.
-use Rattle.memory.specs.Names.{_≡_, ℕ, _+_, _-_, _≤_, length, take, drop, List, Place}
-use Rattle.memory.proofs.Names.{refl, sym, ap, subst, true, false, arith, pick-yes, pick-no, and-left, and-right, memoryOk, memoriesOk, liesIn}
-use Rattle.memory.proofs.Names.{placeWithin, partAt, Inside}
+use Rattle.memory.specs.Names.{_≡_, ℕ, _+_, _-_, _≤_, length, take, drop, List, Place, _and_, _or_}
+use Rattle.memory.proofs.Names.{refl, sym, ap, _∙_, subst, true, false, arith, pick-yes, pick-no, and-left, and-right, and-yes, memoryOk, apart}
+use Rattle.memory.proofs.Names.{memoriesOk, liesIn, placeWithin, partAt, Inside}
 use lib.ListN.{length-drop}
 use lib.Seq.{length-take-le}
 use Rattle.page.proofs.Picks.{pick-by}
@@ -60,3 +60,16 @@ part-length m a Place.Nowhere h = refl
 -- a part that starts where its memory does
 pub at-start : (p : ℕ × ℕ) → _≡_ {A = ℕ × ℕ} (p .0, 0 + p .1) p
 at-start p = ap (λ (n : ℕ). (p .0, n)) (omega arith)
+
+-- an empty memory may be lent beside any
+none-ok : memoryOk 0 0 ≡ true
+unfolding memoryOk _and_
+none-ok = refl
+
+none-apart : (base n : ℕ) → apart 0 0 base n ≡ true
+unfolding apart _or_
+none-apart base n = refl
+
+pub none-beside : (base n : ℕ) → memoryOk base n ≡ true → memoriesOk 0 0 base n ≡ true
+unfolding memoriesOk
+none-beside base n h = and-yes _ _ none-ok ∙ and-yes _ _ h ∙ none-apart base n

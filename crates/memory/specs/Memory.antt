@@ -1,6 +1,6 @@
 -- The two lent memories (01, "The unit", third paragraph; "When the unit says no", 4): which are refused,
 -- where a descriptor's four bytes lie, and the part that they are.
-use Rattle.memory.specs.Names.{ℕ, _+_, _-_, _≤_, _≡_, Bool, List, [], length, take, drop, pick, RefT, Place}
+use Rattle.memory.specs.Names.{ℕ, _+_, _-_, _≤_, _≡_, Bool, List, [], length, take, drop, pick, RefT, Place, _⊎_}
 pub use Rattle.memory.specs.Spans.{longest}
 unfoldable pub use Rattle.memory.specs.Spans.{memoryOk, apart, memoriesOk, liesIn}
 
@@ -14,6 +14,14 @@ pub record Lent : Type 0 where
 -- two memories, each with its base
 abbrev pub lent : List ℕ → ℕ → List ℕ → ℕ → Lent
 lent on onbase ext extbase = record { on = on; onbase = onbase; ext = ext; extbase = extbase }
+
+-- bytes lent as the external memory, beside an empty on-chip one
+abbrev pub lentAlone : List ℕ → ℕ → Lent
+lentAlone bytes base = lent [] 0 bytes base
+
+-- bytes are lent at a base, as the on-chip or the external memory
+abbrev pub LentAt : List ℕ → ℕ → Lent → Type 0
+LentAt bytes base m = ((m .on ≡ bytes) × (m .onbase ≡ base)) ⊎ ((m .ext ≡ bytes) × (m .extbase ≡ base))
 
 -- the two may be lent together
 abbrev pub lentOk : Lent → Bool

@@ -1,5 +1,6 @@
 -- What the definitions of this crate are written with.
 pub use denote.Ref.{RefT}
+pub use mathlib.Core.Logic.{_⊎_}
 pub use Rattle.memory.specs.declared.Place.{Place}
 pub use Rattle.memory.specs.declared.Reads.{Reads}
 pub use Rattle.memory.specs.declared.Source.{Source}

@@ -88,7 +88,7 @@ fn from_file(path: &[u8], image: &[u8], base: u32) -> u32 {
 }
 
 // Why a base is none.
-fn no_base(w: &[u8], why: usize) -> u32 {
+pub(crate) fn no_base(w: &[u8], why: usize) -> u32 {
     text::put(text::ERR, b"nx: base ");
     text::shown(text::ERR, w);
     text::part(

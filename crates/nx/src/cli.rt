@@ -3,41 +3,41 @@ use crate::args;
 use crate::build;
 use crate::convert;
 use crate::files;
+use crate::image;
 use crate::map;
+use crate::pages;
 use crate::show;
 use crate::text;
 use crate::trial;
 
 // The commands' names, in the order of the table below.
 fn command(w: &[u8]) -> usize {
-    text::place(b"help|build|show|try|map|records|text", w)
+    text::place(b"help|build|show|try|map|records|text|check|list", w)
 }
 
 // Whether a command takes so many words.
 fn takes(command: usize, n: usize) -> bool {
     match command {
         0 => return n == 0,
-        1 => {
-            if n == 3 {
-                return true;
-            }
-            return n == 2;
-        }
-        3 => return n == 2,
-        2 | 4 | 5 | 6 => return n == 1,
+        1 => return (n == 2) | (n == 3),
+        4 => return (n == 1) | (n == 2),
+        3 | 7 | 8 => return n == 2,
+        2 | 5 | 6 => return n == 1,
         _ => return false,
     }
 }
 
-// What a command with its words answers: 0 fine, 1 a list, a script or a file is wrong, 2 wrong use.
+// What a command with its words answers: 0 fine, 1 a list, a script, an image or a file is wrong, 2 wrong use.
 fn done(command: usize, first: &[u8], second: &[u8], third: &[u8]) -> u32 {
     match command {
         1 => return build::run(first, second, third),
         2 => return show::run(first),
         3 => return trial::run(first, second),
-        4 => return map::run(first),
+        4 => return map::run(first, second),
         5 => return convert::records(first),
         6 => return convert::text(first),
+        7 => return image::run(first, second),
+        8 => return pages::run(first, second),
         _ => return files::told(usage(text::OUT)),
     }
 }
@@ -79,6 +79,9 @@ fn usage(fd: i32) -> bool {
           \x20 nx map LIST                 a picture of the 16 megabytes, as SVG\n\
           \x20 nx records LIST             the list as binary records\n\
           \x20 nx text RECORDS             binary records as a list\n\
+          \x20 nx check IMAGE BASE         accept an image at BASE (hex), or say which word is wrong and why\n\
+          \x20 nx list IMAGE BASE          the pages of an accepted image, as a list (- and -1: no access)\n\
+          \x20 nx map IMAGE BASE           a picture of an accepted image, as SVG\n\
           \x20 nx help                     this page\n\n",
     )
         & text::put(

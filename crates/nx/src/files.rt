@@ -1,10 +1,8 @@
 // Files: one read whole, and one written whole or not at all.
+use crate::gather;
 use crate::parse;
 use crate::text;
 use libc::STDIN_FILENO;
-
-// The longest path with what is put behind it.
-const NAME: usize = 4160;
 
 // What reading a file came to: how many bytes, or a failure that has been said.
 pub enum Got {
@@ -79,21 +77,6 @@ pub(crate) fn read(path: &[u8], into: &mut [u8]) -> Got {
     got
 }
 
-// Puts bytes into a name from an index on, as far as it goes; the index behind them.
-fn put(name: &mut [u8; 4160], at: usize, s: &[u8]) -> usize {
-    let mut n = at;
-    let mut i = 0;
-    while i < s.len() {
-        if n >= NAME {
-            return n;
-        }
-        name[n] = s[i];
-        n += 1;
-        i += 1;
-    }
-    n
-}
-
 // A number that no two runs share.
 fn unique() -> u32 {
     let mut seed = [0u8; 4];
@@ -102,13 +85,11 @@ fn unique() -> u32 {
 }
 
 // The name of a new file beside a path: the path, a number and .new; how long it is.
-fn beside(path: &[u8], name: &mut [u8; 4160]) -> usize {
-    let mut digits = [0u8; 16];
-    let k = io::hex(unique() as u64, 8, &mut digits);
-    let a = put(name, 0, path);
-    let b = put(name, a, b".");
-    let c = put(name, b, &digits[..k]);
-    put(name, c, b".new")
+fn beside(path: &[u8], name: &mut [u8]) -> usize {
+    let a = gather::put(name, 0, path);
+    let b = gather::put(name, a, b".");
+    let c = gather::hex(name, b, unique() as u64, 8);
+    gather::put(name, c, b".new")
 }
 
 // Writes bytes to a new file and closes it; a failure is said in the name of another.

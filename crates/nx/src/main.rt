@@ -1,15 +1,20 @@
-// nx: lists of mappings as text, their tables, and sessions on the model, for people.
+// nx: lists of mappings as text, their tables, sessions on the model, and images from elsewhere, for people.
 mod args;
+mod boxes;
 mod build;
 mod cli;
 mod columns;
 mod convert;
 mod files;
+mod gather;
 mod grid;
+mod image;
 mod labels;
 mod list;
 mod map;
+mod pages;
 mod parse;
+mod refusal;
 mod script;
 mod show;
 mod text;

@@ -1,12 +1,14 @@
 // nx map: a picture of the 16 megabytes as SVG, a row for each, a box for each mapping, a pixel for each kilobyte.
+use crate::boxes;
 use crate::files;
 use crate::grid;
 use crate::labels;
 use crate::list;
 use crate::list::Loaded;
+use crate::pages;
+use crate::pages::Pages;
 use crate::parse;
 use crate::text;
-use records::Mapping;
 
 // The address at which the tables are to stand.
 const BASE: u32 = 0x20000000;
@@ -40,8 +42,8 @@ fn styles() -> bool {
     a & b & c & d & e & f
 }
 
-// The head: size, styles and title.
-fn head(path: &[u8], n: usize) -> bool {
+// The head: size, styles, title, and how many mappings or pages there are, by the word's place.
+fn head(path: &[u8], n: usize, word: usize) -> bool {
     text::put(
         text::OUT,
         b"<svg xmlns=\"http://www.w3.org/2000/svg\" viewBox=\"0 0 1160 1032\" font-family=\"system-ui,Helvetica,Arial,sans-serif\" font-size=\"11\" fill=\"#1f2937\">\n",
@@ -54,8 +56,13 @@ fn head(path: &[u8], n: usize) -> bool {
         & files::xml_name(path)
         & text::form(
             text::OUT,
-            b"</text>\n<text x=\"96\" y=\"54\" font-size=\"12\">%d mappings in 16 megabytes of virtual addresses; a row is a megabyte</text>\n",
+            b"</text>\n<text x=\"96\" y=\"54\" font-size=\"12\">%d ",
             &[n as u64],
+        )
+        & text::part(text::OUT, b"mappings|pages", word)
+        & text::put(
+            text::OUT,
+            b" in 16 megabytes of virtual addresses; a row is a megabyte</text>\n",
         )
 }
 
@@ -63,7 +70,7 @@ fn head(path: &[u8], n: usize) -> bool {
 fn legend_word(n: usize) -> bool {
     text::part(
         text::OUT,
-        b"section, 1 MB|large, 64 KB|small, 4 KB|tiny, 1 KB|read only|not mapped",
+        b"section, 1 MB|large, 64 KB|small, 4 KB|tiny, 1 KB|read only|not mapped|no access",
         n,
     )
 }
@@ -72,7 +79,7 @@ fn legend_word(n: usize) -> bool {
 fn legend_entry(i: u64) -> bool {
     let x = 96 + 118 * (i % 8);
     text::put(text::OUT, b"<rect class=\"")
-        & text::part(text::OUT, b"k0|k1|k2|k3|h|g", (i % 8) as usize)
+        & text::part(text::OUT, b"k0|k1|k2|k3|h|g|n", (i % 8) as usize)
         & text::form(
             text::OUT,
             b"\" x=\"%d\" y=\"68\" width=\"22\" height=\"14\"/><text x=\"%d\" y=\"79\">",
@@ -90,6 +97,15 @@ fn legend() -> bool {
         & legend_entry(3)
         & legend_entry(4)
         & legend_entry(5)
+}
+
+// The style of a page that may not be reached, which no list has, and its entry of the legend.
+fn no_access() -> bool {
+    text::put(
+        text::OUT,
+        b"<style>.n{fill:#1f2937;fill-opacity:.6}</style>\n",
+    )
+        & legend_entry(6)
 }
 
 // A mark of the scale above the rows, at a quarter of a row.
@@ -128,72 +144,25 @@ fn rows() -> bool {
     ok
 }
 
-// What a mapping is, for who points at it.
-fn title(m: Mapping, purpose: &[u8]) -> bool {
-    let k = m.kind;
-    text::form(
-        text::OUT,
-        b"<g><title>%6 to %8, ",
-        &[list::start(m) as u64, list::target(m) as u64],
-    )
-        & text::part(
-            text::OUT,
-            b"section|large|small|tiny",
-            page::type_of(k) as usize,
-        )
-        & text::part(text::OUT, b", r |, rw ", (m.access % 2) as usize)
-        & text::xml(purpose)
-        & text::put(text::OUT, b"</title>")
-}
-
-// A rectangle over a mapping, of a class.
-fn rectangle(m: Mapping) -> bool {
-    let at = list::start(m);
-    text::form(
-        text::OUT,
-        b"\" x=\"%d\" y=\"%d\" width=\"%d\" height=\"24\"/>",
-        &[grid::left(at), grid::top(at), grid::wide(at, list::end(m))],
-    )
-}
-
-// The hatching over a mapping that may only be read.
-fn hatching(m: Mapping) -> bool {
-    if m.access == 3 {
-        return true;
-    }
-    text::put(text::OUT, b"<rect class=\"h") & rectangle(m)
-}
-
-// A mapping's box.
-fn mapping(m: Mapping, purpose: &[u8]) -> bool {
-    let k = m.kind;
-    title(m, purpose)
-        & text::form(text::OUT, b"<rect class=\"k%d", &[page::type_of(k) as u64])
-        & rectangle(m)
-        & hatching(m)
-        & text::put(text::OUT, b"</g>\n")
-}
-
-// The boxes, in rising order.
-fn boxes(records: &[u8], t: &[u8], lines: &[u32]) -> bool {
-    let n = records::count(records);
-    let mut ok = true;
-    let mut i = 0;
-    while i < n {
-        ok = ok & mapping(records::mapping_at(records, i), list::purpose(t, lines, i));
-        i += 1;
-    }
-    ok
-}
-
-// The picture.
+// The picture of a list.
 fn picture(path: &[u8], records: &[u8], t: &[u8], lines: &[u32]) -> bool {
-    head(path, records::count(records))
+    head(path, records::count(records), 0)
         & legend()
         & scale()
         & rows()
-        & boxes(records, t, lines)
+        & boxes::all(records, t, lines)
         & labels::all(records, t, lines)
+        & text::put(text::OUT, b"</svg>\n")
+}
+
+// The picture of an image: nothing says what its pages are for.
+fn image_picture(path: &[u8], records: &[u8]) -> bool {
+    head(path, records::count(records), 1)
+        & legend()
+        & no_access()
+        & scale()
+        & rows()
+        & boxes::all(records, b"", &[])
         & text::put(text::OUT, b"</svg>\n")
 }
 
@@ -208,7 +177,7 @@ fn judged(path: &[u8], records: &[u8], t: &[u8], lines: &[u32]) -> u32 {
 }
 
 // nx map LIST.
-pub(crate) fn run(path: &[u8]) -> u32 {
+fn from_list(path: &[u8]) -> u32 {
     let mut t = [0u8; list::TEXT];
     let mut records = [0u8; list::RECORDS];
     let mut lines = [0u32; records::MOST];
@@ -224,4 +193,24 @@ pub(crate) fn run(path: &[u8]) -> u32 {
         }
         Loaded::Failed => return 1,
     }
+}
+
+// nx map IMAGE BASE.
+fn from_image(path: &[u8], base: &[u8]) -> u32 {
+    let mut records = [0u8; pages::RECORDS];
+    let loaded = pages::load(path, base, &mut records);
+    match loaded {
+        Pages::Records(n) => {
+            return files::told(image_picture(path, parse::cut(&records, 0, n)));
+        }
+        Pages::Failed(status) => return status,
+    }
+}
+
+// nx map LIST, or IMAGE BASE.
+pub(crate) fn run(path: &[u8], base: &[u8]) -> u32 {
+    if base.len() == 0 {
+        return from_list(path);
+    }
+    from_image(path, base)
 }

@@ -1,5 +1,5 @@
 -- What is true of every mapping of a list. Assumes nothing.
-use Rattle.records.specs.Names.{List, [], _∷_, ℕ, zero, suc, _<_, length, getD, Mapping}
+use Rattle.records.specs.Names.{List, [], _∷_, _++_, ℕ, zero, suc, _<_, length, getD, Mapping}
 use Rattle.records.proofs.Names.{arith, noMapping}
 
 abbrev pub All : (Mapping → Type 0) → List Mapping → Type 0
@@ -22,3 +22,7 @@ pub all-at : (P : Mapping → Type 0) (ms : List Mapping) (i : ℕ) → All P ms
 all-at P [] i h l = absurd (omega arith)
 all-at P (m ∷ ms) zero h l = h .0
 all-at P (m ∷ ms) (suc i) h l = all-at P ms i (h .1) (omega arith)
+
+pub all-append : (P : Mapping → Type 0) (ms ns : List Mapping) → All P ms → All P ns → All P (ms ++ ns)
+all-append P [] ns f g = g
+all-append P (m ∷ ms) ns f g = (f .0, all-append P ms ns (f .1) g)

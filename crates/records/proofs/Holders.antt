@@ -1,5 +1,6 @@
 -- Which mapping holds an address: one law over the number of low bits. Assumes nothing.
-use Rattle.records.specs.Names.{_≡_, Bool, true, false, List, [], _∷_, ℕ, _/_, _^_, _≤_, eqb, pick, _or_, lowBits, VirtualAddress, Mapping, Held}
+use Rattle.records.specs.Names.{_≡_, Bool, true, false, List, [], _∷_, _++_, ℕ, _/_, _^_, _≤_, eqb, pick, _or_, lowBits, VirtualAddress}
+use Rattle.records.specs.Names.{Mapping, Held}
 use Rattle.records.proofs.Names.{refl, sym, ap, ap₂, _∙_, subst, true≢false, _⊎_, inl, inr, arith, decLe, eqb-true, eq-eqb, pick-yes, pick-no}
 use Rattle.records.proofs.Names.{or-yes, or-no, lowBits-le, holds, overlap, holder}
 use borrow.Author.Tests.{eqb-false}
@@ -107,3 +108,20 @@ holder-same (x ∷ ms) a va m d e h = by-first (λ f. holder-same ms a va m (d .
 pub holds-over : (m : Mapping) (a va : VirtualAddress) → a .0 / 2 ^ lowBits (m .kind) ≡ va .0 / 2 ^ lowBits (m .kind) → holds m a ≡ true → holds m va ≡ true
 unfolding holds
 holds-over m a va e h = eq-eqb _ _ (sym e ∙ eqb-true _ _ h)
+
+-- mappings behind mappings hold an address where one of either does
+pub holder-append : (ms ns : List Mapping) (va : VirtualAddress) → holder (ms ++ ns) va ≡ Held.Nobody → (holder ms va ≡ Held.Nobody) × (holder ns va ≡ Held.Nobody)
+unfolding holder
+holder-append [] ns va e = (refl, e)
+holder-append (m ∷ ms) ns va e = by-first (holds m va) refl (holder-append ms ns va)
+  where
+    by-first : (b : Bool) → holds m va ≡ b → (holder (ms ++ ns) va ≡ Held.Nobody → (holder ms va ≡ Held.Nobody) × (holder ns va ≡ Held.Nobody))
+        → (holder (m ∷ ms) va ≡ Held.Nobody) × (holder ns va ≡ Held.Nobody)
+    by-first true t r = let f = pick-yes (holds m va) (Held.By m) (holder (ms ++ ns) va) t in let z : _≡_ {A = ℕ} 0 1 = cc in absurd (omega arith)
+    by-first false t r =
+        let s = r (sym (pick-no (holds m va) (Held.By m) (holder (ms ++ ns) va) t) ∙ e) in
+        (pick-no (holds m va) (Held.By m) (holder ms va) t ∙ s .0, s .1)
+
+pub holder-one : (m : Mapping) (va : VirtualAddress) → holds m va ≡ true → holder (m ∷ []) va ≡ Held.Nobody → ⊥
+unfolding holder
+holder-one m va h e = let f = pick-yes (holds m va) (Held.By m) Held.Nobody h in let z : _≡_ {A = ℕ} 0 1 = cc in omega arith

@@ -1,6 +1,7 @@
 pub mod Names
 pub mod Scan
 pub mod Alls
+pub mod Records
 pub mod Rest
 pub mod Refusals
 pub mod Accepted

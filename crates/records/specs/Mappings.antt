@@ -1,6 +1,6 @@
--- A record of the builder's input as a mapping (01, "The builder").
-use Rattle.records.specs.Names.{ℕ, zero, suc, _*_, _/_, Bool, List, [], _∷_, length, getD, take, drop, _or_, agree, joined, virtual, physical}
-use Rattle.records.specs.Names.{lowBits, kindOf, Kind, VirtualAddress, PhysicalAddress, wordOf, Mapping}
+-- A record of the builder's input as a mapping, and a mapping as a record (01, "The builder").
+use Rattle.records.specs.Names.{ℕ, zero, suc, _*_, _/_, _%_, Bool, List, [], _∷_, _++_, length, getD, take, drop, _or_, agree, joined, virtual}
+use Rattle.records.specs.Names.{physical, lowBits, kindOf, typeOf, Kind, VirtualAddress, PhysicalAddress, wordOf, wordBytes, Mapping}
 
 -- the bytes of a record
 abbrev pub recordSize : ℕ
@@ -14,6 +14,15 @@ recordAt rs i = take recordSize (drop (recordSize * i) rs)
 unfoldable pub mappingOf : List ℕ → Mapping
 mappingOf r = record
     { at = virtual (wordOf (take 4 (drop 0 r))); to = physical (wordOf (take 4 (drop 4 r))); kind = kindOf (getD r 8 0); access = getD r 9 0 }
+
+-- a mapping's record: virtual, physical, type, access, two zero bytes
+unfoldable pub recordOf : Mapping → List ℕ
+recordOf m = wordBytes (m .at .0) ++ (wordBytes (m .to .0) ++ (typeOf (m .kind) ∷ m .access % 256 ∷ 0 ∷ 0 ∷ []))
+
+-- the records of mappings, one behind the other
+unfoldable pub recordsOf : List Mapping → List ℕ
+recordsOf [] = []
+recordsOf (m ∷ ms) = recordOf m ++ recordsOf ms
 
 -- the mappings of n records from record i on, and of all whole records
 unfoldable pub mappingsFrom : List ℕ → ℕ → ℕ → List Mapping

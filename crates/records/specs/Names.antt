@@ -1,5 +1,5 @@
 -- What the definitions of this crate are written with.
-pub use Rattle.page.specs.Ground.{Bool, List, [], _%_, _*_, _+_, _/_, _<_, _^_, _∷_, _≡_, _≤_, drop, eqb, false, getD, leb, length, ltb, not}
+pub use Rattle.page.specs.Ground.{Bool, List, [], _%_, _*_, _++_, _+_, _/_, _<_, _^_, _∷_, _≡_, _≤_, drop, eqb, false, getD, leb, length, ltb, not}
 pub use Rattle.page.specs.Ground.{replicate, set, suc, take, true, zero, ℕ}
 pub use Rattle.page.specs.Low.{agree}
 unfoldable pub use Rattle.page.specs.Low.{joined}
@@ -14,4 +14,5 @@ pub use Rattle.records.specs.declared.Checked.{Checked}
 pub use Rattle.records.specs.declared.Held.{Held}
 pub use Rattle.records.specs.declared.Mapping.{Mapping}
 pub use Rattle.records.specs.declared.Meaning.{Meaning}
+pub use Rattle.wire.specs.Words.{wordBytes}
 unfoldable pub use Rattle.wire.specs.Words.{wordOf}

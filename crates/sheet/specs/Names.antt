@@ -3,7 +3,8 @@ pub use Rattle.bill.specs.Bill.{freshBill}
 unfoldable pub use Rattle.builder.specs.Build.{answerOf, buildOf}
 pub use Rattle.builder.specs.Build.{builtNumber, builtValue}
 pub use Rattle.builder.specs.declared.Built.{Built}
-pub use Rattle.demands.specs.Buyer.{lentAlone, pricesA, roomA, startA}
+pub use Rattle.demands.specs.Buyer.{pricesA, roomA, startA}
+pub use Rattle.memory.specs.Memory.{lentAlone}
 pub use Rattle.lanes.specs.Lanes.{slots}
 pub use Rattle.memory.specs.Memory.{Lent}
 pub use Rattle.memory.specs.declared.Place.{Place}

@@ -1,25 +1,23 @@
 -- Memories that hold the image read as its words. Assumes nothing.
 use Rattle.translates.specs.Names.{_≡_, true, List, ℕ, _+_, _-_, _≤_, _<_, length, getD, take, drop, VirtualAddress, Lent, lentOk, Mapping}
 use Rattle.translates.specs.Names.{Held, holder, imageLength, image}
-use Rattle.translates.proofs.Names.{refl, sym, ap, ap₂, _∙_, Bool, false, suc, _*_, _/_, _%_, _^_, arith, mod-eq-of-lt, lit<, length-take}
-use Rattle.translates.proofs.Names.{getD-take, getD-drop, upper, virtual, pick-yes, pick-no, pick-by, typeOf-lt}
-use Rattle.translates.proofs.Names.{placeIn, wordOf, Place, Read, readIn, All, OnHeld, all-holder, Second, tableOf, tableSize, tableStart}
+use Rattle.translates.proofs.Names.{refl, sym, ap, ap₂, _∙_, suc, _*_, _/_, _%_, _^_, arith, lit<, length-take}
+use Rattle.translates.proofs.Names.{getD-take, getD-drop, upper, virtual, pick-yes, pick-by, typeOf-lt}
+use Rattle.translates.proofs.Names.{placeIn, wordOf, Read, readIn, All, OnHeld, all-holder, Second, tableOf, tableSize, tableStart}
 use Rattle.translates.proofs.Names.{sectionWord, firstBy, firstWord, pageWord, addressOf, secondWord, inTables, imageWord}
 use Rattle.translates.proofs.Names.{bytesBy, end-next, end-last, Has, Standing}
-use mathlib.Core.Bool.{true≢false}
 use mathlib.Core.Logic.{inl, inr}
 use Prim.Native.Nat.{zero}
-use native.Mathlib.Nat.{mod-add-div', div-div-eq-div-mul}
 use borrow.Author.Tests.{le-leb, ltb-true}
 use lib.ListN.{length-drop}
 use Rattle.page.proofs.Picks.{and-yes}
 use Rattle.page.proofs.Slot.{start-room}
-use Rattle.memory.specs.Memory.{liesIn, placeWithin, partAt}
+use Rattle.memory.specs.Memory.{liesIn}
 use Rattle.wire.specs.Words.{littleEndian, wordBytes}
-use Rattle.memory.proofs.Places.{place-ok, held-once}
-use Rattle.walk.specs.Walk.{readAt}
+use Rattle.walk.proofs.Lent.{on-read, ext-read}
 use Rattle.records.specs.Mappings
 use Rattle.wire.proofs.Splices.{bytes-at, bytes-length}
+use Rattle.wire.proofs.Reading.{word-value}
 use Rattle.tables.proofs.Places.{image-4}
 use Rattle.builder.proofs.Whole.{image-length-is}
 use Rattle.translates.proofs.Over.{Stands}
@@ -66,23 +64,6 @@ module _ (n : ℕ) (ms : List Mapping) (phys : All Phys ms) (base : ℕ) (room :
   image-fits : (k : ℕ) → imageWord n ms base k < 2 ^ 32
   unfolding imageWord
   image-fits k = pick-by (λ (w : ℕ). w < 2 ^ 32) _ _ _ (λ t. first-fits k (ltb-true _ _ t)) (λ _. tables-fit n (4 * k))
-
--- a word is what its four bytes say
-digits : (x : ℕ) → x % 256 + x / 256 * 256 ≡ x
-digits x = mod-add-div' x 256
-
-word-value : (w : ℕ) → w < 2 ^ 32 → littleEndian (w % 256) (w / 256 % 256) (w / 65536 % 256) (w / 16777216 % 256) ≡ w
-word-value w h =
-    let a : w / 65536 ≡ w / 256 / 256 = sym (div-div-eq-div-mul w 256 256) in
-    let b : w / 16777216 ≡ w / 256 / 256 / 256 = sym (div-div-eq-div-mul w 65536 256) ∙ ap (λ (z : ℕ). z / 256) a in
-    let t : w / 16777216 < 256 = omega arith in
-    let t′ : w / 16777216 % 256 ≡ w / 256 / 256 / 256 = mod-eq-of-lt t ∙ b in
-    let a′ : w / 65536 % 256 ≡ w / 256 / 256 % 256 = ap (λ (z : ℕ). z % 256) a in
-    four (w % 256) (w / 256 % 256) (w / 65536 % 256) (w / 16777216 % 256) (w / 256) (w / 256 / 256) w (digits w)
-    (digits (w / 256)) (ap₂ (λ (x y : ℕ). x + y * 256) a′ t′ ∙ digits (w / 256 / 256))
-  where
-    four : (d0 d1 d2 d3 x1 x2 w : ℕ) → d0 + x1 * 256 ≡ w → d1 + x2 * 256 ≡ x1 → d2 + d3 * 256 ≡ x2 → littleEndian d0 d1 d2 d3 ≡ w
-    four d0 d1 d2 d3 x1 x2 w e1 e2 e3 = omega arith
 
 -- word k of the words of f, read back from their bytes among others
 module _ (f : ℕ → ℕ) (n k : ℕ) (l : List ℕ) (k₀ : ℕ) (h : k < n) (e : take (4 * n) (drop k₀ l) ≡ bytesBy f n) where
@@ -133,28 +114,10 @@ module _ (n : ℕ) (ms : List Mapping) (phys : All Phys ms) (base : ℕ) (room :
             ∙ word-back (imageWord n ms base) (imageLength n ms / 4) k l (base - b) lt e (image-fits n ms phys base room k),
       )
 
-  -- where the word lies
-  on-chip : (k : ℕ) → liesIn (m .onbase) (length (m .on)) (base + 4 * k) ≡ true → placeIn m (base + 4 * k) ≡ Place.OnChip (base + 4 * k - m .onbase)
-  unfolding placeWithin
-  on-chip k h = place-ok m (base + 4 * k) ok ∙ pick-yes _ _ _ h
-
-  external : (k : ℕ) → liesIn (m .extbase) (length (m .ext)) (base + 4 * k) ≡ true → placeIn m (base + 4 * k) ≡ Place.External (base + 4 * k - m .extbase)
-  unfolding placeWithin
-  external k h = place-ok m (base + 4 * k) ok ∙ pick-no _ _ _ (other (liesIn (m .onbase) (length (m .on)) (base + 4 * k)) refl) ∙ pick-yes _ _ _ h
-    where
-      other : (b : Bool) → liesIn (m .onbase) (length (m .on)) (base + 4 * k) ≡ b → b ≡ false
-      other false e = refl
-      other true e = absurd (true≢false (sym h ∙ held-once m (base + 4 * k) ok e))
-
-  reads : (k : ℕ) (p : Place) → placeIn m (base + 4 * k) ≡ p → readAt (wordOf (partAt m p)) p ≡ Read.Word (imageWord n ms base k) p
-      → readIn m (base + 4 * k) ≡ Read.Word (imageWord n ms base k) (placeIn m (base + 4 * k))
-  unfolding readIn
-  reads k p e f = ap (λ (x : Place). readAt (wordOf (partAt m x)) x) e ∙ f ∙ ap (Read.Word (imageWord n ms base k)) (sym e)
-
   pub stands : Standing m base (image n ms base) → Stands (readIn m) (placeIn m) n ms base
   stands (inl h) k fits =
       let p = part (m .on) (m .onbase) k h fits in
-      reads k (Place.OnChip (base + 4 * k - m .onbase)) (on-chip k (p .0)) (ap (λ (w : ℕ). Read.Word w (Place.OnChip (base + 4 * k - m .onbase))) (p .1))
+      on-read m ok (base + 4 * k) (p .0) ∙ ap (λ (w : ℕ). Read.Word w (placeIn m (base + 4 * k))) (p .1)
   stands (inr h) k fits =
       let p = part (m .ext) (m .extbase) k h fits in
-      reads k (Place.External (base + 4 * k - m .extbase)) (external k (p .0)) (ap (λ (w : ℕ). Read.Word w (Place.External (base + 4 * k - m .extbase))) (p .1))
+      ext-read m ok (base + 4 * k) (p .0) ∙ ap (λ (w : ℕ). Read.Word w (placeIn m (base + 4 * k))) (p .1)

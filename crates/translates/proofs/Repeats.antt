@@ -4,6 +4,7 @@ use Rattle.translates.proofs.Names.{refl, sym, ap, _∙_, subst, _*_, _
 use Rattle.translates.proofs.Names.{firstOf, secondOf, holds, Disjoint, OnHeld, all-holder, Second, tableOf, tableSize, tableStart, firstWord}
 use Rattle.translates.proofs.Names.{stepBits, addressOf, pageWord, sectionWord, secondWord, pick, virtual}
 use Rattle.page.proofs.Slot.{kindOf-type}
+use Rattle.walk.specs.declared.First.{First}
 use Rattle.walk.specs.Statements.{bare}
 use Rattle.walk.specs.Repeated.{wordBits, indexLimit, repeats, foundIn, Repeated, RepeatedBelow, RepeatedAfter, AllRepeated}
 use Rattle.page.proofs.Picks.{bits-10}
@@ -56,6 +57,12 @@ module _ (ms : List Mapping) (apart : Disjoint ms) (t : Second) (u : Table) (is 
   unfolding secondWord
   same-word e = ap pageWord (same-holder (holder ms a) refl e)
 
+-- a section's word, and that of none, name no table: what holds of these two holds of what they say
+pub no-table : (P : First → Type 0) → P First.Fault → ((p : Page) → P (First.Whole p)) → (h : Held) → P (firstOf (sectionWord h))
+unfolding firstOf upper pick
+no-table P none whole (Held.By m) = subst P (bits-10 _ _ _ _ (sectionWord (Held.By m)) (omega arith)) (whole _)
+no-table P none whole Held.Nobody = none
+
 -- read back from any reading that has the image
 module _ (n : ℕ) (ms : List Mapping) (base : ℕ) (rd : ℕ → Read) (place : ℕ → Place) (mem : Stands rd place n ms base) (apart : Disjoint ms) (unit : base % 4096 ≡ 0)
     (i : ℕ) (low : i < n) where
@@ -75,15 +82,10 @@ module _ (n : ℕ) (ms : List Mapping) (base : ℕ) (rd : ℕ → Read) (place :
       (same-word ms apart t u is i j j′ p h h′ same (sym (ap (foundIn u) (read-at t j e h)) ∙ said))
       ∙ sym (ap bare (read-at t j e h))
 
-  no-table : (h : Held) → RepeatedBelow rd (firstOf (sectionWord h))
-  unfolding firstOf upper pick
-  no-table (Held.By m) = subst (RepeatedBelow rd) (bits-10 _ _ _ _ (sectionWord (Held.By m)) (omega arith)) tt
-  no-table Held.Nobody = tt
-
   below : (t : Second) → tableOf ms i ≡ t → RepeatedBelow rd (firstOf (firstWord n ms base i))
   below Second.Fine e = subst (RepeatedBelow rd) (sym (says-fine n ms base i unit e)) (repeated Second.Fine Table.Fine (refl, refl) e)
   below Second.Coarse e = subst (RepeatedBelow rd) (sym (says-coarse n ms base i unit e)) (repeated Second.Coarse Table.Coarse (refl, refl) e)
-  below Second.Absent e = subst (λ (w : ℕ). RepeatedBelow rd (firstOf w)) (sym (first-is n ms base i Second.Absent e)) (no-table (holder ms (virtual (i * 2 ^ 20))))
+  below Second.Absent e = subst (λ (w : ℕ). RepeatedBelow rd (firstOf w)) (sym (first-is n ms base i Second.Absent e)) (no-table (RepeatedBelow rd) tt (λ _. tt) (holder ms (virtual (i * 2 ^ 20))))
 
   after : RepeatedAfter rd firstOf (rd (base + 4 * i))
   after = subst (RepeatedAfter rd firstOf) (sym (first-read n ms base rd place mem i low)) (below (tableOf ms i) refl)

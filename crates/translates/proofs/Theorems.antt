@@ -40,13 +40,13 @@ narrow-of n m e = either (eqb (m .access) 2) refl (and-right _ _ (and-right _ _ 
 pub bytes-drop : (n : ℕ) (l : List ℕ) → Bytes l → Bytes (drop n l)
 bytes-drop n l h i = subst (λ (x : ℕ). x < 256) (sym (getD-drop n l i 0)) (h (n + i))
 
-bytes-take : (n : ℕ) (l : List ℕ) → Bytes l → Bytes (take n l)
+pub bytes-take : (n : ℕ) (l : List ℕ) → Bytes l → Bytes (take n l)
 bytes-take n l h i = elim (decLe n i) [
   | yes g ↦ subst (λ (x : ℕ). x < 256) (sym (List·getD-eq-default (take n l) 0 {n = i} (omega (arith, length-take n l)))) (lit< tt)
   | no g ↦ subst (λ (x : ℕ). x < 256) (sym (getD-take n l i 0 (omega arith))) (h i)
 ]
 
-word-lt : (l : List ℕ) → Bytes l → wordOf l < 2 ^ 32
+pub word-lt : (l : List ℕ) → Bytes l → wordOf l < 2 ^ 32
 unfolding wordOf
 word-lt l h =
     pick-by (λ (w : ℕ). w < 2 ^ 32) _ _ _ (λ _. omega (arith, h 0, h 1, h 2, h 3)) (λ _. lit< tt)
@@ -80,6 +80,22 @@ module _ (ms : List Mapping) (narrow : All Narrow ms) (apart : Disjoint ms) (phy
             subst (λ (w : Walked). ReadsInside base (imageLength megabytes ms) (w .reads)) (sym (look-is va low))
             (reads-inside megabytes ms base (placeIn m) va (omega arith));
       }
+
+-- what is read of an accepted list's image: its words, of a list without overlaps, at a base that is a multiple of 4,096
+pub record ImageRead (rs : List ℕ) (base : ℕ) (m : Lent) : Type 0 where
+  pub words : Stands (readIn m) (placeIn m) megabytes (mappings rs) base
+  pub apart : Disjoint (mappings rs)
+  pub unit : base % 4096 ≡ 0
+
+pub image-read : (rs : List ℕ) (base room len : ℕ) (m : Lent) → Bytes rs → answerOf rs base room ≡ Built.Length len → lentOk m ≡ true
+    → Standing m base (image megabytes (mappings rs) base) → ImageRead rs base m
+image-read rs base room len m bytes e ok standing =
+    let a = accepted rs base room len e in
+    record {
+      words = stands megabytes (mappings rs) (all-records Phys rs (λ k _. phys-of rs bytes k)) base (omega (arith, a .fits, room-memory base room (a .memory))) m ok standing;
+      apart = accepted-disjoint megabytes rs (a .records);
+      unit = room-unit base room (a .memory);
+    }
 
 pub image-translates : ImageTranslates
 image-translates rs base room len m bytes e ok standing =

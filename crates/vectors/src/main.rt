@@ -1,6 +1,7 @@
-// What the parts, the unit and the builder answer for inputs worked out by hand.
+// What the parts, the unit, the builder and the audit answer for inputs worked out by hand.
 mod bills;
 mod entries;
+mod foreign;
 mod images;
 mod limits;
 mod memories;
@@ -21,4 +22,5 @@ fn main() {
     sessions::show_all();
     images::show_all();
     limits::show_all();
+    foreign::show_all();
 }

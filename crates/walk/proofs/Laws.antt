@@ -1,5 +1,5 @@
 -- What the descriptors give. Assumes nothing.
-use Rattle.walk.specs.Names.{_≡_, false, ℕ, _/_, _%_, _^_, _<_, lowBits, Kind, VirtualAddress, Page, Found, Table}
+use Rattle.walk.specs.Names.{_≡_, false, ℕ, _/_, _%_, _^_, _<_, lowBits, Kind, VirtualAddress, Page, First, Found, Table}
 use Rattle.walk.proofs.Names.{refl, sym, _∙_, subst, arith, ne-eqb, pick-no, firstOf, pageOf, secondOf, physicalOf, Room}
 use Rattle.walk.proofs.Names.{ProperFirst, Proper, isMissing}
 use lib.Dec.{lit≤, lit<}
@@ -85,3 +85,17 @@ module _ (p : Page) (va : VirtualAddress) where
 -- a second-level word is not missing
 pub second-there : (t : Table) (w : ℕ) → false ≡ isMissing (secondOf t w)
 second-there t w = second-by (λ (f : Found). false ≡ isMissing f) w refl t (λ _ _ _. refl)
+
+-- a first-level word that gives a page gives a section
+abbrev pub SectionFirst : First → Type 0
+SectionFirst First.Fault = Unit
+SectionFirst (First.Whole p) = p .kind ≡ Kind.Section
+SectionFirst (First.Coarse t) = Unit
+SectionFirst (First.Fine t) = Unit
+
+pub first-section : (w : ℕ) → SectionFirst (firstOf w)
+unfolding firstOf
+first-section w =
+    pick-by SectionFirst _ _ _ (λ _. tt)
+    (λ _. pick-by SectionFirst _ _ _ (λ _. tt)
+    (λ _. pick-by SectionFirst _ _ _ (λ _. refl) (λ _. tt)))

@@ -45,7 +45,7 @@ found-bare : (t : Table) (r : Read) → foundIn t (bare r) ≡ foundIn t r
 found-bare t Read.Missing = refl
 found-bare t (Read.Word w p) = refl
 
-found-second : (t : Table) (s : Source) (b : ℕ) (r : Read) → afterSecond t s b r .found ≡ foundIn t r
+pub found-second : (t : Table) (s : Source) (b : ℕ) (r : Read) → afterSecond t s b r .found ≡ foundIn t r
 found-second t s b Read.Missing = refl
 found-second t s b (Read.Word w p) = refl
 

@@ -3,3 +3,4 @@ pub mod Placing
 pub mod Reading
 pub mod Complement
 pub mod Splices
+pub mod Pastes

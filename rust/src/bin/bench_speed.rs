@@ -1,8 +1,8 @@
 //! Speed of the proved implementation against the second program, through the
-//! byte boundary, in one process: nx_run on sessions of each sort of call and
-//! nx_build on ten lists. Rounds of the two are interleaved; the table has
-//! medians with their quartiles, and the median of the rounds' own ratios.
-//! Before that the two are seen to write the same bytes.
+//! byte boundary, in one process: nx_run on sessions of each sort of call,
+//! nx_build on ten lists, nx_check and nx_list on five images. Rounds of the two
+//! are interleaved; the table has medians with their quartiles, and the median of
+//! the rounds' own ratios. Before that the two are seen to write the same bytes.
 //!
 //! `--cleared` clears what is written to before each round, outside its time;
 //! `--length N` gives the sessions N calls; `--rounds N` sets the rounds;
@@ -75,6 +75,8 @@ struct Sort {
 enum Work {
     Run { calls: Vec<u8>, on_chip: Vec<u8>, external: Vec<u8>, out: Vec<u8> },
     Build { list: Vec<u8>, builds: usize, memory: Vec<u8> },
+    Check { image: Vec<u8>, checks: usize },
+    List { image: Vec<u8>, lists: usize, out: Vec<u8> },
 }
 
 impl Work {
@@ -100,6 +102,18 @@ impl Work {
                     black_box(&mut *memory);
                 }
             }
+            Work::Check { image, checks } => {
+                for _ in 0..*checks {
+                    assert_eq!(program.check(black_box(image), BASE), 0);
+                }
+            }
+            Work::List { image, lists, out } => {
+                for _ in 0..*lists {
+                    let length = program.list(black_box(image), BASE, out);
+                    assert_eq!(length as usize, out.len());
+                    black_box(&mut *out);
+                }
+            }
         }
     }
 
@@ -107,6 +121,8 @@ impl Work {
         match self {
             Work::Run { out, .. } => out,
             Work::Build { memory, .. } => memory,
+            Work::Check { .. } => &mut [],
+            Work::List { out, .. } => out,
         }
     }
 }
@@ -155,6 +171,38 @@ fn lists() -> Vec<(String, usize, Vec<u8>)> {
         ("256 tiny".into(), 100, of(256, &alike(3, 10, 32))),
         ("225 large in fine tables".into(), 40, of(240, &fine)),
         ("240 mixed in fine tables".into(), 40, of(240, &turns)),
+    ]
+}
+
+/// The image of a list.
+fn image(list: &[u8]) -> Vec<u8> {
+    let mut memory = vec![0; 65_536];
+    let length = boundary::build(list, BASE, &mut memory) as usize;
+    memory.truncate(length);
+    memory
+}
+
+/// One fine table of tiny pages, for every megabyte.
+fn shared() -> Vec<u8> {
+    let first = (0..1_024).map(|n| if n < 16 { BASE + 4_096 + 3 } else { 0 });
+    let tiny = (0..1_024).map(|n| 0x4000_0033 + (n << 10));
+    first.chain(tiny).flat_map(u32::to_le_bytes).collect()
+}
+
+/// The images that are checked and listed, with their pages and with how many checks or
+/// lists make a round.
+fn images() -> Vec<(&'static str, usize, usize, Vec<u8>)> {
+    let of = |name: &str| {
+        let (.., list) = lists().into_iter().find(|list| list.0 == name).expect("a list");
+        image(&list)
+    };
+    let fine = "225 large in fine tables";
+    vec![
+        ("256 records", 256, 100, of("256 records")),
+        ("1,024 records", 1_024, 50, of("1,024 records")),
+        ("16 sections", 16, 2_000, of("16 sections")),
+        (fine, 240, 100, of(fine)),
+        ("16,384 tiny, one table", 16_384, 10, shared()),
     ]
 }
 
@@ -289,9 +337,7 @@ fn benches(length_of_session: usize) -> Vec<Bench> {
 
     // Small pages; the image is in the on-chip memory.
     let list: Vec<u8> = (0..64).flat_map(|n| record(page(n), 0x4000_0000 + (n << 12), 2)).collect();
-    let mut on_chip = vec![0; 65_536];
-    let length = boundary::build(&list, BASE, &mut on_chip) as usize;
-    on_chip.truncate(length);
+    let on_chip = image(&list);
     for sort in sorts() {
         let mut dice = Dice::new(0xBE9C);
         let mut calls = sort.first.concat();
@@ -320,6 +366,15 @@ fn benches(length_of_session: usize) -> Vec<Bench> {
             units: builds,
             work: Work::Build { list, builds, memory: vec![0xA5; 65_536] },
         });
+    }
+
+    for (name, _, checks, image) in images() {
+        let (name, work) = (format!("check: {name}"), Work::Check { image, checks });
+        benches.push(Bench { name, unit: "check", units: checks, work });
+    }
+    for (name, pages, lists, image) in images() {
+        let work = Work::List { image, lists, out: vec![0; 12 * pages] };
+        benches.push(Bench { name: format!("list: {name}"), unit: "list", units: lists, work });
     }
     benches
 }

@@ -1,8 +1,9 @@
 //! What a run of the differential tests has seen, counted by name.
 
+use super::images::Image;
 use super::lists::{self, Record};
 use super::*;
-use std::collections::BTreeMap;
+use std::collections::{BTreeMap, BTreeSet};
 use std::fmt::Write as _;
 
 /// How often something was seen, by name.
@@ -57,6 +58,40 @@ pub const LISTS: [&str; 4] = [
     "a full megabyte of large, small and tiny pages",
     "full megabytes of large, small and tiny pages",
 ];
+
+/// What there is in an accepted image with these pages.
+pub fn see_image(seen: &mut Coverage, image: &Image, pages: &[Record]) {
+    let tables = image.tables();
+    let different: BTreeSet<_> = tables.iter().copied().collect();
+    let has = |question: &dyn Fn((u32, u32)) -> bool| different.iter().copied().any(question);
+    seen.see_if(different.len() < tables.len(), "a shared table");
+    seen.see_if(has(&|(at, _)| at == image.base), "a table over the first level");
+    seen.see_if(
+        has(&|(at, size)| size == 0x400 && has(&|other| other == (at & !0xFFF, 0x1000))),
+        "a coarse table within a fine one",
+    );
+    seen.see_if(
+        has(&|(at, size)| u64::from(at) + u64::from(size) == image.end()),
+        "a table at the memory's end",
+    );
+    let words = |at: u32, size: u32| (at..).step_by(4).take(size as usize / 4);
+    seen.see_if(
+        has(&|(at, size)| size == 0x400 && words(at, size).any(|at| image.word(at) & 3 == 3)),
+        "a coarse table's tiny word",
+    );
+    seen.see_if(!image.base.is_multiple_of(0x400), "a base between two tables");
+    seen.see_if(image.end() == 1 << 32, "a memory that ends with the space");
+    seen.see_if(pages.is_empty(), "no page");
+    for (kind, access) in (0..16).map(|n| (n / 4, n % 4)) {
+        let sort = |page: &Record| page.kind == kind && page.access == access;
+        seen.see_if(pages.iter().any(sort), &format!("type {kind}, access {access}"));
+    }
+}
+
+/// The pages that `see_image` may see: every type with every access.
+pub fn pages() -> Vec<String> {
+    (0..16).map(|n| format!("type {}, access {}", n / 4, n % 4)).collect()
+}
 
 /// The second-level word that a walk ended in, by its address and the first-level
 /// word: its table and type. Where its page has more words than one, also whether

@@ -33,7 +33,7 @@ impl Group {
         }
     }
 
-    fn offset(&self, n: u32) -> u32 {
+    pub fn offset(&self, n: u32) -> u32 {
         0x1000 + 4 * (2 * self.count + n)
     }
 

@@ -6,11 +6,16 @@
 pub mod callers;
 pub mod coverage;
 pub mod groups;
+pub mod images;
 pub mod lists;
+pub mod nx;
 pub mod places;
+pub mod plain;
 pub mod rows;
 pub mod states;
+pub mod turned;
 pub mod worlds;
+pub mod written;
 
 use second::boundary::{self, Program, Second};
 
@@ -149,6 +154,11 @@ pub fn put_double(bytes: &mut [u8], at: usize, double: u64) {
 pub fn answer(bytes: &[u8], index: usize) -> (u32, i64) {
     let at = index * boundary::ANSWER;
     (word(bytes, at), double(bytes, at + 8) as i64)
+}
+
+/// A refusal of build, check or list: its number, and the index, count or address with it.
+pub const fn refused(number: u64, at: u64) -> u64 {
+    1 << 63 | number << 32 | at
 }
 
 /// Where an answer's word came from: memory * 2^28 + offset, or 0.

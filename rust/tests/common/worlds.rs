@@ -39,7 +39,7 @@ fn base_beside(dice: &mut Dice, base: u32, length: usize, other: usize) -> u32 {
 }
 
 /// A base that a memory of that length may have.
-fn any_base(dice: &mut Dice, length: usize, multiple: u32) -> u32 {
+pub fn any_base(dice: &mut Dice, length: usize, multiple: u32) -> u32 {
     let top = ((1_u64 << 32) - length as u64) as u32;
     let base = match dice.below(6) {
         0 => 0,
@@ -51,16 +51,13 @@ fn any_base(dice: &mut Dice, length: usize, multiple: u32) -> u32 {
 }
 
 /// A word with one of these lowest two bits.
-fn descriptor(dice: &mut Dice, types: &[u32]) -> u32 {
+pub fn descriptor(dice: &mut Dice, types: &[u32]) -> u32 {
     dice.word() & !3 | dice.pick(types)
 }
 
-/// Fills a table, coarse or fine by its size, with pages whose words are repeated,
-/// with words that stand alone, and then breaks some groups of words: at the head, in
-/// the middle, at the end, anywhere. Gives addresses in its megabyte, of what was
-/// broken and of others in the same group.
-fn draw_table(dice: &mut Dice, table: &mut [u8]) -> Vec<u32> {
-    let count = table.len() / 4;
+/// The words of a table, coarse or fine by their number: pages whose words are repeated,
+/// and words that stand alone, of types picked from these.
+pub fn draw_pages(dice: &mut Dice, count: usize, alone: &[u32]) -> Vec<u32> {
     let (large, small) = (count / 16, count / 256);
     let mut words = vec![0; count];
     for block in words.chunks_mut(large) {
@@ -71,11 +68,21 @@ fn draw_table(dice: &mut Dice, table: &mut [u8]) -> Vec<u32> {
         for group in block.chunks_mut(small) {
             match dice.below(6) {
                 0 => {}
-                1 => group.fill_with(|| descriptor(dice, &[3, 3, 0, 1, 2])),
+                1 => group.fill_with(|| descriptor(dice, alone)),
                 _ => group.fill(descriptor(dice, &[2])),
             }
         }
     }
+    words
+}
+
+/// Fills a table, coarse or fine by its size, and then breaks some groups of words: at
+/// the head, in the middle, at the end, anywhere. Gives addresses in its megabyte, of
+/// what was broken and of others in the same group.
+fn draw_table(dice: &mut Dice, table: &mut [u8]) -> Vec<u32> {
+    let count = table.len() / 4;
+    let (large, small) = (count / 16, count / 256);
+    let mut words = draw_pages(dice, count, &[3, 3, 0, 1, 2]);
     let mut hot = Vec::new();
     for _ in 0..8 + dice.below(24) {
         let size = dice.pick(&[large, small]) as u32;

@@ -1,11 +1,15 @@
 -- What the definitions of this crate are written with.
-pub use mathlib.Core.Logic.{_⊎_}
+unfoldable pub use Rattle.audit.specs.Check.{checkOf}
+pub use Rattle.audit.specs.Pages.{pagesIn}
+pub use Rattle.audit.specs.Statements.{AcceptedExactly}
+pub use Rattle.audit.specs.declared.Verdict.{Verdict}
 pub use Rattle.bill.specs.Bill.{f1, freshBill}
 unfoldable pub use Rattle.bill.specs.Bill.{moneyOk}
 unfoldable pub use Rattle.builder.specs.Build.{answerOf, buildOf, roomOk}
 pub use Rattle.builder.specs.Build.{builtNumber, builtValue}
 unfoldable pub use Rattle.builder.specs.Image.{image}
 pub use Rattle.builder.specs.declared.Built.{Built}
+pub use Rattle.coherence.specs.Agreement.{plain}
 pub use Rattle.coherence.specs.Sessions.{Admitted, BilledCall, after, asked, asks}
 pub use Rattle.coherence.specs.Started.{StartedInAnyOrder, TurnsOn, start}
 pub use Rattle.conduct.specs.Answered.{AnswersOn, NothingSaid, OffIsVirtual, OneAcknowledgement, PrefetchAnswered, ShiftAnswered}
@@ -18,11 +22,11 @@ pub use Rattle.conduct.specs.Placed.{ComesFromLast, FromNowhere, PlaceBeside}
 pub use Rattle.conduct.specs.Refused.{AcceptedWhen, BenchStays, BytesFit, ExactlyWhen, GoodKept, NothingChanges, RangeKept, ValueFits}
 pub use Rattle.conduct.specs.Written.{LoadCopied, LoadThenCopy, ReadBack, ReadShown, ResetFresh}
 pub use Rattle.decision.specs.Names.{Access, Answer, Bill, Fault, PhysicalAddress, Prices, VirtualAddress}
-pub use Rattle.memory.specs.Memory.{Lent, lent, lentOk}
+pub use Rattle.memory.specs.Memory.{Lent, LentAt, lentAlone, lentOk}
 pub use Rattle.page.specs.Ground.{Bool, List, [], _%_, _++_, _<_, _∷_, _≡_, drop, eqb, false, length, ltb, not, replicate, suc, true, zero, ℕ}
 pub use Rattle.page.specs.Words.{limit, megabytes, physical, virtual}
 pub use Rattle.prices.specs.declared.Price.{Price}
-unfoldable pub use Rattle.records.specs.Mappings.{mappings}
+unfoldable pub use Rattle.records.specs.Mappings.{mappings, recordsOf}
 unfoldable pub use Rattle.records.specs.Meanings.{meaning}
 pub use Rattle.records.specs.Meanings.{meaningNumber, meaningValues}
 unfoldable pub use Rattle.records.specs.Refusals.{bad, overlapping}
@@ -38,3 +42,4 @@ pub use Rattle.unit.specs.Machine.{Call, Said, drop-fault, read, request, step,
 pub use Rattle.registers.specs.Offsets.{lockAt, acknowledgeAt, prefetchAt}
 pub use Rattle.unit.specs.Refusals.{Clear, First, Refusing}
 pub use Rattle.unit.specs.declared.Device.{Device}
+pub use Rattle.walk.specs.Uniform.{lookIn}

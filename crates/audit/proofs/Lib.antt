@@ -1,0 +1,11 @@
+pub mod Names
+pub mod Sizes
+pub mod Equal
+pub mod Counts
+pub mod Scans
+pub mod Inside
+pub mod Verdicts
+pub mod Putting
+pub mod Accepts
+pub mod Reading
+pub mod Meaning
