@@ -11,7 +11,7 @@ pub use Rattle.page.proofs.Picks.{and-left, and-no, and-right, and-yes, pick-no
 unfoldable pub use Rattle.audit.specs.Check.{checkOf, imageOk, levelChecked, tableChecked, tableIn, wordsChecked}
 pub use Rattle.audit.specs.Check.{firstChecked}
 unfoldable pub use Rattle.audit.specs.Groups.{allAre, broken}
-pub use Rattle.audit.specs.Groups.{equalOver, tableWord, taken, takenAt}
+pub use Rattle.audit.specs.Groups.{tableWord, taken, takenAt}
 unfoldable pub use Rattle.audit.specs.Pages.{levelPages, tablePages}
 pub use Rattle.audit.specs.Pages.{firstPages, pageMapping, pagesIn, wordPages}
 pub use Rattle.audit.specs.Puts.{Fits, FirstListable, FirstSound, GroupListable, LevelListable, Listable, Put, TableListable}

@@ -17,11 +17,11 @@ abbrev Told : ℕ × ℕ → Type 0
 Told r = (builtRefused (say r) ≡ true) × (builtSaid (say r) ≡ r)
 
 -- every refusal of a list
-abbrev Each : {K : Type 0} → (K → Type 0) → Refusing K → Type 0
+abbrev pub Each : {K : Type 0} → (K → Type 0) → Refusing K → Type 0
 Each P [] = Unit {0}
 Each P (r ∷ rs) = P (r .1) × Each P rs
 
-first-each : {K : Type 0} (P : K → Type 0) (rs : Refusing K) (k : K) → Each P rs → First rs k → P k
+pub first-each : {K : Type 0} (P : K → Type 0) (rs : Refusing K) (k : K) → Each P rs → First rs k → P k
 first-each P (r ∷ rs) k e (inl f) = subst P (f .1) (e .0)
 first-each P (r ∷ rs) k e (inr f) = first-each P rs k (e .1) (f .1)
 

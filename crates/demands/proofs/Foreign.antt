@@ -49,6 +49,7 @@ use Rattle.walk.proofs.Laws.{second-by}
 use Rattle.audit.proofs.Reading.{lent-read, lent-alone, alone-at, accepted-exactly}
 use Rattle.audit.proofs.Meaning.{pages-mean}
 use Rattle.demands.specs.Foreign.{imageAnswer, ForeignCalled, PagesAnswer, BuiltAccepted, RebuiltAlike, Foreign}
+use Rattle.demands.proofs.Auditing.{audit-refuses}
 use Rattle.demands.proofs.Lists.{list-said, as-list, refused-uniform, refused-plain}
 use Rattle.demands.proofs.Buyer.{answer-is, stands, is-lent, built-length, built-lent, bytes-append, word-bytes}
 
@@ -274,4 +275,4 @@ rebuilt-alike l base k base′ len before va a bytes e b low =
     ∙ sym (alone l base k e va a low)
 
 pub foreign : Foreign
-foreign = record { exactly = accepted-exactly; called = foreign-called; pages = pages-answer; built = built-accepted; rebuilt = rebuilt-alike }
+foreign = record { refuses = audit-refuses; exactly = accepted-exactly; called = foreign-called; pages = pages-answer; built = built-accepted; rebuilt = rebuilt-alike }

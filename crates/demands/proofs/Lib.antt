@@ -4,5 +4,6 @@ pub mod Building
 pub mod Proved
 pub mod Answering
 pub mod Buyer
+pub mod Auditing
 pub mod Foreign
 pub mod Signed

@@ -3,6 +3,7 @@ use Rattle.demands.specs.Demands.Names.{megabytes, limit, ℕ, _<_, _≡
 use Rattle.demands.specs.Demands.Names.{isRefusal, Access, VirtualAddress, Bill, Prices, Answer, Call, Said, step, BilledCall, after, Admitted, asked}
 use Rattle.demands.specs.Demands.Names.{asks, TurnsOn, start, Bytes, Verdict, checkOf, pagesIn, recordsOf, plain, lookIn, AcceptedExactly}
 use Rattle.demands.specs.Demands.{meantAs, AsList}
+use Rattle.demands.specs.Auditing.{AuditRefuses}
 use Rattle.demands.specs.Buyer.{builtIn}
 
 -- what the plain walk of an image alone answers
@@ -47,6 +48,7 @@ RebuiltAlike =
 
 -- what is signed for such images
 pub record Foreign : Type 0 where
+  pub refuses : AuditRefuses
   pub exactly : AcceptedExactly
   pub called : ForeignCalled
   pub pages : PagesAnswer

@@ -1,7 +1,12 @@
 -- What the definitions of this crate are written with.
-unfoldable pub use Rattle.audit.specs.Check.{checkOf}
+unfoldable pub use Rattle.audit.specs.Check.{checkOf, imageOk, tableIn}
+pub use Rattle.audit.specs.Check.{verdictNumber, verdictValue}
+unfoldable pub use Rattle.audit.specs.Groups.{broken}
+pub use Rattle.audit.specs.List.{inventoryNumber, inventoryValue}
+unfoldable pub use Rattle.audit.specs.List.{listOf}
 pub use Rattle.audit.specs.Pages.{pagesIn}
 pub use Rattle.audit.specs.Statements.{AcceptedExactly}
+pub use Rattle.audit.specs.declared.Inventory.{Inventory}
 pub use Rattle.audit.specs.declared.Verdict.{Verdict}
 pub use Rattle.bill.specs.Bill.{f1, freshBill}
 unfoldable pub use Rattle.bill.specs.Bill.{moneyOk}
@@ -23,10 +28,11 @@ pub use Rattle.conduct.specs.Refused.{AcceptedWhen, BenchStays, BytesFit, Exact
 pub use Rattle.conduct.specs.Written.{LoadCopied, LoadThenCopy, ReadBack, ReadShown, ResetFresh}
 pub use Rattle.decision.specs.Names.{Access, Answer, Bill, Fault, PhysicalAddress, Prices, VirtualAddress}
 pub use Rattle.memory.specs.Memory.{Lent, LentAt, lentAlone, lentOk}
-pub use Rattle.page.specs.Ground.{Bool, List, [], _%_, _++_, _<_, _∷_, _≡_, drop, eqb, false, length, ltb, not, replicate, suc, true, zero, ℕ}
+pub use Rattle.page.specs.Ground.{Bool, List, [], _%_, _*_, _++_, _+_, _-_, _<_, _∷_, _≡_, drop, eqb, false, length, ltb, not, replicate, suc, true, zero, ℕ}
 pub use Rattle.page.specs.Words.{limit, megabytes, physical, virtual}
 pub use Rattle.prices.specs.declared.Price.{Price}
 unfoldable pub use Rattle.records.specs.Mappings.{mappings, recordsOf}
+pub use Rattle.records.specs.Mappings.{recordSize}
 unfoldable pub use Rattle.records.specs.Meanings.{meaning}
 pub use Rattle.records.specs.Meanings.{meaningNumber, meaningValues}
 unfoldable pub use Rattle.records.specs.Refusals.{bad, overlapping}
@@ -43,3 +49,8 @@ pub use Rattle.registers.specs.Offsets.{lockAt, acknowledgeAt, prefetchAt}
 pub use Rattle.unit.specs.Refusals.{Clear, First, Refusing}
 pub use Rattle.unit.specs.declared.Device.{Device}
 pub use Rattle.walk.specs.Uniform.{lookIn}
+unfoldable pub use Rattle.walk.specs.Descriptors.{firstOf}
+pub use Rattle.walk.specs.Repeated.{indexLimit}
+pub use Rattle.walk.specs.declared.First.{First as Entry}
+pub use Rattle.walk.specs.declared.Table.{Table}
+pub use Rattle.wire.specs.Words.{wordAt}
