@@ -118,11 +118,13 @@ module _ (l : List ℕ) (base n i : ℕ) (low : i < n) where
   level-turn k e =
       let g = goes-on (firstChecked l base i d) (first-splits l base i d) (length (firstPages l base i d)) k e in (
         (λ rest. level-next rest ∙ g .0 _),
-        ap length level-pages ∙ length-append (firstPages l base i d) (levelPages l base (i + 1) (n - (i + 1))) ∙ ap (λ (x : ℕ). x + length (levelPages l base (i + 1) (n - (i + 1)))) (sym (g .1)),
+        ap length level-pages ∙ length-append (firstPages l base i d) (levelPages l base (i + 1) (n - (i + 1))) ∙ ap
+            (λ (x : ℕ). x + length (levelPages l base (i + 1) (n - (i + 1)))) (sym (g .1)),
       )
 
   pub level-stop : (v : Verdict) → ((m : ℕ) → v ≡ Verdict.Good m → ⊥)
-      → firstChecked l base i (firstOf (wordAt l (4 * i))) (Verdict.Good (length (firstPages l base i (firstOf (wordAt l (4 * i)))))) ≡ v → (rest : Verdict) → levelChecked l base i (n - i) rest ≡ v
+      → firstChecked l base i (firstOf (wordAt l (4 * i))) (Verdict.Good (length (firstPages l base i (firstOf (wordAt l (4 * i)))))) ≡ v → (rest : Verdict)
+      → levelChecked l base i (n - i) rest ≡ v
   level-stop v odd e rest = level-next rest ∙ stops (firstChecked l base i d) (first-splits l base i d) (length (firstPages l base i d)) v odd e _
 
 -- a first-level word lists a section, or the pages of a table

@@ -44,7 +44,8 @@ module _ {A : Type 0} (f : Verdict → A) (say : ℕ × ℕ → A) (else : A) (m
     level-is zero i v rs e = e
     level-is (suc n) i v rs e = entry-is i (firstOf (wordAt l (4 * i))) _ _ (level-is n (suc i) v rs e)
 
-    image-is : (rs : Refusing (ℕ × ℕ)) → f (Verdict.Good (length (pagesIn megabytes l base))) ≡ refuses rs say else → f (checkOf megabytes l base) ≡ refuses (imageRefusals l base rs) say else
+    image-is : (rs : Refusing (ℕ × ℕ)) → f (Verdict.Good (length (pagesIn megabytes l base))) ≡ refuses rs say else
+        → f (checkOf megabytes l base) ≡ refuses (imageRefusals l base rs) say else
     unfolding checkOf
     image-is rs e =
         chosen (not (imageOk base (length l))) _ _ (4, 0) _ memory
@@ -70,7 +71,8 @@ module _ (P : ℕ × ℕ → Type 0) (memory : P (4, 0)) (outside : (a : ℕ) �
   image-each rs e = (memory, (outside base, level-each megabytes 0 rs e))
 
 -- an answer that is its refusals' is refused by them
-refuses-by-list : {A : Type 0} (answer : A) (refused : A → Bool) (said : A → ℕ × ℕ) (say : ℕ × ℕ → A) (else : A) (rs : Refusing (ℕ × ℕ)) → answer ≡ refuses rs say else → refused else ≡ false
+refuses-by-list : {A : Type 0} (answer : A) (refused : A → Bool) (said : A → ℕ × ℕ) (say : ℕ × ℕ → A) (else : A) (rs : Refusing (ℕ × ℕ))
+    → answer ≡ refuses rs say else → refused else ≡ false
     → Each (λ k. (refused (say k) ≡ true) × (said (say k) ≡ k)) rs → RefusesBy answer refused said rs
 refuses-by-list answer refused said say else rs e g each =
     subst (λ x. RefusesBy x refused said rs) (sym e)

@@ -61,7 +61,8 @@ page-gives Held.Nobody va = tt
 
 -- an accepted image, wherever it is lent
 module _ (l : List ℕ) (base k : ℕ) (e : checkOf megabytes l base ≡ Verdict.Good k) where
-  said-at : (m : Lent) → lentOk m ≡ true → LentAt l base m → (va : VirtualAddress) (a : Access) → va .0 < limit → plain (lookIn m base) va a ≡ meantAs (meaning (pagesIn megabytes l base) va a)
+  said-at : (m : Lent) → lentOk m ≡ true → LentAt l base m → (va : VirtualAddress) (a : Access) → va .0 < limit
+      → plain (lookIn m base) va a ≡ meantAs (meaning (pagesIn megabytes l base) va a)
   said-at m ok at va a low =
       list-said (lookIn m base) (pagesIn megabytes l base) va a
       (subst (Gives (holder (pagesIn megabytes l base) va) va) (sym (pages-mean l base k m e ok at .finds va low)) (page-gives (holder (pagesIn megabytes l base) va) va))
@@ -91,7 +92,8 @@ foreign-called l base k m v p b₀ cs b c va a r acc at on adm =
     never = cache-never-shows m (startControl v) base (start-on v) (start-walking v)
 
     by : (t : Bool) → lentOk m ≡ t → asked (after m (started (startControl v) base) cs) c ≡ asks va a →
-        step m (after m (started (startControl v) base) cs) b c .said ≡ Said.Answered r → isRefusal r ≡ false → (r ≡ imageAnswer l base va a) × AsList r (meaning (pagesIn megabytes l base) va a)
+        step m (after m (started (startControl v) base) cs) b c .said ≡ Said.Answered r → isRefusal r ≡ false → (r ≡ imageAnswer l base va a) × AsList r
+        (meaning (pagesIn megabytes l base) va a)
     by true ok q s f =
         let n = never (pages-mean l base k m acc ok at .uniform) cs b c va a r adm q s f in
         let z : r ≡ meantAs (meaning (pagesIn megabytes l base) va a) = n .1 ∙ said-at l base k acc m ok at va a (n .0) in

@@ -46,7 +46,8 @@ two-said : (m : Mapping) → Told m → m .access ≡ 2 → parsed (bare (m .kin
 unfolding accessText pick accessNamed sameBytes _and_ runLength belongs blank _or_
 two-said m t e =
     ap (λ (a : ℕ). parsed (bare (m .kind) (m .at .0) (m .to .0) (accessText a))) e
-    ∙ said-bare (m .kind) (m .at .0) (m .to .0) 2 (t .sound .virtual) (t .sound .physical) (t .virtual) (t .physical) [] 114 (lit≤ tt, tt) (omega arith) (λ x. omega arith) refl refl (λ x. omega arith)
+    ∙ said-bare (m .kind) (m .at .0) (m .to .0) 2 (t .sound .virtual) (t .sound .physical) (t .virtual) (t .physical) [] 114 (lit≤ tt, tt) (omega arith)
+    (λ x. omega arith) refl refl (λ x. omega arith)
     ∙ ap (λ (a : ℕ). Said.Mapped (mapping (m .kind) (m .at .0) (m .to .0) a)) (sym e)
 
 three-said : (m : Mapping) → Told m → m .access ≡ 3 → parsed (bare (m .kind) (m .at .0) (m .to .0) (accessText (m .access))) ≡ Said.Mapped m
@@ -143,7 +144,8 @@ numbered-from rs f (suc k) c i room ls h g r =
     (told-said m (f c (omega arith) (omega arith))))) (
       λ j a. ih .0 j (omega arith) ∙ getD-set-other ls c j i 0 (λ e. omega arith),
       λ j a b. elim (decLe j c) [
-        | yes q ↦ ih .0 j (omega arith) ∙ ap (λ (n : ℕ). getD (set ls c i) n 0) (let z : j ≡ c = omega arith in z) ∙ getD-set-same ls c i 0 (omega arith) ∙ (let z : i ≡ i + (j - c) = omega arith in z)
+        | yes q ↦ ih .0 j (omega arith) ∙ ap (λ (n : ℕ). getD (set ls c i) n 0) (let z : j ≡ c = omega arith in z) ∙ getD-set-same ls c i 0 (omega arith) ∙
+            (let z : i ≡ i + (j - c) = omega arith in z)
         | no q ↦ ih .1 j (omega arith) (omega arith) ∙ (let z : suc i + (j - suc c) ≡ i + (j - c) = omega arith in z)
       ],
     )
@@ -170,7 +172,8 @@ module _ (a b c d x : ℕ) (ha : a < 256) (hb : b < 256) (hc : c < 256) (hd : d 
   byte-3 : x / 16777216 % 256 ≡ d
   byte-3 = omega arith
 
-bytes-back : (m : Mapping) (r : List ℕ) → getD r 0 0 < 256 → getD r 1 0 < 256 → getD r 2 0 < 256 → getD r 3 0 < 256 → getD r 4 0 < 256 → getD r 5 0 < 256 → getD r 6 0 < 256 → getD r 7 0 < 256
+bytes-back : (m : Mapping) (r : List ℕ) → getD r 0 0 < 256 → getD r 1 0 < 256 → getD r 2 0 < 256 → getD r 3 0 < 256 → getD r 4 0 < 256 → getD r 5 0 < 256
+    → getD r 6 0 < 256 → getD r 7 0 < 256
     → m .at .0 ≡ littleEndian (getD r 0 0) (getD r 1 0) (getD r 2 0) (getD r 3 0) → m .to .0 ≡ littleEndian (getD r 4 0) (getD r 5 0) (getD r 6 0) (getD r 7 0)
     → typeOf (m .kind) ≡ getD r 8 0 → m .access % 256 ≡ getD r 9 0 → getD r 10 0 ≡ 0 → getD r 11 0 ≡ 0 → (i : ℕ) → i < 12 → getD (recordOf m) i 0 ≡ getD r i 0
 unfolding recordOf

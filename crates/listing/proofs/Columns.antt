@@ -59,7 +59,8 @@ pub shown-memory : (r n : ℕ) (o l : List ℕ) → shown r o ≡ shown n l → 
 shown-memory r n o l e = ap (λ (x : Shown). x .memory) e
 
 -- bytes behind bytes, shown
-pub shown-then : (l m n : List ℕ) (at k r : ℕ) (s t : List ℕ) → k ≡ at + length s → at + length s ≤ length l → m ≡ pasted l at s → shown r n ≡ shownAt m k t → shown r n ≡ shownAt l at (s ++ t)
+pub shown-then : (l m n : List ℕ) (at k r : ℕ) (s t : List ℕ) → k ≡ at + length s → at + length s ≤ length l → m ≡ pasted l at s → shown r n ≡ shownAt m k t
+    → shown r n ≡ shownAt l at (s ++ t)
 shown-then l m n at k r s t e h p q =
     ap₂ shown
     (shown-count _ _ _ _ q ∙ (let z : k + length t ≡ at + length (s ++ t) = omega (arith, length-append s t) in z))
@@ -100,7 +101,8 @@ module _ (ms : List Mapping) (o₀ o : List ℕ) (at i : ℕ) (v : Turned ms o�
   pub printing-room : i < length ms → at + 27 ≤ length o
   printing-room h = omega (arith, v .room)
 
-  pub printing-turn : (m : Mapping) (o′ : List ℕ) (r : ℕ) → i < length ms → m ≡ getD ms i noMapping → length o′ ≡ length o → shown r o′ ≡ shownAt o at (lineText m) → Turned ms o₀ o′ r (i + 1)
+  pub printing-turn : (m : Mapping) (o′ : List ℕ) (r : ℕ) → i < length ms → m ≡ getD ms i noMapping → length o′ ≡ length o → shown r o′ ≡ shownAt o at (lineText m)
+      → Turned ms o₀ o′ r (i + 1)
   unfolding printed
   printing-turn m o′ r h e k q =
       let R : List ℕ = printed (drop (i + 1) ms) in
@@ -153,7 +155,8 @@ unfolding formedFrom
 formed-last rs n i h v = sym (v ∙ ap (formedFrom rs i) (let z : n - i ≡ 0 = omega arith in z))
 
 -- what printing answers, by its two tests
-pub print-on : (rs o o′ : List ℕ) (r : ℕ) → formed rs ≡ true → 27 * (length rs / 12) ≤ length o → shown r o′ ≡ shownAt o 0 (printed (mappings rs)) → printing (Printed.Length r) o′ ≡ printText rs o
+pub print-on : (rs o o′ : List ℕ) (r : ℕ) → formed rs ≡ true → 27 * (length rs / 12) ≤ length o → shown r o′ ≡ shownAt o 0 (printed (mappings rs))
+    → printing (Printed.Length r) o′ ≡ printText rs o
 unfolding printText
 print-on rs o o′ r f h e =
     ap₂ (λ (n : ℕ) (l : List ℕ). printing (Printed.Length n) l)
