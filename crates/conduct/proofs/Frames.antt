@@ -1,13 +1,13 @@
 -- A page that a walk over bytes finds starts below 2^32. Assumes nothing.
-use Rattle.conduct.specs.Names.{List, ℕ, _+_, _^_, _<_, getD, Lent, Found}
-use Rattle.conduct.proofs.Names.{sym, _∙_, subst, arith, take, pick-by, placeIn, wordOf, firstOf, readIn, walkFrom, BytesFit}
+use Rattle.conduct.specs.Names.{ℕ, _^_, _<_, Lent, Found}
+use Rattle.conduct.proofs.Names.{arith, pick-by, placeIn, wordOf, firstOf, readIn, walkFrom, BytesFit}
 use native.Mathlib.Nat.{lt-of-le-of-lt}
 use lib.ListN.{drop}
-use lib.Seq.{getD-take, getD-drop}
 use Rattle.page.specs.Words.{lowBits}
 use Rattle.page.proofs.Lower.{upper-le}
 use Rattle.memory.specs.Memory.{partAt, fetchedIn}
-use Rattle.wire.specs.Words.{littleEndian}
+use Rattle.wire.specs.Words.{Bytes}
+use Rattle.wire.proofs.Reading.{bytes-drop, bytes-take, word-lt}
 use Rattle.memory.specs.declared.Place.{Place}
 use Rattle.memory.specs.declared.Source.{Source}
 use Rattle.walk.specs.Descriptors.{secondOf}
@@ -17,27 +17,11 @@ use Rattle.walk.specs.declared.Table.{Table}
 use Rattle.walk.specs.declared.Read.{Read}
 use Rattle.walk.proofs.Laws.{second-by}
 
--- four bytes are a word below 2^32
-little : (a b c d : ℕ) → a < 256 → b < 256 → c < 256 → d < 256 → littleEndian a b c d < 2 ^ 32
-little a b c d p q r s = omega arith
-
-abbrev Bytes : List ℕ → Type 0
-Bytes s = (i : ℕ) → i < 4 → getD s i 0 < 256
-
-pub word-fits : (s : List ℕ) → Bytes s → wordOf s < 2 ^ 32
-unfolding wordOf
-word-fits s h =
-    pick-by (λ (x : ℕ). x < 2 ^ 32) _ _ _
-    (λ _. little (getD s 0 0) (getD s 1 0) (getD s 2 0) (getD s 3 0) (h 0 (omega arith)) (h 1 (omega arith)) (h 2 (omega arith)) (h 3 (omega arith)))
-    (λ _. omega arith)
-
-part-fits : (l : List ℕ) → ((i : ℕ) → getD l i 0 < 256) → (k : ℕ) → Bytes (take 4 (drop k l))
-part-fits l f k i h = subst (λ (x : ℕ). x < 256) (sym (getD-take 4 (drop k l) i 0 h ∙ getD-drop k l i 0)) (f (k + i))
-
+-- the bytes at a place are bytes
 place-fits : (m : Lent) → BytesFit m → (p : Place) → Bytes (partAt m p)
-place-fits m f (Place.OnChip k) = part-fits (m .on) (f .0) k
-place-fits m f (Place.External k) = part-fits (m .ext) (f .1) k
-place-fits m f Place.Nowhere = λ i h. omega arith
+place-fits m f (Place.OnChip k) = bytes-take 4 (drop k (m .on)) (bytes-drop k (m .on) (f .0))
+place-fits m f (Place.External k) = bytes-take 4 (drop k (m .ext)) (bytes-drop k (m .ext) (f .1))
+place-fits m f Place.Nowhere = λ i. omega arith
 
 abbrev ReadFits : Read → Type 0
 ReadFits (Read.Word w p) = w < 2 ^ 32
@@ -50,7 +34,7 @@ read-at-fits w h Place.Nowhere = tt
 
 read-fits : (m : Lent) → BytesFit m → (a : ℕ) → ReadFits (readIn m a)
 unfolding readIn
-read-fits m f a = read-at-fits (wordOf (fetchedIn m a)) (word-fits (fetchedIn m a) (place-fits m f (placeIn m a))) (placeIn m a)
+read-fits m f a = read-at-fits (wordOf (fetchedIn m a)) (word-lt (fetchedIn m a) (place-fits m f (placeIn m a))) (placeIn m a)
 
 -- a page starts no later than its word
 abbrev pub FrameFits : Found → Type 0

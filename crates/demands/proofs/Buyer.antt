@@ -22,7 +22,8 @@ use Rattle.records.specs.Mappings.{mappingsFrom, mappingOf, holds}
 use Rattle.wire.specs.Spliced.{bytesBy}
 use Rattle.prices.specs.Prices.{figureOk, every}
 use Rattle.translates.specs.Statements.{Has}
-use Rattle.translates.proofs.Theorems.{bytes-drop, built-has}
+use Rattle.translates.proofs.Theorems.{built-has}
+use Rattle.wire.proofs.Reading.{bytes-drop}
 use Rattle.translates.proofs.Samples.{accepts-a}
 use Rattle.demands.specs.Buyer.{BuiltThenCalled, builtIn, BuiltSession, roomA, pricesA, memoryA, deviceA, callsA, byteA, Exhibited}
 use Rattle.demands.proofs.Lists.{start-is}
@@ -35,7 +36,8 @@ module _ (rs : List ℕ) (base len : ℕ) (before : List ℕ) where
   unfolding buildOf
   answer-is e = e
 
-  stands-at : (l : List ℕ) (b : ℕ) → l ≡ buildOf rs base before .memory → b ≡ base → answerOf rs base (length before) ≡ Built.Length len → Has l b base (image megabytes (mappings rs) base)
+  stands-at : (l : List ℕ) (b : ℕ) → l ≡ buildOf rs base before .memory → b ≡ base → answerOf rs base (length before) ≡ Built.Length len
+      → Has l b base (image megabytes (mappings rs) base)
   stands-at l b e f h =
       subst (λ (x : ℕ). Has l x base (image megabytes (mappings rs) base)) (sym f)
       (subst (λ (x : List ℕ). Has x base base (image megabytes (mappings rs) base)) (sym e) (built-has rs base len before h))

@@ -36,7 +36,8 @@ use Rattle.coherence.proofs.Sessions.{cache-never-shows}
 use Rattle.translates.specs.Statements.{Gives}
 use Rattle.translates.proofs.Over.{first-read, first-is, says-fine, says-coarse}
 use Rattle.translates.proofs.Repeats.{image-repeated, no-table}
-use Rattle.translates.proofs.Theorems.{ImageRead, image-read, bytes-drop, bytes-take, word-lt}
+use Rattle.translates.proofs.Theorems.{ImageRead, image-read}
+use Rattle.wire.proofs.Reading.{bytes-drop, bytes-take, word-lt}
 use Rattle.audit.specs.Check.{imageOk}
 use Rattle.audit.specs.Statements.{foundBy, NamedInside, Consistent}
 use Rattle.audit.specs.Pages.{pageMapping, wordPages, tablePages, firstPages, levelPages}

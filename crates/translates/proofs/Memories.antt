@@ -1,8 +1,8 @@
 -- Memories that hold the image read as its words. Assumes nothing.
-use Rattle.translates.specs.Names.{_≡_, true, List, ℕ, _+_, _-_, _≤_, _<_, length, getD, take, drop, VirtualAddress, Lent, lentOk, Mapping}
+use Rattle.translates.specs.Names.{_≡_, true, List, ℕ, _+_, _-_, _≤_, _<_, length, take, drop, VirtualAddress, Lent, lentOk, Mapping}
 use Rattle.translates.specs.Names.{Held, holder, imageLength, image}
 use Rattle.translates.proofs.Names.{refl, sym, ap, ap₂, _∙_, suc, _*_, _/_, _%_, _^_, arith, lit<, length-take}
-use Rattle.translates.proofs.Names.{getD-take, getD-drop, upper, virtual, pick-yes, pick-by, typeOf-lt}
+use Rattle.translates.proofs.Names.{getD, getD-take, getD-drop, upper, virtual, pick-yes, pick-by, typeOf-lt}
 use Rattle.translates.proofs.Names.{placeIn, wordOf, Read, readIn, All, OnHeld, all-holder, Second, tableOf, tableSize, tableStart}
 use Rattle.translates.proofs.Names.{sectionWord, firstBy, firstWord, pageWord, addressOf, secondWord, inTables, imageWord}
 use Rattle.translates.proofs.Names.{bytesBy, end-next, end-last, Has, Standing}

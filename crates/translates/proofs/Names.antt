@@ -9,7 +9,7 @@ unfoldable pub use Rattle.memory.specs.Memory.{placeIn}
 pub use Rattle.memory.specs.declared.Place.{Place}
 pub use Rattle.page.proofs.Picks.{pick-by, pick-no, pick-yes}
 pub use Rattle.page.proofs.Slot.{lowBits-le, typeOf-lt}
-pub use Rattle.page.specs.Ground.{Bool, _%_, _*_, _/_, _^_, false, suc}
+pub use Rattle.page.specs.Ground.{Bool, _%_, _*_, _/_, _^_, false, getD, suc}
 unfoldable pub use Rattle.page.specs.Low.{upper}
 unfoldable pub use Rattle.page.specs.Pick.{_or_, pick}
 pub use Rattle.page.specs.Words.{lowBits, physical, virtual}

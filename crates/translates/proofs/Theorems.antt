@@ -1,17 +1,15 @@
 -- The image of an accepted list translates as the list (01, demand 3). Assumes nothing.
 use Rattle.translates.specs.Names.{_≡_, true, List, ℕ, _+_, _-_, _≤_, _<_, length, take, drop, megabytes, limit, VirtualAddress, Lent, lentOk}
-use Rattle.translates.specs.Names.{Mapping, mappings, holder, Built, imageLength, image, answerOf, buildOf}
-use Rattle.translates.proofs.Names.{refl, sym, ap, ap₂, _∙_, subst, Bool, false, _*_, _/_, _%_, _^_, arith, lit<, length-take, getD-take}
-use Rattle.translates.proofs.Names.{getD-drop, le-refl, _or_, pick-by, placeIn, wordOf, Walked, firstOf, readIn, walkFrom}
-use Rattle.translates.proofs.Names.{mappingOf, proper, All, Disjoint, tableOf, tableStart, Gives, ReadsInside, Has, Standing}
-use native.Mathlib.Decide.{decLe}
+use Rattle.translates.specs.Names.{Mapping, mappings, holder, Built, imageLength, image, answerOf, buildOf, Bytes}
+use Rattle.translates.proofs.Names.{refl, sym, ap, ap₂, _∙_, subst, Bool, false, _*_, _/_, _%_, _^_, arith, le-refl, _or_, placeIn}
+use Rattle.translates.proofs.Names.{Walked, firstOf, readIn, walkFrom, mappingOf, proper, All, Disjoint, tableOf, tableStart, Gives, ReadsInside, Has, Standing}
 use lib.Dec.{eqb}
 use borrow.Author.Tests.{eqb-true}
-use lib.ListN.{List·getD-eq-default}
 use lib.Seq.{take-append-seam}
 use Rattle.page.proofs.Picks.{and-right, or-no}
 use Rattle.walk.specs.Repeated.{AllRepeated}
 use Rattle.walk.specs.Walk.{baseBits}
+use Rattle.wire.proofs.Reading.{bytes-drop, bytes-take, word-lt}
 use Rattle.walk.proofs.Indices.{aligned, first-at-legal}
 use Rattle.walk.proofs.Repeats.{repeated-uniform}
 use Rattle.records.specs.Mappings.{recordAt}
@@ -19,7 +17,7 @@ use Rattle.records.proofs.Alls.{all-map}
 use Rattle.records.proofs.Accepted.{accepted-proper, accepted-disjoint, all-records}
 use Rattle.builder.specs.Build.{leaves}
 use Rattle.builder.proofs.Answers.{room-unit, room-memory, accepted}
-use Rattle.translates.specs.Statements.{Translates, Bytes, ImageTranslates, LeavesImage}
+use Rattle.translates.specs.Statements.{Translates, ImageTranslates, LeavesImage}
 use Rattle.walk.specs.Uniform.{lookIn}
 use Rattle.translates.proofs.Written.{foundFor}
 use Rattle.translates.proofs.Over.{Stands, Narrow, walked, readsFor, over}
@@ -35,21 +33,6 @@ narrow-of n m e = either (eqb (m .access) 2) refl (and-right _ _ (and-right _ _ 
     either : (b : Bool) → eqb (m .access) 2 ≡ b → (b or eqb (m .access) 3) ≡ true → m .access < 4
     either true t f = omega (arith, eqb-true (m .access) 2 t)
     either false t f = omega (arith, eqb-true (m .access) 3 (sym (or-no false (eqb (m .access) 3) refl) ∙ f))
-
--- a word of bytes fits 32 bits, and parts of bytes are bytes
-pub bytes-drop : (n : ℕ) (l : List ℕ) → Bytes l → Bytes (drop n l)
-bytes-drop n l h i = subst (λ (x : ℕ). x < 256) (sym (getD-drop n l i 0)) (h (n + i))
-
-pub bytes-take : (n : ℕ) (l : List ℕ) → Bytes l → Bytes (take n l)
-bytes-take n l h i = elim (decLe n i) [
-  | yes g ↦ subst (λ (x : ℕ). x < 256) (sym (List·getD-eq-default (take n l) 0 {n = i} (omega (arith, length-take n l)))) (lit< tt)
-  | no g ↦ subst (λ (x : ℕ). x < 256) (sym (getD-take n l i 0 (omega arith))) (h i)
-]
-
-pub word-lt : (l : List ℕ) → Bytes l → wordOf l < 2 ^ 32
-unfolding wordOf
-word-lt l h =
-    pick-by (λ (w : ℕ). w < 2 ^ 32) _ _ _ (λ _. omega (arith, h 0, h 1, h 2, h 3)) (λ _. lit< tt)
 
 phys-of : (rs : List ℕ) → Bytes rs → (k : ℕ) → Phys (mappingOf (recordAt rs k))
 unfolding mappingOf

@@ -1,8 +1,8 @@
 -- What the image of an accepted list owes (01, demand 3): the plain walk over it finds what the list says, the same over a
 -- page's whole range, and needs no word outside it.
-use Rattle.translates.specs.Names.{ℕ, _+_, _-_, _<_, _≤_, _≡_, true, List, _++_, length, getD, take, drop, megabytes, limit, VirtualAddress}
+use Rattle.translates.specs.Names.{ℕ, _+_, _-_, _<_, _≤_, _≡_, true, List, _++_, length, take, drop, megabytes, limit, VirtualAddress}
 use Rattle.translates.specs.Names.{Lent, lentOk, Source, Reads, Page, Found, Uniform, physicalOf, Mapping, Held, mappings, byteOf, holder}
-use Rattle.translates.specs.Names.{Built, imageLength, image, answerOf, buildOf, _⊎_}
+use Rattle.translates.specs.Names.{Built, imageLength, image, answerOf, buildOf, Bytes, _⊎_}
 use Rattle.walk.specs.Uniform.{lookIn}
 
 -- what is found has the byte and the access of the mapping that holds the address; where none does, no page is found
@@ -37,10 +37,6 @@ pub record Translates (m : Lent) (base : ℕ) (ms : List Mapping) : Type 0 where
   pub gives : (va : VirtualAddress) → va .0 < limit → Gives (holder ms va) va (lookIn m base va .found)
   pub uniform : Uniform limit (lookIn m base)
   pub inside : (va : VirtualAddress) → va .0 < limit → ReadsInside base (imageLength megabytes ms) (lookIn m base va .reads)
-
--- a list of bytes
-abbrev pub Bytes : List ℕ → Type 0
-Bytes l = (i : ℕ) → getD l i 0 < 256
 
 -- every accepted list, wherever its image stands in memories that are not refused
 abbrev pub ImageTranslates : Type 0

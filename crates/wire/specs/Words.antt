@@ -1,5 +1,5 @@
 -- Words and bytes in a buffer; all numbers are little-endian.
-use Rattle.wire.specs.Names.{ℕ, _+_, _*_, _/_, _%_, _^_, List, [], _∷_, _++_, leb, length, take, drop, getD, pick}
+use Rattle.wire.specs.Names.{ℕ, _+_, _*_, _/_, _%_, _^_, _<_, List, [], _∷_, _++_, leb, length, take, drop, getD, pick}
 
 -- four bytes as a number, little-endian
 abbrev pub littleEndian : ℕ → ℕ → ℕ → ℕ → ℕ
@@ -51,6 +51,10 @@ highAt l at = wordAt l at / 65536
 -- bytes in a memory, from an index on
 unfoldable pub pasted : List ℕ → ℕ → List ℕ → List ℕ
 pasted l at s = (take at l ++ s) ++ drop (at + length s) l
+
+-- a list of bytes
+abbrev pub Bytes : List ℕ → Type 0
+Bytes l = (i : ℕ) → getD l i 0 < 256
 
 -- how many bytes at the front of a memory are the text, and the memory
 pub record Shown : Type 0 where

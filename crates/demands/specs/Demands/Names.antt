@@ -42,7 +42,7 @@ pub use Rattle.registers.specs.Answers.{isPrefetch, isRefusal}
 pub use Rattle.registers.specs.declared.Pending.{Pending}
 unfoldable pub use Rattle.tables.specs.Tables.{imageLength}
 pub use Rattle.translates.specs.ListA.{baseA, recordsA}
-pub use Rattle.translates.specs.Statements.{Bytes, Standing}
+pub use Rattle.translates.specs.Statements.{Standing}
 unfoldable pub use Rattle.unit.specs.Calls.{requestOf, writeOf}
 pub use Rattle.unit.specs.Machine.{Call, Said, drop-fault, read, request, step, write}
 pub use Rattle.registers.specs.Offsets.{lockAt, acknowledgeAt, prefetchAt}
@@ -53,4 +53,4 @@ unfoldable pub use Rattle.walk.specs.Descriptors.{firstOf}
 pub use Rattle.walk.specs.Repeated.{indexLimit}
 pub use Rattle.walk.specs.declared.First.{First as Entry}
 pub use Rattle.walk.specs.declared.Table.{Table}
-pub use Rattle.wire.specs.Words.{wordAt}
+pub use Rattle.wire.specs.Words.{Bytes, wordAt}
