@@ -1,4 +1,5 @@
-/* The paper's list A, from C: builds its tables, tries a few calls on the model, and prints what was answered.
+/* The paper's list A, from C: builds its tables, compares them with those of a list whose last page is elsewhere, tries a few
+ * calls on the model, and prints what was answered.
  *
  *     tools/native capi
  *     cc -I include examples/list_a.c target/native/libcapi.a -o list_a && ./list_a
@@ -48,7 +49,7 @@ static void print_from(uint32_t from) {
 
 int main(void) {
     static uint8_t records[3 * NX_RECORD_BYTES], memory[8192], external[4], calls[CALLS * NX_CALL_BYTES];
-    static uint8_t out[CALLS * NX_ANSWER_BYTES + NX_STATE_BYTES];
+    static uint8_t before[8192], parted[NX_PART_BYTES], out[CALLS * NX_ANSWER_BYTES + NX_STATE_BYTES];
     put_record(records, 0x010000, 0x10020000, 1, 3);
     put_record(records + NX_RECORD_BYTES, 0x300000, 0x11200000, 0, 2);
     put_record(records + 2 * NX_RECORD_BYTES, 0x500400, 0x10000C00, 3, 3);
@@ -64,6 +65,12 @@ int main(void) {
         const uint8_t *page = records + at;
         printf("page %06" PRIX64 " to %08" PRIX64 ", type %d, access %d\n", get(page, 4), get(page + 4, 4), page[8], page[9]);
     }
+
+    put_record(records + 2 * NX_RECORD_BYTES, 0x500400, 0x10001000, 3, 3);
+    uint64_t earlier = nx_build(records, sizeof records, BASE, before, sizeof before);
+    nx_part(memory, built, before, earlier, parted, sizeof parted);
+    printf("compared: %" PRIu64 ", the part is of image %" PRIu64 " from offset %" PRIX64 ", %" PRIu64 " word differs\n", get(parted, 4),
+           get(parted + 4, 4), get(parted + 8, 8), get(parted + 16, 8));
 
     put_call(calls, NX_WRITE, 0x1C, 0, BASE >> 16); /* base, high half; the low half is 0 in a fresh device */
     put_call(calls + 12, NX_WRITE, 0x08, 0, 7);     /* control: walking, on, no reset */

@@ -82,6 +82,19 @@ uint64_t nx_check(const uint8_t *memory, size_t memory_len, uint32_t base);
 #define NX_MOST_PAGES 16384
 uint64_t nx_list(const uint8_t *memory, size_t memory_len, uint32_t base, uint8_t *out, size_t out_len);
 
+/* Compares a new image with a signed one, word by word from their starts. Writes 24 bytes to `out`, later bytes stay, and gives
+ * 24; or gives 0, `out` unchanged, where it is shorter:
+ *     0  4 where a length is no multiple of 4, else 0
+ *     4  whose part remains (4): that of the new image from the first word that differs; where one image is the shorter and
+ *        agrees throughout, what the longer one has past its end; of the new one, and empty, where they are equal or refused
+ *     8  the offset in its image at which the part begins (8); it runs to the image's end
+ *    16  how many words differ over the common length (8); 0 where refused */
+#define NX_PART_BYTES 24
+#define NX_OF_NEW 1
+#define NX_OF_SIGNED 2
+uint64_t nx_part(const uint8_t *new_image, size_t new_len, const uint8_t *signed_image, size_t signed_len, uint8_t *out,
+                 size_t out_len);
+
 /* Runs the calls in order from a fresh device, fresh meters and a fresh bill, each with these two memories and prices. Writes
  * an answer for each call and then the state to `out`, and gives the number of bytes written; or 0, `out` unchanged, where
  * `calls_len` is no multiple of 12, a call is not as said, a price's kind is over 1, or `out` is too short. */

@@ -14,7 +14,7 @@ pub enum Refusal {
     Pending = 2,
     /// A descriptor that the walk needs is in neither memory.
     Nowhere = 3,
-    /// A memory that may not be lent, alone or beside the other.
+    /// A memory that may not be lent, alone or beside the other; an image of no whole words.
     Memory = 4,
     /// A register offset that there is not.
     Offset = 5,

@@ -1,5 +1,5 @@
-//! The byte boundary: build, run, from, fetch, check and list over byte slices. All
-//! numbers are little-endian.
+//! The byte boundary: build, run, from, fetch, check, list and part over byte slices.
+//! All numbers are little-endian.
 
 use crate::answer::{Fault, Refused, Reply};
 use crate::audit;
@@ -7,14 +7,16 @@ use crate::bill::{Bill, Price, Prices};
 use crate::builder;
 use crate::memory::{Memories, Place};
 use crate::meters::Meters;
+use crate::parting::{self, Comparison, Source};
 use crate::slots::SLOTS;
 use crate::unit::{Books, Image, Lent, Pending, Unit};
 use crate::walk::Access;
 
-/// Bytes of one call, of one answer, and of the state.
+/// Bytes of one call, of one answer, of the state, and of what is said of two images.
 pub const CALL: usize = 12;
 pub const ANSWER: usize = 16;
 pub const STATE: usize = 328;
+pub const PARTING: usize = 24;
 
 /// Kinds of calls.
 pub const WRITE: u8 = 1;
@@ -86,6 +88,8 @@ pub trait Program {
     fn check(&self, memory: &[u8], base: u32) -> u64;
 
     fn list(&self, memory: &[u8], base: u32, out: &mut [u8]) -> u64;
+
+    fn part(&self, new: &[u8], signed: &[u8], out: &mut [u8]) -> u64;
 }
 
 /// This program.
@@ -127,6 +131,10 @@ impl Program for Second {
     fn list(&self, memory: &[u8], base: u32, out: &mut [u8]) -> u64 {
         list(memory, base, out)
     }
+
+    fn part(&self, new: &[u8], signed: &[u8], out: &mut [u8]) -> u64 {
+        part(new, signed, out)
+    }
 }
 
 /// The image's length; or 2^63 + number * 2^32 + index or count.
@@ -143,6 +151,27 @@ pub fn check(memory: &[u8], base: u32) -> u64 {
 /// pages.
 pub fn list(memory: &[u8], base: u32, out: &mut [u8]) -> u64 {
     length_or_refusal(audit::list(memory, base, out))
+}
+
+/// Where two images part: refusal or 0, source, the part's offset in that image, words that
+/// differ. The bytes written, or 0.
+pub fn part(new: &[u8], signed: &[u8], out: &mut [u8]) -> u64 {
+    let Some(out) = out.first_chunk_mut::<PARTING>() else {
+        return 0;
+    };
+    let (part, Comparison { source, refusal, differing }) = parting::parted(new, signed);
+    let image = match source {
+        Source::New => new,
+        Source::Signed => signed,
+    };
+    // A part runs to its image's end.
+    let offset = image.len() - part.len();
+    let refusal = refusal.map_or(0, |refusal| refusal as u32);
+    out[..4].copy_from_slice(&refusal.to_le_bytes());
+    out[4..8].copy_from_slice(&(source as u32).to_le_bytes());
+    out[8..16].copy_from_slice(&(offset as u64).to_le_bytes());
+    out[16..].copy_from_slice(&(differing as u64).to_le_bytes());
+    PARTING as u64
 }
 
 /// A length, or the number of a refusal.

@@ -239,3 +239,61 @@ fn audits_as_numbers() {
     memory[8..12].copy_from_slice(&0x0000_0401_u32.to_le_bytes());
     assert_eq!(check(&memory, 0x400), 1 << 63 | 18 << 32 | 0x408);
 }
+
+#[test]
+fn partings_as_numbers() {
+    // Refusal, source, offset and words that differ, of five words and other ones.
+    let image: [u8; 20] = core::array::from_fn(|at| at as u8);
+    let mut other = image;
+    other[7] = 0x80;
+    other[16] = 0x80;
+    let rows: [(&[u8], &[u8], [u8; PARTING]); 8] = [
+        (&other, &image, numbers(0, 1, 4, 2)),
+        (&other, &image[..8], numbers(0, 1, 4, 1)),
+        (&image[..16], &image, numbers(0, 2, 16, 0)),
+        (&image, &image[..16], numbers(0, 1, 16, 0)),
+        (&image, &image, numbers(0, 1, 20, 0)),
+        (&[], &[], numbers(0, 1, 0, 0)),
+        (&other[..19], &image, numbers(4, 1, 19, 0)),
+        (&other, &image[..3], numbers(4, 1, 20, 0)),
+    ];
+    for (new, signed, said) in rows {
+        for room in 0..60 {
+            let mut out = vec![0xAA; room];
+            let length = part(new, signed, &mut out);
+            if room < 24 {
+                assert_eq!(length, 0, "{room}");
+                assert!(out.iter().all(|&byte| byte == 0xAA), "{room}");
+            } else {
+                assert_eq!(length, 24, "{room}");
+                assert_eq!(out[..24], said, "{room}");
+                assert!(out[24..].iter().all(|&byte| byte == 0xAA), "{room}");
+            }
+        }
+    }
+}
+
+/// Numbers below 256 in 4, 4, 8 and 8 bytes.
+fn numbers(refusal: u8, source: u8, offset: u8, differing: u8) -> [u8; PARTING] {
+    let mut bytes = [0; PARTING];
+    (bytes[0], bytes[4], bytes[8], bytes[16]) = (refusal, source, offset, differing);
+    bytes
+}
+
+#[test]
+fn partings_to_the_byte() {
+    // The part begins at 12340 hex, and 205 hex words differ.
+    let image = vec![0; 0x2_0000];
+    let mut new = image.clone();
+    for word in 0..0x205 {
+        new[0x1_2340 + 12 * word + word % 4] = 1;
+    }
+    let mut out = [0xAA; PARTING];
+    assert_eq!(part(&new, &image, &mut out), 24);
+    let said = [0, 0, 0, 0, 1, 0, 0, 0, 0x40, 0x23, 1, 0, 0, 0, 0, 0, 5, 2, 0, 0, 0, 0, 0, 0];
+    assert_eq!(out, said);
+    // The signed one's remainder from there on.
+    assert_eq!(part(&image[..0x1_2340], &new, &mut out), 24);
+    let said = [0, 0, 0, 0, 2, 0, 0, 0, 0x40, 0x23, 1, 0, 0, 0, 0, 0, 0, 0, 0, 0, 0, 0, 0, 0];
+    assert_eq!(out, said);
+}

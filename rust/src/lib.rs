@@ -4,7 +4,7 @@
 //!
 //! It is an oracle for differential tests and a yardstick for speed. Section
 //! names in the comments are those of paper 01; tables are those of source 000;
-//! P3 to P6 are requests of paper 02.
+//! P3 to P6 and P14 are requests of paper 02.
 
 pub mod answer;
 pub mod audit;
@@ -16,6 +16,7 @@ pub mod listing;
 pub mod memory;
 pub mod meters;
 pub mod native;
+pub mod parting;
 pub mod registers;
 pub mod slots;
 pub mod unit;

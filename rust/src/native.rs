@@ -104,6 +104,15 @@ mod c {
             out: *mut u8,
             out_len: usize,
         ) -> u64;
+
+        pub fn nx_part(
+            new: *const u8,
+            new_len: usize,
+            signed: *const u8,
+            signed_len: usize,
+            out: *mut u8,
+            out_len: usize,
+        ) -> u64;
     }
 }
 
@@ -200,6 +209,19 @@ impl Program for Native {
     fn list(&self, memory: &[u8], base: u32, out: &mut [u8]) -> u64 {
         unsafe { c::nx_list(memory.as_ptr(), memory.len(), base, out.as_mut_ptr(), out.len()) }
     }
+
+    fn part(&self, new: &[u8], signed: &[u8], out: &mut [u8]) -> u64 {
+        unsafe {
+            c::nx_part(
+                new.as_ptr(),
+                new.len(),
+                signed.as_ptr(),
+                signed.len(),
+                out.as_mut_ptr(),
+                out.len(),
+            )
+        }
+    }
 }
 
 #[cfg(not(native))]
@@ -229,6 +251,10 @@ impl Program for Native {
     }
 
     fn list(&self, _: &[u8], _: u32, _: &mut [u8]) -> u64 {
+        match self.0 {}
+    }
+
+    fn part(&self, _: &[u8], _: &[u8], _: &mut [u8]) -> u64 {
         match self.0 {}
     }
 }

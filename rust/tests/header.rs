@@ -18,6 +18,7 @@ checked: 0
 page 010000 to 10020000, type 1, access 3
 page 300000 to 11200000, type 0, access 2
 page 500400 to 10000C00, type 3, access 3
+compared: 0, the part is of image 1 from offset 1004, 1 word differs
 call 0: 0 0
 call 1: 0 0
 call 2: 100 10022345, from on-chip offset 448

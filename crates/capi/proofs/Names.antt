@@ -3,7 +3,7 @@ pub use borrow.Author.Needs.{needs}
 pub use denote.Ref.{now}
 pub use mathlib.Core.Path.{_∙_, ap, ap₂, refl, subst, sym}
 pub use native.Mathlib.Omega.{arith}
-unfoldable pub use Rattle.capi.specs.Boundary.{fromOf}
-pub use Rattle.capi.specs.Numbers.{builtWord, cutBuilt, cutInventory, inventoryWord, placeNumber, verdictWord}
+unfoldable pub use Rattle.capi.specs.Boundary.{fromOf, partRan}
+pub use Rattle.capi.specs.Numbers.{builtWord, comparisonSaid, cutBuilt, cutInventory, inventoryWord, placeNumber, verdictWord}
 pub use Rattle.page.specs.Ground.{Bool, false, true}
 pub use Rattle.session.specs.declared.Bench.{Bench}

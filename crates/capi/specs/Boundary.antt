@@ -1,7 +1,7 @@
 -- What each function of the boundary answers and leaves in the lent bytes.
 use Rattle.capi.specs.Names.{runWith, ℕ, List, pick, Lent, placeIn, fetchedIn, wordOf, Prices, buildOf, freshBench, Float, isState}
-use Rattle.capi.specs.Names.{benchIn, lockIn, Ran, ran, megabytes, listOf}
-use Rattle.capi.specs.Numbers.{placeNumber, builtWord, inventoryWord}
+use Rattle.capi.specs.Names.{benchIn, lockIn, Ran, ran, megabytes, listOf, leb, length, wordsPut, comparisonOf}
+use Rattle.capi.specs.Numbers.{placeNumber, builtWord, inventoryWord, comparisonSaid}
 
 -- a run from a fresh bench
 abbrev pub runOf : Lent → Prices → ℕ → ℕ → List ℕ → List ℕ → Ran
@@ -23,3 +23,7 @@ buildRan records base memory = ran (builtWord (buildOf records base memory .answ
 -- an image's pages: the answer in one number, and the lent list after it
 unfoldable pub listRan : List ℕ → ℕ → List ℕ → Ran
 listRan memory base out = ran (inventoryWord (listOf megabytes memory base out .answer)) (listOf megabytes memory base out .records)
+
+-- two images compared: the answer in 24 bytes; 0 and nothing written where there is no room for them
+unfoldable pub partRan : List ℕ → List ℕ → List ℕ → Ran
+partRan new signed out = pick (leb 24 (length out)) (ran 24 (wordsPut out 0 (comparisonSaid (comparisonOf new signed) (length new)))) (ran 0 out)

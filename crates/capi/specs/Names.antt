@@ -12,9 +12,13 @@ pub use Rattle.builder.specs.declared.Built.{Built}
 pub use Rattle.memory.specs.Memory.{Lent, fetchedIn, lent}
 unfoldable pub use Rattle.memory.specs.Memory.{placeIn}
 pub use Rattle.memory.specs.declared.Place.{Place}
-pub use Rattle.page.specs.Ground.{List, _%_, _*_, _+_, _^_, _≡_, _≤_, length, ℕ}
+pub use Rattle.page.specs.Ground.{List, _%_, _*_, _++_, _+_, _^_, _∷_, _≡_, _≤_, leb, length, ℕ}
 unfoldable pub use Rattle.page.specs.Pick.{pick}
 pub use Rattle.page.specs.Words.{megabytes}
+pub use Rattle.parting.specs.Parting.{comparisonNumber, comparisonOwner, comparisonStart, comparisonWords, ownerNumber}
+unfoldable pub use Rattle.parting.specs.Parting.{comparisonOf}
+pub use Rattle.parting.specs.declared.Comparison.{Comparison}
+pub use Rattle.parting.specs.declared.Owner.{Owner}
 pub use Rattle.prices.specs.declared.Prices.{Prices}
 pub use Rattle.run.specs.Answers.{cutPlace, placeCode}
 pub use Rattle.run.specs.Run.{Ran, ran}
@@ -22,4 +26,5 @@ unfoldable pub use Rattle.run.specs.Run.{runWith}
 pub use Rattle.session.specs.Bench.{freshBench}
 pub use Rattle.state.specs.Read.{benchIn, lockIn, pricesOf}
 unfoldable pub use Rattle.state.specs.Read.{isState}
-unfoldable pub use Rattle.wire.specs.Words.{wordOf}
+unfoldable pub use Rattle.wire.specs.Words.{wordOf, wordsPut}
+pub use Rattle.wire.specs.Words.{wide}

@@ -1,6 +1,6 @@
--- What the byte boundary answers in one number.
-use Rattle.capi.specs.Names.{ℕ, _+_, _*_, _%_, _^_, Place, placeCode, Built, builtNumber, builtValue, Verdict, verdictNumber, verdictValue}
-use Rattle.capi.specs.Names.{Inventory, inventoryNumber, inventoryValue}
+-- What the byte boundary answers in one number, or in six words.
+use Rattle.capi.specs.Names.{ℕ, _+_, _*_, _%_, _^_, List, _∷_, _++_, wide, Place, placeCode, Built, builtNumber, builtValue, Verdict, verdictNumber, verdictValue}
+use Rattle.capi.specs.Names.{Inventory, inventoryNumber, inventoryValue, Owner, ownerNumber, Comparison, comparisonNumber, comparisonOwner, comparisonStart, comparisonWords}
 
 -- where four bytes lie and the word they are: memory * 2^60 + offset * 2^32 + word; 0 of no bytes, whose word is 0
 abbrev pub placeNumber : Place → ℕ → ℕ
@@ -51,3 +51,11 @@ cutInventory Inventory.BadMemory = Inventory.BadMemory
 cutInventory (Inventory.Outside at) = Inventory.Outside at
 cutInventory (Inventory.Unequal at) = Inventory.Unequal at
 cutInventory (Inventory.TooShort n) = Inventory.TooShort (n % 2 ^ 32)
+
+-- a refusal's number or 0, whose the part is, its offset there, and the words that differ
+abbrev pub partingWords : ℕ → Owner → ℕ → ℕ → List ℕ
+partingWords number o start words = number ∷ ownerNumber o ∷ (wide start ++ wide words)
+
+-- the same of an answer, for a new image of n bytes
+abbrev pub comparisonSaid : Comparison → ℕ → List ℕ
+comparisonSaid c n = partingWords (comparisonNumber c) (comparisonOwner c) (comparisonStart c n) (comparisonWords c)

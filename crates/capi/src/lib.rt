@@ -1,10 +1,10 @@
-// The byte boundary: the builder, sessions and the fetch for callers that speak C, over numbers and bytes alone.
+// The byte boundary: the builder, images from elsewhere, two images compared, sessions and the fetch for callers that speak C, over numbers and bytes alone.
 mod numbers;
 
 use page::PhysicalAddress;
 use session::Bench;
 ghost use Rattle.capi.specs.Names.{_≡_, megabytes, lent, pricesOf, ran, checkOf};
-ghost use Rattle.capi.specs.Boundary.{runOf, fromOf, fetchOf, buildRan, listRan};
+ghost use Rattle.capi.specs.Boundary.{runOf, fromOf, fetchOf, buildRan, listRan, partRan};
 ghost use Rattle.capi.specs.Numbers.{verdictWord};
 
 // Builds the tables of a list in a memory.
@@ -29,6 +29,19 @@ pub extern "C" fn nx_list(memory: &[u8], base: u32, out: &mut [u8]) -> u64
     ensures { λ r. ⌜ ran r (now (out .exit)) ≡ listRan (now (memory .entry)) base (now (out .entry)) ⌝ }
 {
     numbers::inventory_number(audit::list(memory, PhysicalAddress(base), out))
+}
+
+// Compares a new image with a signed one.
+#[no_mangle]
+pub extern "C" fn nx_part(new: &[u8], signed: &[u8], out: &mut [u8]) -> u64
+    ensures { λ r. ⌜ ran r (now (out .exit)) ≡ partRan (now (new .entry)) (now (signed .entry)) (now (out .entry)) ⌝ }
+{
+    if !wire::room(out.len(), 0, 6) {
+        return 0;
+    }
+    let words = numbers::comparison_words(parting::compare(new, signed), new.len());
+    wire::put(out, 0, &words);
+    24
 }
 
 // Runs calls from a fresh bench.

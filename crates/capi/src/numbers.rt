@@ -1,11 +1,13 @@
-// What the byte boundary answers in one number: a build's answer, the verdict on an image, a list's answer, and a place with its word.
+// What the byte boundary answers in one number: a build's answer, the verdict on an image, a list's answer, a place with its word; and a comparison, in six words.
 use audit::Inventory;
 use audit::Verdict;
 use builder::Built;
 use memory::Place;
 use page::PhysicalAddress;
-ghost use Rattle.capi.specs.Names.{_≡_, _%_, _^_, _≤_, cutPlace};
-ghost use Rattle.capi.specs.Numbers.{refused, placeNumber, builtWord, cutBuilt, verdictWord, inventoryWord, cutInventory};
+use parting::Comparison;
+use parting::Owner;
+ghost use Rattle.capi.specs.Names.{_≡_, _%_, _^_, _≤_, cutPlace, ownerNumber};
+ghost use Rattle.capi.specs.Numbers.{refused, placeNumber, builtWord, cutBuilt, verdictWord, inventoryWord, cutInventory, partingWords, comparisonSaid};
 
 // A refusal with an index or a count, in one number.
 fn refusal(number: u64, i: usize) -> u64
@@ -66,4 +68,38 @@ pub(crate) fn place_number(p: Place, word: u32) -> u64
     ensures { λ r. ⌜ r ≡ placeNumber (cutPlace p) word ⌝ }
 {
     run::answers::place_code(p) as u64 * 4294967296 + word as u64
+}
+
+// The number of the image that a part is of.
+fn owner_number(o: Owner) -> u32
+    ensures { λ r. ⌜ r ≡ ownerNumber o ⌝ }
+{
+    match o {
+        Owner::New => 1,
+        Owner::Signed => 2,
+    }
+}
+
+// A refusal or 0, whose the part is, its offset there, and the words that differ.
+fn parting_words(number: u32, o: Owner, start: usize, words: usize) -> [u32; 6]
+    ensures { λ r. ⌜ r ≡ partingWords number o start words ⌝ }
+{
+    [
+        number,
+        owner_number(o),
+        (start % 4294967296) as u32,
+        (start / 4294967296) as u32,
+        (words % 4294967296) as u32,
+        (words / 4294967296) as u32,
+    ]
+}
+
+// A comparison in six words, of a new image of so many bytes.
+pub(crate) fn comparison_words(c: Comparison, len: usize) -> [u32; 6]
+    ensures { λ r. ⌜ r ≡ comparisonSaid c len ⌝ }
+{
+    match c {
+        Comparison::BadLength => parting_words(4, Owner::New, len, 0),
+        Comparison::Parted(o, k, d) => parting_words(0, o, k, d),
+    }
 }

@@ -5,6 +5,7 @@ use Rattle.demands.proofs.Proved.{demand-1, demand-2, demand-3}
 use Rattle.demands.proofs.Answering.{requests-answered, retries-answered}
 use Rattle.demands.proofs.Buyer.{built-then-called, built-session, exhibited}
 use Rattle.demands.proofs.Foreign.{foreign}
+use Rattle.parting.proofs.Laws.{images-part, cases-worked}
 
 pub signed : Signed
 signed = record {
@@ -18,4 +19,6 @@ signed = record {
   sessions = built-session;
   exhibited = exhibited;
   foreign = foreign;
+  parting = images-part;
+  parted = cases-worked;
 }

@@ -1,4 +1,4 @@
-// What the parts, the unit, the builder and the audit answer for inputs worked out by hand.
+// What the parts, the unit, the builder, the audit and the comparison answer for inputs worked out by hand.
 mod bills;
 mod entries;
 mod foreign;
@@ -7,6 +7,7 @@ mod limits;
 mod memories;
 mod offsets;
 mod pages;
+mod pairs;
 mod sessions;
 mod tallies;
 mod walks;
@@ -23,4 +24,5 @@ fn main() {
     images::show_all();
     limits::show_all();
     foreign::show_all();
+    pairs::show_all();
 }

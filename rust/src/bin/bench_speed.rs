@@ -1,14 +1,15 @@
 //! Speed of the proved implementation against the second program, through the
 //! byte boundary, in one process: nx_run on sessions of each sort of call,
-//! nx_build on ten lists, nx_check and nx_list on five images. Rounds of the two
-//! are interleaved; the table has medians with their quartiles, and the median of
-//! the rounds' own ratios. Before that the two are seen to write the same bytes.
+//! nx_build on ten lists, nx_check and nx_list on five images, nx_part on four pairs
+//! of images. Rounds of the two are interleaved; the table has medians with their
+//! quartiles, and the median of the rounds' own ratios. Before that the two are seen
+//! to write the same bytes.
 //!
 //! `--cleared` clears what is written to before each round, outside its time;
 //! `--length N` gives the sessions N calls; `--rounds N` sets the rounds;
 //! `--only WORDS` keeps the rows whose names have the words.
 
-use second::boundary::{self, Lending, Program, Second, ANSWER, STATE};
+use second::boundary::{self, Lending, Program, Second, ANSWER, PARTING, STATE};
 use second::dice::Dice;
 use second::native;
 use std::hint::black_box;
@@ -77,6 +78,7 @@ enum Work {
     Build { list: Vec<u8>, builds: usize, memory: Vec<u8> },
     Check { image: Vec<u8>, checks: usize },
     List { image: Vec<u8>, lists: usize, out: Vec<u8> },
+    Part { new: Vec<u8>, signed: Vec<u8>, parts: usize, out: [u8; PARTING] },
 }
 
 impl Work {
@@ -114,6 +116,13 @@ impl Work {
                     black_box(&mut *out);
                 }
             }
+            Work::Part { new, signed, parts, out } => {
+                for _ in 0..*parts {
+                    let length = program.part(black_box(new), black_box(signed), out);
+                    assert_eq!(length as usize, out.len());
+                    black_box(&mut *out);
+                }
+            }
         }
     }
 
@@ -123,6 +132,7 @@ impl Work {
             Work::Build { memory, .. } => memory,
             Work::Check { .. } => &mut [],
             Work::List { out, .. } => out,
+            Work::Part { out, .. } => out,
         }
     }
 }
@@ -203,6 +213,25 @@ fn images() -> Vec<(&'static str, usize, usize, Vec<u8>)> {
         ("16 sections", 16, 2_000, of("16 sections")),
         (fine, 240, 100, of(fine)),
         ("16,384 tiny, one table", 16_384, 10, shared()),
+    ]
+}
+
+/// The signed images that new ones are compared with, with how many comparisons make a round
+/// and the words that are others in the new one.
+fn pairs() -> Vec<(&'static str, usize, Vec<u8>, Vec<usize>)> {
+    let fine = |image: &(&str, usize, usize, Vec<u8>)| image.0 == "225 large in fine tables";
+    let (.., large) = images().into_iter().find(fine).expect("an image");
+    assert_eq!(large.len(), 65_536);
+    let list_a = [
+        record(0x01_0000, 0x1002_0000, 1),
+        record(0x30_0000, 0x1120_0000, 0),
+        record(0x50_0400, 0x1000_0C00, 3),
+    ];
+    vec![
+        ("64 KiB, equal", 100, large.clone(), vec![]),
+        ("64 KiB, the last word", 100, large.clone(), vec![16_383]),
+        ("64 KiB, every 16th word", 100, large, (0..16_384).step_by(16).collect()),
+        ("8 KiB, 16 words amid", 1_000, image(&list_a.concat()), (1_024..1_040).collect()),
     ]
 }
 
@@ -375,6 +404,20 @@ fn benches(length_of_session: usize) -> Vec<Bench> {
     for (name, pages, lists, image) in images() {
         let work = Work::List { image, lists, out: vec![0; 12 * pages] };
         benches.push(Bench { name: format!("list: {name}"), unit: "list", units: lists, work });
+    }
+
+    for (name, parts, signed, others) in pairs() {
+        let mut new = signed.clone();
+        for word in &others {
+            new[4 * word] ^= 0x10;
+        }
+        // No refusal, a part of the new image, where it begins, how many words differ.
+        let offset = others.first().map_or(new.len(), |word| 4 * word) as u64;
+        let said = [1 << 32, offset, others.len() as u64].map(u64::to_le_bytes);
+        let mut work = Work::Part { new, signed, parts, out: [0; PARTING] };
+        work.go(&Second);
+        assert_eq!(work.written(), said.concat(), "{name}");
+        benches.push(Bench { name: format!("part: {name}"), unit: "part", units: parts, work });
     }
     benches
 }

@@ -105,6 +105,20 @@ impl Image {
         self.word(self.base + 4 * megabyte)
     }
 
+    /// Offset and number of a mapping's words in the image of its list.
+    pub fn words_of(&self, record: &Record) -> (usize, usize) {
+        let megabyte = record.virtual_start >> 20;
+        let within = record.virtual_start & 0xF_FFFF;
+        let first = self.first(megabyte);
+        // A section's own word; of a coarse table large and small pages' words; of a fine one.
+        let (at, counts) = match first & 3 {
+            1 => ((first & !0x3FF) - self.base + (within >> 12) * 4, [0, 16, 1, 0]),
+            3 => ((first & !0xFFF) - self.base + (within >> 10) * 4, [0, 64, 4, 1]),
+            _ => (4 * megabyte, [1, 0, 0, 0]),
+        };
+        (at as usize, counts[record.kind as usize])
+    }
+
     /// Physical start and length of the tables, one for each first-level word that names
     /// one.
     pub fn tables(&self) -> Vec<(u32, u32)> {
@@ -205,8 +219,7 @@ impl Image {
     }
 
     /// A grouped or a drawn image, or one whose tables lie over its first level, mended
-    /// until it is accepted: each word that is named becomes a fault, with those after it
-    /// that equal it.
+    /// until it is accepted.
     pub fn accepted(dice: &mut Dice) -> Image {
         let mut image = match dice.below(10) {
             0 => Image::over_itself(dice),
@@ -223,9 +236,16 @@ impl Image {
                 image.put(image.base + 4 * megabyte, image.first(megabyte) | access);
             }
         }
-        while let Err(refusal) = definition(&image) {
-            let named = (refusal as u32 - image.base) as usize;
-            let group = &mut image.memory[named..];
+        image.mend();
+        image
+    }
+
+    /// Mends an image that has room for its first level until it is accepted: each word
+    /// that is named becomes a fault, with those after it that equal it.
+    pub fn mend(&mut self) {
+        while let Err(refusal) = definition(self) {
+            let named = (refusal as u32 - self.base) as usize;
+            let group = &mut self.memory[named..];
             let word = word(group, 0);
             for at in (0..group.len().min(256)).step_by(4) {
                 if super::word(group, at) == word {
@@ -233,7 +253,6 @@ impl Image {
                 }
             }
         }
-        image
     }
 
     /// All first-level words are one that points at a coarse table that they begin; or

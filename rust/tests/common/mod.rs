@@ -5,14 +5,17 @@
 
 pub mod callers;
 pub mod coverage;
+pub mod differences;
 pub mod groups;
 pub mod images;
 pub mod lists;
 pub mod nx;
+pub mod partings;
 pub mod places;
 pub mod plain;
 pub mod rows;
 pub mod states;
+pub mod told;
 pub mod turned;
 pub mod worlds;
 pub mod written;

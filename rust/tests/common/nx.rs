@@ -37,6 +37,18 @@ pub struct Ran {
     pub error: String,
 }
 
+impl Ran {
+    /// All is told on standard output.
+    pub fn told(digit: &str, out: impl Into<Vec<u8>>) -> Ran {
+        Ran { digit: digit.into(), out: out.into(), error: String::new() }
+    }
+
+    /// All is told on standard error.
+    pub fn failed(digit: &str, error: &str) -> Ran {
+        Ran { digit: digit.into(), out: vec![], error: error.into() }
+    }
+}
+
 pub fn run(root: &Path, words: &[&str], input: &[u8]) -> Ran {
     let status = Path::new(env!("CARGO_TARGET_TMPDIR")).join("nx.status");
     let mut child = Command::new("sh")

@@ -1,0 +1,5 @@
+pub mod Names
+pub mod Counting
+pub mod Owners
+pub mod Agreement
+pub mod Laws

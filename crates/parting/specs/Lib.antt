@@ -1,0 +1,4 @@
+pub mod Names
+pub mod Parting
+pub mod Spans
+pub mod Statements
