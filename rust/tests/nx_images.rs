@@ -11,10 +11,10 @@ use common::images::Image;
 use common::lists::{self, Record};
 use common::nx::{folder, root, run, Ran};
 use common::rows::BASE;
+use common::told::{checked, why, ACCESS, KINDS};
 use common::written::{self, page, COARSE};
 use common::{long, put_word, seed, turn};
-use second::answer::{Refusal, Refused};
-use second::audit;
+use second::answer::Refused;
 use second::boundary::Second;
 use second::builder::MOST_RECORDS;
 use second::dice::Dice;
@@ -26,88 +26,11 @@ use std::process::Command;
 // ---------------------------------------------------------------------------
 // What is to be said of an image
 
-/// Its pages as the second program lists them, or the refusal of its check.
-fn pages(image: &Image) -> Result<Vec<Record>, Refused> {
-    let mut out = vec![0; 12 * 16_384];
-    let listed = audit::list(&image.memory, image.base, &mut out);
-    assert_eq!(audit::check(&image.memory, image.base), listed.map(|_| ()));
-    Ok(lists::records(&out[..listed?]))
-}
-
-/// How the sentence of a refusal begins.
-fn refused(Refused { refusal, at }: Refused) -> String {
-    match refusal {
-        Refusal::Memory => "refused 4: ".into(),
-        _ => format!("refused {} at {at:08X}: ", refusal as u32),
-    }
-}
-
-/// How the sentence goes on, found in the image word by word.
-fn why(image: &Image) -> Option<String> {
-    let (base, length, end) = (image.base, image.memory.len(), image.end());
-    if base % 128 != 0 {
-        return Some(format!("the base, {base:08X}, is no multiple of 128"));
-    }
-    if length > 131_072 {
-        return Some("the image has more than 131072 bytes".into());
-    }
-    if length % 4 != 0 {
-        return Some(format!("the image has {length} bytes, which is no multiple of 4"));
-    }
-    if end > 1 << 32 {
-        return Some(format!("the image, {length} bytes at {base:08X}, ends past FFFFFFFF"));
-    }
-    if length < 64 {
-        return Some(format!(
-            "the first-level table, {base:08X} to {:08X}, is not inside the image, \
-             which has {length} bytes",
-            base + 63
-        ));
-    }
-    (0..16).find_map(|megabyte| {
-        let first = image.first(megabyte);
-        let (kind, table, words) = match first & 3 {
-            1 => ("coarse", first & !0x3FF, 256),
-            3 => ("fine", first & !0xFFF, 1_024),
-            _ => return None,
-        };
-        let last = table + (4 * words - 1);
-        if table < base || u64::from(last) >= end {
-            return Some(format!(
-                "word {megabyte} of the first level, {first:08X}, names a {kind} table at \
-                 {table:08X} to {last:08X}, which is not inside the image, {base:08X} to {:08X}",
-                end - 1
-            ));
-        }
-        (0..words).find_map(|index| {
-            let own = image.word(table + 4 * index);
-            let (page, group) = match own & 3 {
-                1 => ("large", words / 16),
-                2 => ("small", words / 256),
-                _ => return None,
-            };
-            let head = table + 4 * (index - index % group);
-            let other = (0..group).map(|n| head + 4 * n).find(|&at| image.word(at) != own)?;
-            Some(format!(
-                "word {index} of the {kind} table of megabyte {megabyte} at {table:08X}, \
-                 for virtual {:06X}, says a {page} page (value {own:08X}), and its group of \
-                 {group} words, {head:08X} to {:08X}, is not all equal: \
-                 the word at {other:08X} is {:08X}",
-                (megabyte << 20) + index * ((1 << 20) / words),
-                head + (4 * group - 1),
-                image.word(other)
-            ))
-        })
-    })
-}
-
-const KINDS: [&str; 4] = ["section", "large", "small", "tiny"];
-
 /// A page's line in a list.
 fn line(page: &Record) -> String {
     let Record { virtual_start, physical, kind, access } = *page;
-    let access = ["-", "-1", "r", "rw"][access as usize];
-    format!("{:<7} {virtual_start:06X} {physical:08X} {access}\n", KINDS[kind as usize])
+    let (kind, access) = (KINDS[kind as usize], ACCESS[access as usize]);
+    format!("{kind:<7} {virtual_start:06X} {physical:08X} {access}\n")
 }
 
 /// A page's box in a picture, by a kilobyte to the pixel and a megabyte to the row.
@@ -147,13 +70,16 @@ fn boxes(picture: &[u8]) -> Vec<String> {
 
 /// What a command gives that does all there is to do.
 fn fine(out: impl Into<Vec<u8>>) -> Ran {
-    Ran { digit: "0".into(), out: out.into(), error: String::new() }
+    Ran::told("0", out)
 }
 
 /// What a command gives that refuses an image: `nx check` was asked just that.
 fn no(command: &str, said: &str) -> Ran {
-    let (out, error) = if command == "check" { (said, "") } else { ("", said) };
-    Ran { digit: "1".into(), out: out.into(), error: error.into() }
+    if command == "check" {
+        Ran::told("1", said)
+    } else {
+        Ran::failed("1", said)
+    }
 }
 
 /// The three commands on an image that is standard input. Gives what the second program
@@ -161,12 +87,9 @@ fn no(command: &str, said: &str) -> Ran {
 fn agree(root: &Path, image: &Image, title: impl Display) -> Result<Vec<Record>, Refused> {
     let base = format!("{:08X}", image.base);
     let go = |command| run(root, &[command, "-", &base], &image.memory);
-    let says = pages(image);
-    match (&says, why(image)) {
-        (Ok(pages), None) => {
-            let (count, length) = (pages.len(), image.memory.len());
-            let said =
-                format!("standard input: accepted, {count} pages, {length} bytes at {base}\n");
+    let (says, said) = checked(image, "standard input");
+    match &says {
+        Ok(pages) => {
             assert_eq!(go("check"), fine(said), "{title}");
             let lines: String = pages.iter().map(line).collect();
             assert!(go("list") == fine(lines), "{title}: list");
@@ -174,13 +97,11 @@ fn agree(root: &Path, image: &Image, title: impl Display) -> Result<Vec<Record>,
             assert_eq!((map.digit.as_str(), map.error.as_str()), ("0", ""), "{title}: map");
             assert!(boxes(&map.out).into_iter().eq(pages.iter().map(drawn)), "{title}: map");
         }
-        (Err(refusal), Some(why)) => {
-            let said = format!("standard input: {}{why}\n", refused(*refusal));
+        Err(_) => {
             for command in ["check", "list", "map"] {
                 assert_eq!(go(command), no(command, &said), "{title}: {command}");
             }
         }
-        (says, why) => panic!("{title}: {says:x?}, {why:?}"),
     }
     says
 }
@@ -258,7 +179,7 @@ fn the_box_and_its_refusals() {
     ] {
         for command in ["check", "list", "map"] {
             let ran = run(&root, &[command, &image, base], b"");
-            assert_eq!(ran, Ran { digit: "2".into(), out: vec![], error: said.into() });
+            assert_eq!(ran, Ran::failed("2", said));
         }
     }
 

@@ -8,7 +8,7 @@ use crate::text;
 ghost use Prim.Native.Nat.{_≤_};
 
 // The base where none is given.
-const BASE: u32 = 0x20000000;
+pub const BASE: u32 = 0x20000000;
 
 // A base is a multiple of this.
 const STEP: u32 = 4096;

@@ -2,6 +2,7 @@
 use crate::args;
 use crate::build;
 use crate::convert;
+use crate::diff;
 use crate::files;
 use crate::image;
 use crate::map;
@@ -12,14 +13,14 @@ use crate::trial;
 
 // The commands' names, in the order of the table below.
 fn command(w: &[u8]) -> usize {
-    text::place(b"help|build|show|try|map|records|text|check|list", w)
+    text::place(b"help|build|show|try|map|records|text|check|list|diff", w)
 }
 
 // Whether a command takes so many words.
 fn takes(command: usize, n: usize) -> bool {
     match command {
         0 => return n == 0,
-        1 => return (n == 2) | (n == 3),
+        1 | 9 => return (n == 2) | (n == 3),
         4 => return (n == 1) | (n == 2),
         3 | 7 | 8 => return n == 2,
         2 | 5 | 6 => return n == 1,
@@ -27,7 +28,7 @@ fn takes(command: usize, n: usize) -> bool {
     }
 }
 
-// What a command with its words answers: 0 fine, 1 a list, a script, an image or a file is wrong, 2 wrong use.
+// What a command with its words answers: 0 fine, 1 a list, a script, an image or a file is wrong or two images differ, 2 wrong use.
 fn done(command: usize, first: &[u8], second: &[u8], third: &[u8]) -> u32 {
     match command {
         1 => return build::run(first, second, third),
@@ -38,6 +39,7 @@ fn done(command: usize, first: &[u8], second: &[u8], third: &[u8]) -> u32 {
         6 => return convert::text(first),
         7 => return image::run(first, second),
         8 => return pages::run(first, second),
+        9 => return diff::run(first, second, third),
         _ => return files::told(usage(text::OUT)),
     }
 }
@@ -82,6 +84,7 @@ fn usage(fd: i32) -> bool {
           \x20 nx check IMAGE BASE         accept an image at BASE (hex), or say which word is wrong and why\n\
           \x20 nx list IMAGE BASE          the pages of an accepted image, as a list (- and -1: no access)\n\
           \x20 nx map IMAGE BASE           a picture of an accepted image, as SVG\n\
+          \x20 nx diff NEW SIGNED [BASE]   compare two images: the words that differ and what they map\n\
           \x20 nx help                     this page\n\n",
     )
         & text::put(

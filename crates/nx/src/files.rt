@@ -11,7 +11,7 @@ pub enum Got {
 }
 
 // Whether a path says standard input.
-fn is_input(path: &[u8]) -> bool {
+pub(crate) fn is_input(path: &[u8]) -> bool {
     parse::same(path, b"-")
 }
 

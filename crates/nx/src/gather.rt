@@ -53,6 +53,25 @@ fn decimal(out: &mut [u8], at: usize, n: u64) -> usize {
     put(out, at, &digits[..k])
 }
 
+// Blanks behind what begins at an index, up to a width of at most 16.
+pub(crate) fn pad(out: &mut [u8], from: usize, at: usize, width: usize) -> usize {
+    put(
+        out,
+        at,
+        parse::cut(
+            b"                ",
+            std::num::wrapping_sub_usize(at, from),
+            width,
+        ),
+    )
+}
+
+// A number in decimal, with blanks behind it up to a width.
+pub(crate) fn left(out: &mut [u8], at: usize, n: u64, width: usize) -> usize {
+    let end = decimal(out, at, n);
+    pad(out, at, end, width)
+}
+
 // A number as a form's letter asks: d in decimal, a digit in hexadecimal of that width.
 fn number(out: &mut [u8], at: usize, letter: u8, n: u64) -> usize {
     if letter == b'd' {

@@ -19,7 +19,7 @@ pub enum Image {
 }
 
 // An image read from its file, to stand at a base.
-fn at_base(path: &[u8], base: u32, memory: &mut [u8]) -> Image {
+pub(crate) fn at_base(path: &[u8], base: u32, memory: &mut [u8]) -> Image {
     let got = files::read(path, memory);
     match got {
         Got::Bytes(n) => return Image::Read(n, base),
@@ -53,8 +53,8 @@ fn refused(ok: bool) -> u32 {
     1
 }
 
-// An image judged.
-fn judged(path: &[u8], image: &[u8], base: u32) -> u32 {
+// An image judged: accepted, or its refusal said.
+pub(crate) fn judged(path: &[u8], image: &[u8], base: u32) -> u32 {
     let v = audit::check(image, PhysicalAddress(base));
     match v {
         Verdict::Good(n) => return files::told(accepted(path, n, image.len(), base)),

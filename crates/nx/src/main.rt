@@ -1,10 +1,12 @@
-// nx: lists of mappings as text, their tables, sessions on the model, and images from elsewhere, for people.
+// nx: lists of mappings as text, their tables, sessions on the model, images from elsewhere, and two images compared, for people.
 mod args;
 mod boxes;
 mod build;
+mod changes;
 mod cli;
 mod columns;
 mod convert;
+mod diff;
 mod files;
 mod gather;
 mod grid;
@@ -12,10 +14,12 @@ mod image;
 mod labels;
 mod list;
 mod map;
+mod mappings;
 mod pages;
 mod parse;
 mod refusal;
 mod script;
+mod second;
 mod show;
 mod text;
 mod trial;

@@ -52,6 +52,11 @@ pub(crate) fn load(path: &[u8], base: &[u8], records: &mut [u8]) -> Pages {
     }
 }
 
+// An access, as a list has it, and a line end.
+pub(crate) fn access(out: &mut [u8], at: usize, bits: u32) -> usize {
+    gather::part(out, at, b"-\n|-1\n|r\n|rw\n", (bits % 4) as usize)
+}
+
 // A page's line.
 fn line(out: &mut [u8], at: usize, m: Mapping) -> usize {
     let k = m.kind;
@@ -67,7 +72,7 @@ fn line(out: &mut [u8], at: usize, m: Mapping) -> usize {
         b"%6 %8 ",
         &[list::start(m) as u64, list::target(m) as u64],
     );
-    gather::part(out, b, b"-\n|-1\n|r\n|rw\n", (m.access % 4) as usize)
+    access(out, b, m.access)
 }
 
 // The lines of all pages, written as often as the room is full.

@@ -1,45 +1,13 @@
 // Why an image is refused, in a sentence: the number, the refused word, what that word is, and what is wrong with it.
 use crate::files;
+use crate::second;
+use crate::second::Second;
 use crate::text;
-use walk::First;
 use walk::Table;
 ghost use Prim.Native.Nat.{_<_, _≤_};
 
 // The bytes of the first-level table.
 const FIRST_LEVEL: usize = 64;
-
-// A second-level table, by its kind and where it stands; or none.
-enum Second {
-    At(Table, u32),
-    Nothing,
-}
-
-// The table that a first-level word names.
-fn named(w: u32) -> Second {
-    let d = walk::descriptors::decode_first(w);
-    match d {
-        First::Coarse(at) => return Second::At(Table::Coarse, at.0),
-        First::Fine(at) => return Second::At(Table::Fine, at.0),
-        First::Fault => return Second::Nothing,
-        First::Whole(_) => return Second::Nothing,
-    }
-}
-
-// The bytes of a table.
-fn size(t: Table) -> u32 {
-    match t {
-        Table::Coarse => return 1024,
-        Table::Fine => return 4096,
-    }
-}
-
-// The virtual addresses below those of the word at an offset of a table.
-fn below(t: Table, offset: u32) -> u64 {
-    match t {
-        Table::Coarse => return 1024 * offset as u64,
-        Table::Fine => return 256 * offset as u64,
-    }
-}
 
 // A table's kind, in a word.
 fn kind(fd: i32, t: Table) -> bool {
@@ -104,10 +72,7 @@ fn alike(image: &[u8], base: u32, from: u32, bytes: u32, w: u32) -> u32
 
 // Whether the word at an address is one of a table and its group is not all equal.
 fn broken(image: &[u8], base: u32, t: Table, table: u32, at: u32) -> bool {
-    if at < table {
-        return false;
-    }
-    if at - table >= size(t) {
+    if !second::holds(t, table, at) {
         return false;
     }
     let w = word(image, base, at);
@@ -117,7 +82,7 @@ fn broken(image: &[u8], base: u32, t: Table, table: u32, at: u32) -> bool {
 
 // Whether it is so in the table that a first-level word names.
 fn broken_under(image: &[u8], base: u32, first: u32, at: u32) -> bool {
-    let n = named(first);
+    let n = second::named(first);
     match n {
         Second::At(t, table) => return broken(image, base, t, table, at),
         Second::Nothing => return false,
@@ -191,7 +156,7 @@ fn beyond(fd: i32, t: Table, table: u32, base: u32, len: usize) -> bool {
             b" table at %8 to %8, which is not inside the image, %8 to %8\n",
             &[
                 table as u64,
-                last(table, size(t) as u64),
+                last(table, second::size(t) as u64),
                 base as u64,
                 last(base, len as u64),
             ],
@@ -201,7 +166,7 @@ fn beyond(fd: i32, t: Table, table: u32, base: u32, len: usize) -> bool {
 // What is wrong with a first-level word whose table is outside.
 fn named_beyond(fd: i32, image: &[u8], base: u32, at: u32) -> bool {
     let w = word(image, base, at);
-    let n = named(w);
+    let n = second::named(w);
     let ok = text::form(
         fd,
         b"word %d of the first level, %8, names a ",
@@ -254,7 +219,7 @@ fn unequal_in(fd: i32, image: &[u8], base: u32, mb: u32, t: Table, table: u32, a
             &[
                 mb as u64,
                 table as u64,
-                std::num::wrapping_add_u64(1048576 * mb as u64, below(t, offset)),
+                std::num::wrapping_add_u64(1048576 * mb as u64, second::below(t, offset)),
             ],
         )
         & text::part(fd, b"|large|small|", (w % 4) as usize)
@@ -265,7 +230,7 @@ fn unequal_in(fd: i32, image: &[u8], base: u32, mb: u32, t: Table, table: u32, a
 pub(crate) fn unequal(fd: i32, path: &[u8], image: &[u8], base: u32, at: u32) -> bool {
     let mb = megabyte(image, base, at);
     let ok = head(fd, path, 18, at);
-    let n = named(wire::word_at(image, 4 * mb as usize));
+    let n = second::named(wire::word_at(image, 4 * mb as usize));
     match n {
         Second::At(t, table) => return ok & unequal_in(fd, image, base, mb, t, table, at),
         Second::Nothing => return ok,

@@ -1,4 +1,5 @@
 // nx show: a list in rising order with its gaps, its tables, and the physical memory that mappings share.
+use crate::build;
 use crate::files;
 use crate::list;
 use crate::list::Loaded;
@@ -6,11 +7,8 @@ use crate::parse;
 use crate::text;
 use records::Mapping;
 
-// The address at which the tables are to stand.
-const BASE: u32 = 0x20000000;
-
 // Where the virtual addresses end.
-const END: u32 = 16777216;
+pub const END: u32 = 16777216;
 
 // The words of a kind and of an access, as wide as their columns.
 fn kind(k: u32, access: u32) -> bool {
@@ -225,7 +223,7 @@ fn page(records: &[u8], t: &[u8], lines: &[u32], image: &[u8]) -> bool {
         & text::form(
             text::OUT,
             b"\nThe tables, %d bytes at %8\n  megabyte  word      what it is\n",
-            &[image.len() as u64, BASE as u64],
+            &[image.len() as u64, build::BASE as u64],
         )
         & tables(image)
         & text::put(text::OUT, b"\nPhysical memory that two mappings share\n")
@@ -235,7 +233,7 @@ fn page(records: &[u8], t: &[u8], lines: &[u32], image: &[u8]) -> bool {
 // A list judged and shown.
 fn judged(path: &[u8], records: &[u8], t: &[u8], lines: &[u32]) -> u32 {
     let mut memory = io::large_buffer();
-    let n = list::judged(path, records, lines, BASE, &mut memory);
+    let n = list::judged(path, records, lines, build::BASE, &mut memory);
     if n == 0 {
         return 1;
     }

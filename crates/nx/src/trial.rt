@@ -1,4 +1,5 @@
 // nx try: a session on the model from a script, what each call says, and what the session cost.
+use crate::build;
 use crate::columns;
 use crate::files;
 use crate::files::Got;
@@ -19,9 +20,6 @@ use prices::Prices;
 use session::Bench;
 use session::Stepped;
 ghost use Prim.Native.Nat.{_≤_};
-
-// The address at which the tables stand.
-const BASE: u32 = 0x20000000;
 
 // The most words of a line.
 const WORDS: usize = 5;
@@ -205,7 +203,7 @@ fn stepped(b: Bench, ext: &[u8], call: Call, prices: Prices) -> Stepped {
         &on,
         PhysicalAddress(0),
         ext,
-        PhysicalAddress(BASE),
+        PhysicalAddress(build::BASE),
         prices,
     )
 }
@@ -321,7 +319,7 @@ fn page(records: &[u8], ext: &[u8], t: &[u8]) -> bool {
     text::form(
         text::OUT,
         b"The session: a fresh unit, the tables at %8\n  call ",
-        &[BASE as u64],
+        &[build::BASE as u64],
     )
         & text::pad(text::OUT, 5, width)
         & text::put(
@@ -354,7 +352,7 @@ fn scripted(path: &[u8], records: &[u8], ext: &[u8]) -> u32 {
 // A list judged and tried.
 fn judged(path: &[u8], records: &[u8], lines: &[u32], script: &[u8]) -> u32 {
     let mut memory = io::large_buffer();
-    let n = list::judged(path, records, lines, BASE, &mut memory);
+    let n = list::judged(path, records, lines, build::BASE, &mut memory);
     if n == 0 {
         return 1;
     }
