@@ -1,10 +1,9 @@
 -- Refusal 4 and the places of four bytes. Assumes nothing.
-use Rattle.memory.specs.Names.{_≡_, ℕ, _+_, _-_, _≤_, length, take, drop, List, Place, _and_, _or_}
-use Rattle.memory.proofs.Names.{refl, sym, ap, _∙_, subst, true, false, arith, pick-yes, pick-no, and-left, and-right, and-yes, memoryOk, apart}
+use Rattle.memory.specs.Names.{_≡_, ℕ, _+_, _-_, _≤_, length, Place, _and_, _or_}
+use Rattle.memory.proofs.Names.{refl, ap, _∙_, true, false, arith, pick-yes, pick-no, and-left, and-right, and-yes, memoryOk, apart}
 use Rattle.memory.proofs.Names.{memoriesOk, liesIn, placeWithin, partAt, Inside}
-use lib.ListN.{length-drop}
-use lib.Seq.{length-take-le}
 use Rattle.page.proofs.Picks.{pick-by}
+use Rattle.wire.proofs.Reading.{four-long}
 pub use Rattle.memory.proofs.Apart.{ok-short, ok-ends}
 use Rattle.memory.proofs.Apart.{held-from, held-to, apart-held-once}
 use Rattle.memory.specs.Memory.{Lent, lentOk, placeIn, partLength}
@@ -48,13 +47,10 @@ module _ (m : Lent) (a : ℕ) where
   unfolding placeIn
   inside = pick-by (Inside m a) _ _ _ (λ _. inside-within) (λ _. tt)
 
-four : (l : List ℕ) (k : ℕ) → k + 4 ≤ length l → length (take 4 (drop k l)) ≡ 4
-four l k h = length-take-le 4 (drop k l) (subst (λ (n : ℕ). 4 ≤ n) (sym (length-drop k l)) (omega arith))
-
 -- a part is four bytes, or none where there is no place
 pub part-length : (m : Lent) (a : ℕ) (p : Place) → Inside m a p → length (partAt m p) ≡ partLength p
-part-length m a (Place.OnChip k) h = four (m .on) k (h .0)
-part-length m a (Place.External k) h = four (m .ext) k (h .0)
+part-length m a (Place.OnChip k) h = four-long (m .on) k (h .0)
+part-length m a (Place.External k) h = four-long (m .ext) k (h .0)
 part-length m a Place.Nowhere h = refl
 
 -- a part that starts where its memory does

@@ -40,14 +40,14 @@ fn word(image: &[u8], k: u32) -> u32 {
 }
 
 // The address of a word of an image at a base.
-fn address(base: u32, k: u32) -> u32 {
+fn address_of(base: u32, k: u32) -> u32 {
     ((base as u64 + 4 * k as u64) % 4294967296) as u32
 }
 
 // Whether a run is cut before a word: where a table may begin, behind the first level, at an image's end.
 fn seam(new: &[u8], signed: &[u8], base: u32, k: u32) -> bool {
     let at = 4 * k as usize;
-    (address(base, k) % 1024 == 0) | (k == 16) | (at == new.len()) | (at == signed.len())
+    (address_of(base, k) % 1024 == 0) | (k == 16) | (at == new.len()) | (at == signed.len())
 }
 
 // Whether two words are the same in both images.
@@ -192,21 +192,21 @@ fn under(
     at: usize,
     first: u32,
     mb: u32,
-    word_at: u32,
+    address: u32,
     bytes: u32,
     w: u32,
 ) -> usize {
     let n = second::named(first);
     match n {
         Second::At(t, table) => {
-            if second::holds(t, table, word_at) {
+            if second::holds(t, table, address) {
                 let a = indented(out, from, at);
                 return in_second(
                     out,
                     a,
                     t,
                     mb,
-                    std::num::wrapping_sub_u32(word_at, table),
+                    std::num::wrapping_sub_u32(address, table),
                     bytes,
                     w,
                 );
@@ -229,7 +229,7 @@ fn places(out: &mut [u8], from: usize, image: &[u8], base: u32, k: u32, bytes: u
             at,
             word(image, mb),
             mb,
-            address(base, k),
+            address_of(base, k),
             bytes,
             w,
         );

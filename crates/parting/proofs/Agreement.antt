@@ -7,7 +7,7 @@ use native.Mathlib.Decide.{decLe}
 use lib.ListN.{length-drop, take-append-drop}
 use lib.Seq.{drop-append-le, length-take-le, take-add, take-append-le}
 use Rattle.wire.specs.Words.{wordOf}
-use Rattle.wire.proofs.Reading.{bytes-drop, bytes-take, same-bytes}
+use Rattle.wire.proofs.Reading.{bytes-drop, bytes-take, four-long, same-bytes}
 use Rattle.parting.proofs.Counting.{counts-none}
 
 module _ (a b : List ℕ) where
@@ -58,12 +58,9 @@ module _ (a b : List ℕ) where
 
   -- words that agree are the same bytes
   module _ (p : Bytes a) (q : Bytes b) where
-    four : (l : List ℕ) (k : ℕ) → k + 4 ≤ length l → length (take 4 (drop k l)) ≡ 4
-    four l k h = length-take-le 4 (drop k l) (omega (arith, length-drop k l))
-
     word-bytes : (k : ℕ) → 4 * k + 4 ≤ length a → 4 * k + 4 ≤ length b → differsAt a b k ≡ false → take 4 (drop (4 * k) a) ≡ take 4 (drop (4 * k) b)
     word-bytes k g h e =
-        same-bytes _ _ (bytes-take 4 (drop (4 * k) a) (bytes-drop (4 * k) a p)) (bytes-take 4 (drop (4 * k) b) (bytes-drop (4 * k) b q)) (four a (4 * k) g) (four b (4 * k) h)
+        same-bytes _ _ (bytes-take 4 (drop (4 * k) a) (bytes-drop (4 * k) a p)) (bytes-take 4 (drop (4 * k) b) (bytes-drop (4 * k) b q)) (four-long a (4 * k) g) (four-long b (4 * k) h)
         (eqb-true _ _ (not-false _ e))
 
     pub same-front : (n : ℕ) → 4 * n ≤ length a → 4 * n ≤ length b → Agree 0 n → take (4 * n) a ≡ take (4 * n) b

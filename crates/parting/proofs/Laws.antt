@@ -1,7 +1,7 @@
 -- The laws of the comparison (02, P14). Assumes nothing.
 use Rattle.parting.specs.Names.{_≡_, Bool, false, true, List, [], ℕ, _+_, _*_, _%_, _<_, _≤_, eqb, length, ltb, take, drop, not, pick, _and_, Bytes, bytesOf, wordAt, Owner, Comparison}
 use Rattle.parting.proofs.Names.{refl, sym, ap, subst, _∙_, arith, eq-eqb, le-ltb, lt-ltb, pick-by, pick-yes, pick-no, and-left, and-right, and-yes}
-use Rattle.parting.proofs.Names.{differing, firstDiffering, common, agreed, wholeWords, ownerAt, ownerNumber, ownerOf, startOf, owned, partBytes}
+use Rattle.parting.proofs.Names.{differing, firstDiffering, common, agreed, wholeWords, ownerAt, ownerNumber, ownerOf, startOf, ofOwner, partBytes}
 use Rattle.parting.proofs.Names.{comparisonOf, comparisonNumber, comparisonOwner, comparisonStart}
 use mathlib.Core.Bool.{false≢true}
 use mathlib.Core.Logic.{inl, inr}
@@ -91,8 +91,8 @@ module _ (a b : List ℕ) where
       (λ h. let z = signed-owner (agreed a b) (length a) (length b) (ap ownerNumber (sym (owner-good a b h) ∙ e)) in (start-good a b h ∙ z .0, z .1))
       (λ h. absurd (omega (arith, ap ownerNumber (sym (owner-refused a b h) ∙ e))))
 
-  of-owner : (o : Owner) → ownerOf a b ≡ o → partBytes a b ≡ drop (startOf a b) (owned o a b)
-  of-owner o e = ap (λ (x : Owner). drop (startOf a b) (owned x a b)) e
+  of-owner : (o : Owner) → ownerOf a b ≡ o → partBytes a b ≡ drop (startOf a b) (ofOwner o a b)
+  of-owner o e = ap (λ (x : Owner). drop (startOf a b) (ofOwner x a b)) e
 
   refused-empty : whole ≡ false → partBytes a b ≡ []
   refused-empty h = of-owner Owner.New (owner-refused a b h) ∙ drop-of-length-le a {i = startOf a b} (omega (arith, start-refused a b h))

@@ -1,15 +1,15 @@
 -- Whose the part is, where it begins, and what the second call says. Assumes nothing.
 use Rattle.parting.specs.Names.{_≡_, false, true, List, ℕ, _+_, _*_, _≤_, drop, length, RefT, Owner, Comparison}
 use Rattle.parting.proofs.Names.{sym, ap, ap₂, _∙_, now, arith, pick-yes, pick-no, common, agreed, differing, firstDiffering, wholeWords, ownerAt, ownerOf, startOf}
-use Rattle.parting.proofs.Names.{owned, startIn, partBytes, partSource, comparisonOf}
+use Rattle.parting.proofs.Names.{ofOwner, startIn, partBytes, partSource, comparisonOf}
 use Rattle.parting.proofs.Counting.{count-none, first-to, none-before}
 
 -- a part of its image, by its owner and its start
 pub part-is : (new signed : RefT (List ℕ)) (o : Owner) (k : ℕ) → ownerOf (now new) (now signed) ≡ o → startOf (now new) (now signed) ≡ k
-    → (drop k (owned o (now new) (now signed)) ≡ partBytes (now new) (now signed)) × (startIn k (owned o new signed) ≡ partSource new signed)
+    → (drop k (ofOwner o (now new) (now signed)) ≡ partBytes (now new) (now signed)) × (startIn k (ofOwner o new signed) ≡ partSource new signed)
 part-is new signed o k e f = (
-  ap₂ (λ (p : Owner) (j : ℕ). drop j (owned p (now new) (now signed))) (sym e) (sym f),
-  ap₂ (λ (p : Owner) (j : ℕ). startIn j (owned p new signed)) (sym e) (sym f),
+  ap₂ (λ (p : Owner) (j : ℕ). drop j (ofOwner p (now new) (now signed))) (sym e) (sym f),
+  ap₂ (λ (p : Owner) (j : ℕ). startIn j (ofOwner p new signed)) (sym e) (sym f),
 )
 
 module _ (a b : List ℕ) where
@@ -67,7 +67,7 @@ module _ (a b : List ℕ) where
 -- the part of images of whole words, by its owner
 pub part-good : (new signed : RefT (List ℕ)) (c w : ℕ) → c ≡ common (now new) (now signed) → w ≡ firstDiffering (now new) (now signed) 0 c
     → wholeWords (length (now new)) (length (now signed)) ≡ true → (o : Owner) → o ≡ ownerAt (4 * w) (length (now new)) (length (now signed))
-    → (drop (4 * w) (owned o (now new) (now signed)) ≡ partBytes (now new) (now signed)) × (startIn (4 * w) (owned o new signed) ≡ partSource new signed)
+    → (drop (4 * w) (ofOwner o (now new) (now signed)) ≡ partBytes (now new) (now signed)) × (startIn (4 * w) (ofOwner o new signed) ≡ partSource new signed)
 part-good new signed c w e f h o g =
     let k = agreed-is (now new) (now signed) c w e f in
     part-is new signed o (4 * w)

@@ -44,20 +44,20 @@ ownerNumber Owner.New = 1
 ownerNumber Owner.Signed = 2
 
 -- an owner's of two things, one of the new image and one of the signed one
-abbrev pub owned : {A : Type 0} → Owner → A → A → A
-owned Owner.New new signed = new
-owned Owner.Signed new signed = signed
+abbrev pub ofOwner : {A : Type 0} → Owner → A → A → A
+ofOwner Owner.New new signed = new
+ofOwner Owner.Signed new signed = signed
 
 -- the bytes of the part, which runs to its image's end
 abbrev pub partBytes : List ℕ → List ℕ → List ℕ
-partBytes new signed = drop (startOf new signed) (owned (ownerOf new signed) new signed)
+partBytes new signed = drop (startOf new signed) (ofOwner (ownerOf new signed) new signed)
 
 -- whose part that is: the block of its image and the offset there
 abbrev pub startIn : ℕ → RefT (List ℕ) → ℕ × ℕ
 startIn k image = (image .ptr .0, k + image .ptr .1)
 
 abbrev pub partSource : RefT (List ℕ) → RefT (List ℕ) → ℕ × ℕ
-partSource new signed = startIn (startOf (now new) (now signed)) (owned (ownerOf (now new) (now signed)) new signed)
+partSource new signed = startIn (startOf (now new) (now signed)) (ofOwner (ownerOf (now new) (now signed)) new signed)
 
 -- the second call: a refusal, or whose the part is, where it begins and how many words differ over the common length
 unfoldable pub comparisonOf : List ℕ → List ℕ → Comparison

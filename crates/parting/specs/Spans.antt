@@ -2,8 +2,8 @@
 use Rattle.parting.specs.Names.{ℕ, _*_, _≤_, List, length}
 
 -- both images have n words
-abbrev pub Both : List ℕ → List ℕ → ℕ → Type 0
-Both new signed n = (4 * n ≤ length new) × (4 * n ≤ length signed)
+abbrev pub HaveWords : List ℕ → List ℕ → ℕ → Type 0
+HaveWords new signed n = (4 * n ≤ length new) × (4 * n ≤ length signed)
 
 -- how many words are compared at a time
 abbrev pub block : ℕ

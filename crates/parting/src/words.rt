@@ -1,14 +1,14 @@
 // The words of two images, compared: how many differ, and the first that does.
 ghost use Rattle.parting.specs.Names.{_≡_, _+_, _-_, _*_, _≤_, length};
 ghost use Rattle.parting.specs.Parting.{differsAt, differing, firstDiffering};
-ghost use Rattle.parting.specs.Spans.{Both, block};
+ghost use Rattle.parting.specs.Spans.{HaveWords, block};
 
 // How many words are compared at a time.
 const BLOCK: usize = 64;
 
 // Whether word k differs.
 fn differs_at(new: &[u8], signed: &[u8], k: usize) -> bool
-    requires { ⌜ Both (now new) (now signed) (k + 1) ⌝ }
+    requires { ⌜ HaveWords (now new) (now signed) (k + 1) ⌝ }
     ensures { λ r. ⌜ r ≡ differsAt (now (new .entry)) (now (signed .entry)) k ⌝ }
 {
     wire::word_of(&new[4 * k..4 * k + 4]) != wire::word_of(&signed[4 * k..4 * k + 4])
@@ -16,7 +16,7 @@ fn differs_at(new: &[u8], signed: &[u8], k: usize) -> bool
 
 // How many of n words from word k on differ.
 fn differing_in(new: &[u8], signed: &[u8], k: usize, n: usize) -> u32
-    requires { ⌜ Both (now new) (now signed) (k + n) × (n ≤ block) ⌝ }
+    requires { ⌜ HaveWords (now new) (now signed) (k + n) × (n ≤ block) ⌝ }
     ensures { λ r. ⌜ differing (now (new .entry)) (now (signed .entry)) (k + n) ≡ differing (now (new .entry)) (now (signed .entry)) k + r ⌝ }
 {
     let mut d: u32 = 0;
@@ -30,7 +30,7 @@ fn differing_in(new: &[u8], signed: &[u8], k: usize, n: usize) -> u32
 
 // How many of the words from word k on, below word n, differ.
 pub(crate) fn differing(new: &[u8], signed: &[u8], k: usize, n: usize) -> usize
-    requires { ⌜ Both (now new) (now signed) n × (k ≤ n) ⌝ }
+    requires { ⌜ HaveWords (now new) (now signed) n × (k ≤ n) ⌝ }
     ensures { λ r. ⌜ differing (now (new .entry)) (now (signed .entry)) n ≡ differing (now (new .entry)) (now (signed .entry)) k + r ⌝ }
 {
     let mut d: usize = 0;
@@ -44,7 +44,7 @@ pub(crate) fn differing(new: &[u8], signed: &[u8], k: usize, n: usize) -> usize
 
 // The first word from word k on that differs, n where none below it does.
 fn first_differing(new: &[u8], signed: &[u8], k: usize, n: usize) -> usize
-    requires { ⌜ Both (now new) (now signed) n × (k ≤ n) ⌝ }
+    requires { ⌜ HaveWords (now new) (now signed) n × (k ≤ n) ⌝ }
     ensures { λ r. ⌜ r ≡ firstDiffering (now (new .entry)) (now (signed .entry)) k (n - k) ⌝ }
 {
     let mut j = k;
@@ -59,7 +59,7 @@ fn first_differing(new: &[u8], signed: &[u8], k: usize, n: usize) -> usize
 
 // The first word that differs, n where none below it does.
 pub(crate) fn parting_word(new: &[u8], signed: &[u8], n: usize) -> usize
-    requires { ⌜ Both (now new) (now signed) n ⌝ }
+    requires { ⌜ HaveWords (now new) (now signed) n ⌝ }
     ensures { λ r. ⌜ r ≡ firstDiffering (now (new .entry)) (now (signed .entry)) 0 n ⌝ }
 {
     let mut k: usize = 0;

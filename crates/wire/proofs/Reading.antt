@@ -1,5 +1,5 @@
 -- Words read from their bytes. Assumes nothing.
-use Rattle.wire.specs.Names.{_≡_, List, ℕ, zero, suc, _+_, _*_, _/_, _%_, _^_, getD, length, take, drop}
+use Rattle.wire.specs.Names.{_≡_, _≤_, List, ℕ, zero, suc, _+_, _*_, _/_, _%_, _^_, getD, length, take, drop}
 use Rattle.wire.proofs.Names.{_<_, _∙_, sym, decLe, le-leb, pick-yes, arith, length-drop, lt-leb, pick-no, wordOf}
 use mathlib.Core.Path.{subst}
 use lib.Dec.{lit<}
@@ -37,6 +37,10 @@ pub word-lt : (l : List ℕ) → Bytes l → wordOf l < 2 ^ 32
 unfolding wordOf
 word-lt l h =
     pick-by (λ (w : ℕ). w < 2 ^ 32) _ _ _ (λ _. omega (arith, h 0, h 1, h 2, h 3)) (λ _. lit< tt)
+
+-- the four bytes at an offset are four where the list has them
+pub four-long : (l : List ℕ) (k : ℕ) → k + 4 ≤ length l → length (take 4 (drop k l)) ≡ 4
+four-long l k h = omega (arith, length-take 4 (drop k l), length-drop k l)
 
 -- words of four bytes each that are equal have the same bytes
 digits : (a b c d x y z w : ℕ) → a < 256 → b < 256 → c < 256 → d < 256 → x < 256 → y < 256 → z < 256 → w < 256 → littleEndian a b c d ≡ littleEndian x y z w

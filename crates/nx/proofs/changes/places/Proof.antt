@@ -23,8 +23,8 @@ loop-holds c = search needs
 word-requires-2 : tie.Need-word-requires-2 Inv-loop μ-loop
 word-requires-2 c κs = search needs
 
-address-requires : tie.Need-address-requires Inv-loop μ-loop
-address-requires c κs = search needs
+address-of-requires : tie.Need-address-of-requires Inv-loop μ-loop
+address-of-requires c κs = search needs
 
 under-requires : tie.Need-under-requires Inv-loop μ-loop
 under-requires c κs = search needs
@@ -66,7 +66,7 @@ places-spec =
     in-first-requires
     loop-holds
     word-requires-2
-    address-requires
+    address-of-requires
     under-requires
     add-mb
     loop-less
