@@ -2,7 +2,7 @@
 
 use crate::memory::Place;
 
-/// Refusals 1 to 12, and 17 and 18 (P4). A refused call changes nothing at all.
+/// Refusals 1 to 12, 16 (P1), and 17 and 18 (P4). A refused call changes nothing at all.
 /// They and the faults are as wide as an address: every outcome then has one
 /// layout, quick to hand over.
 #[derive(Clone, Copy, PartialEq, Eq, Debug)]
@@ -30,16 +30,19 @@ pub enum Refusal {
     Record = 10,
     /// A record that overlaps an earlier one.
     Overlap = 11,
-    /// An image longer than the memory, or a list of pages longer than its room.
+    /// An image longer than the memory, or a list of pages, a recording or its calls longer
+    /// than the room.
     Room = 12,
+    /// A call or a block of a recording that is not as said, or one too many.
+    Recording = 16,
     /// A table that does not lie wholly inside the memory.
     Outside = 17,
     /// A large or small word whose group differs.
     Unequal = 18,
 }
 
-/// A refusal that names something: the index of a record, a count, the address of a word;
-/// refusal 4 names nothing, which is 0.
+/// A refusal that names something: the index of a record, a call or a block, a count, the
+/// address of a word; refusal 4 names nothing, which is 0.
 #[derive(Clone, Copy, PartialEq, Eq, Debug)]
 pub struct Refused {
     pub refusal: Refusal,
@@ -170,6 +173,8 @@ mod tests {
     fn numbers_of_the_paper() {
         assert_eq!(Answer::Refused(Refusal::Address).number(), 1);
         assert_eq!(Answer::Refused(Refusal::Room).number(), 12);
+        let bad = Refused { refusal: Refusal::Recording, at: 65_536 };
+        assert_eq!(bad.number(), 0x8000_0010_0001_0000);
         let outside = Refused { refusal: Refusal::Outside, at: 0xFFFF_FFFC };
         assert_eq!(outside.number(), 0x8000_0011_FFFF_FFFC);
         assert_eq!(Refused { refusal: Refusal::Unequal, at: 4 }.number(), 0x8000_0012_0000_0004);

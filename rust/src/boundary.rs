@@ -1,29 +1,26 @@
-//! The byte boundary: build, run, from, fetch, check, list and part over byte slices.
-//! All numbers are little-endian.
+//! The byte boundary: build, run, from, fetch, check, list, part, record, recorded and crc
+//! over byte slices. All numbers are little-endian.
 
 use crate::answer::{Fault, Refused, Reply};
 use crate::audit;
 use crate::bill::{Bill, Price, Prices};
 use crate::builder;
+use crate::crc;
 use crate::memory::{Memories, Place};
 use crate::meters::Meters;
 use crate::parting::{self, Comparison, Source};
+use crate::recording::{self, as_said};
 use crate::slots::SLOTS;
 use crate::unit::{Books, Image, Lent, Pending, Unit};
 use crate::walk::Access;
 
-/// Bytes of one call, of one answer, of the state, and of what is said of two images.
-pub const CALL: usize = 12;
+/// Bytes of one call, and the kinds of calls.
+pub use crate::recording::{CALL, DROP, READ, REQUEST, SHIFT, WRITE};
+
+/// Bytes of one answer, of the state, and of what is said of two images.
 pub const ANSWER: usize = 16;
 pub const STATE: usize = 328;
 pub const PARTING: usize = 24;
-
-/// Kinds of calls.
-pub const WRITE: u8 = 1;
-pub const READ: u8 = 2;
-pub const REQUEST: u8 = 3;
-pub const DROP: u8 = 4;
-pub const SHIFT: u8 = 5;
 
 /// Where things are in an answer, behind its number.
 pub const FROM_AT: usize = 4;
@@ -90,6 +87,12 @@ pub trait Program {
     fn list(&self, memory: &[u8], base: u32, out: &mut [u8]) -> u64;
 
     fn part(&self, new: &[u8], signed: &[u8], out: &mut [u8]) -> u64;
+
+    fn record(&self, calls: &[u8], out: &mut [u8]) -> u64;
+
+    fn recorded(&self, recording: &[u8], out: &mut [u8]) -> u64;
+
+    fn crc(&self, bytes: &[u8]) -> u64;
 }
 
 /// This program.
@@ -135,6 +138,18 @@ impl Program for Second {
     fn part(&self, new: &[u8], signed: &[u8], out: &mut [u8]) -> u64 {
         part(new, signed, out)
     }
+
+    fn record(&self, calls: &[u8], out: &mut [u8]) -> u64 {
+        record(calls, out)
+    }
+
+    fn recorded(&self, recording: &[u8], out: &mut [u8]) -> u64 {
+        recorded(recording, out)
+    }
+
+    fn crc(&self, bytes: &[u8]) -> u64 {
+        crc(bytes)
+    }
 }
 
 /// The image's length; or 2^63 + number * 2^32 + index or count.
@@ -172,6 +187,23 @@ pub fn part(new: &[u8], signed: &[u8], out: &mut [u8]) -> u64 {
     out[8..16].copy_from_slice(&(offset as u64).to_le_bytes());
     out[16..].copy_from_slice(&(differing as u64).to_le_bytes());
     PARTING as u64
+}
+
+/// Bytes of the recording of these calls; or 2^63 + number * 2^32 + the index of a call or
+/// the bytes needed.
+pub fn record(calls: &[u8], out: &mut [u8]) -> u64 {
+    length_or_refusal(recording::record(calls, out))
+}
+
+/// Bytes of a recording's calls; or 2^63 + number * 2^32 + the index of a block or the bytes
+/// needed.
+pub fn recorded(recording: &[u8], out: &mut [u8]) -> u64 {
+    length_or_refusal(recording::recorded(recording, out))
+}
+
+/// The CRC-32 in the low 32 bits.
+pub fn crc(bytes: &[u8]) -> u64 {
+    crc::crc32(bytes).into()
 }
 
 /// A length, or the number of a refusal.
@@ -240,21 +272,7 @@ fn open<'a, 'b>(
 ) -> Option<(Lent<'a>, &'b mut [u8])> {
     let prices = Prices::new(price(lending.on_price)?, price(lending.external_price)?);
     let records = calls.chunks_exact(CALL);
-    // Kind, offset or access, two zero bytes, address, value below 65,536; what a kind does not use is zero.
-    let as_said = |call: &[u8]| {
-        let zero = |bytes: &[u8]| bytes.iter().all(|&byte| byte == 0);
-        zero(&call[2..4])
-            && zero(&call[10..12])
-            && match call[0] {
-                WRITE => zero(&call[4..8]),
-                READ => zero(&call[4..10]),
-                REQUEST => call[1] <= 1 && zero(&call[8..10]),
-                DROP => zero(&call[1..10]),
-                SHIFT => call[1] == 0 && zero(&call[8..10]),
-                _ => false,
-            }
-    };
-    if !records.remainder().is_empty() || !records.clone().all(as_said) {
+    if !records.remainder().is_empty() || records.clone().any(|call| !as_said(call)) {
         return None;
     }
     let out = out.get_mut(..records.len() * ANSWER + STATE)?;

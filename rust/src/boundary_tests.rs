@@ -297,3 +297,28 @@ fn partings_to_the_byte() {
     let said = [0, 0, 0, 0, 2, 0, 0, 0, 0x40, 0x23, 1, 0, 0, 0, 0, 0, 0, 0, 0, 0, 0, 0, 0, 0];
     assert_eq!(out, said);
 }
+
+#[test]
+fn recordings_as_numbers() {
+    // A shift report, then a drop: two calls of block 0, and zlib's check.
+    let calls = [call(SHIFT, 0, 0x8000_0001, 0), call(DROP, 0, 0, 0)].concat();
+    let mut said = [0; 512];
+    said[..8].copy_from_slice(&[2, 0, 0, 0, 5, 0, 0, 0]);
+    said[8..17].copy_from_slice(&[1, 0, 0, 0x80, 0, 0, 0, 0, 4]);
+    said[508..].copy_from_slice(&[0xC8, 0x45, 0x94, 0x89]);
+    let mut out = [0xAA; 513];
+    assert_eq!(record(&calls, &mut out[..511]), 1 << 63 | 12 << 32 | 512);
+    assert_eq!(record(&calls[..23], &mut out), 1 << 63 | 16 << 32 | 1);
+    assert_eq!(out, [0xAA; 513]);
+    assert_eq!(record(&calls, &mut out), 512);
+    assert_eq!(out[..512], said);
+    assert_eq!(out[512], 0xAA);
+    let mut out = [0xAA; 25];
+    assert_eq!(recorded(&said, &mut out[..23]), 1 << 63 | 12 << 32 | 24);
+    assert_eq!(recorded(&[said, said].concat(), &mut out), 1 << 63 | 16 << 32 | 1);
+    assert_eq!(out, [0xAA; 25]);
+    assert_eq!(recorded(&said, &mut out), 24);
+    assert_eq!(out[..24], calls);
+    assert_eq!(out[24], 0xAA);
+    assert_eq!(crc(b"123456789"), 0xCBF4_3926);
+}

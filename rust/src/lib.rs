@@ -4,19 +4,21 @@
 //!
 //! It is an oracle for differential tests and a yardstick for speed. Section
 //! names in the comments are those of paper 01; tables are those of source 000;
-//! P3 to P6 and P14 are requests of paper 02.
+//! P1, P3 to P6 and P14 are requests of paper 02.
 
 pub mod answer;
 pub mod audit;
 pub mod bill;
 pub mod boundary;
 pub mod builder;
+pub mod crc;
 pub mod dice;
 pub mod listing;
 pub mod memory;
 pub mod meters;
 pub mod native;
 pub mod parting;
+pub mod recording;
 pub mod registers;
 pub mod slots;
 pub mod unit;

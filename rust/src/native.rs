@@ -113,6 +113,17 @@ mod c {
             out: *mut u8,
             out_len: usize,
         ) -> u64;
+
+        pub fn nx_record(calls: *const u8, calls_len: usize, out: *mut u8, out_len: usize) -> u64;
+
+        pub fn nx_recorded(
+            recording: *const u8,
+            recording_len: usize,
+            out: *mut u8,
+            out_len: usize,
+        ) -> u64;
+
+        pub fn nx_crc(bytes: *const u8, bytes_len: usize) -> u64;
     }
 }
 
@@ -222,6 +233,18 @@ impl Program for Native {
             )
         }
     }
+
+    fn record(&self, calls: &[u8], out: &mut [u8]) -> u64 {
+        unsafe { c::nx_record(calls.as_ptr(), calls.len(), out.as_mut_ptr(), out.len()) }
+    }
+
+    fn recorded(&self, recording: &[u8], out: &mut [u8]) -> u64 {
+        unsafe { c::nx_recorded(recording.as_ptr(), recording.len(), out.as_mut_ptr(), out.len()) }
+    }
+
+    fn crc(&self, bytes: &[u8]) -> u64 {
+        unsafe { c::nx_crc(bytes.as_ptr(), bytes.len()) }
+    }
 }
 
 #[cfg(not(native))]
@@ -255,6 +278,18 @@ impl Program for Native {
     }
 
     fn part(&self, _: &[u8], _: &[u8], _: &mut [u8]) -> u64 {
+        match self.0 {}
+    }
+
+    fn record(&self, _: &[u8], _: &mut [u8]) -> u64 {
+        match self.0 {}
+    }
+
+    fn recorded(&self, _: &[u8], _: &mut [u8]) -> u64 {
+        match self.0 {}
+    }
+
+    fn crc(&self, _: &[u8]) -> u64 {
         match self.0 {}
     }
 }

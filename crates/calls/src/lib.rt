@@ -83,7 +83,7 @@ pub fn count(calls: &[u8]) -> usize
 }
 
 // Whether a record is a call.
-fn is_good(call: Call) -> bool
+pub fn is_good(call: Call) -> bool
     ensures { λ r. ⌜ r ≡ isGood call ⌝ }
 {
     match call {

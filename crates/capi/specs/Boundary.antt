@@ -1,7 +1,7 @@
 -- What each function of the boundary answers and leaves in the lent bytes.
 use Rattle.capi.specs.Names.{runWith, ℕ, List, pick, Lent, placeIn, fetchedIn, wordOf, Prices, buildOf, freshBench, Float, isState}
-use Rattle.capi.specs.Names.{benchIn, lockIn, Ran, ran, megabytes, listOf, leb, length, wordsPut, comparisonOf}
-use Rattle.capi.specs.Numbers.{placeNumber, builtWord, inventoryWord, comparisonSaid}
+use Rattle.capi.specs.Names.{benchIn, lockIn, Ran, ran, megabytes, listOf, leb, length, wordsPut, comparisonOf, recordingWritten, recordingRead}
+use Rattle.capi.specs.Numbers.{placeNumber, builtWord, inventoryWord, comparisonSaid, writtenWord}
 
 -- a run from a fresh bench
 abbrev pub runOf : Lent → Prices → ℕ → ℕ → List ℕ → List ℕ → Ran
@@ -27,3 +27,10 @@ listRan memory base out = ran (inventoryWord (listOf megabytes memory base out .
 -- two images compared: the answer in 24 bytes; 0 and nothing written where there is no room for them
 unfoldable pub partRan : List ℕ → List ℕ → List ℕ → Ran
 partRan new signed out = pick (leb 24 (length out)) (ran 24 (wordsPut out 0 (comparisonSaid (comparisonOf new signed) (length new)))) (ran 0 out)
+
+-- calls as a recording, and a recording's calls: the answer in one number, and the lent memory after it
+unfoldable pub recordRan : List ℕ → List ℕ → Ran
+recordRan calls out = ran (writtenWord (recordingWritten calls out .answer)) (recordingWritten calls out .memory)
+
+unfoldable pub recordedRan : List ℕ → List ℕ → Ran
+recordedRan recording out = ran (writtenWord (recordingRead recording out .answer)) (recordingRead recording out .memory)

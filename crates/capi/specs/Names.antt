@@ -9,6 +9,7 @@ pub use Rattle.audit.specs.declared.Verdict.{Verdict}
 unfoldable pub use Rattle.builder.specs.Build.{buildOf}
 pub use Rattle.builder.specs.Build.{builtNumber, builtValue}
 pub use Rattle.builder.specs.declared.Built.{Built}
+unfoldable pub use Rattle.crc.specs.Crc.{crc32}
 pub use Rattle.memory.specs.Memory.{Lent, fetchedIn, lent}
 unfoldable pub use Rattle.memory.specs.Memory.{placeIn}
 pub use Rattle.memory.specs.declared.Place.{Place}
@@ -20,6 +21,10 @@ unfoldable pub use Rattle.parting.specs.Parting.{comparisonOf}
 pub use Rattle.parting.specs.declared.Comparison.{Comparison}
 pub use Rattle.parting.specs.declared.Owner.{Owner}
 pub use Rattle.prices.specs.declared.Prices.{Prices}
+unfoldable pub use Rattle.recording.specs.Reading.{recordingRead}
+unfoldable pub use Rattle.recording.specs.Writing.{recordingWritten}
+pub use Rattle.recording.specs.Writing.{writtenNumber, writtenValue}
+pub use Rattle.recording.specs.declared.Written.{Written}
 pub use Rattle.run.specs.Answers.{cutPlace, placeCode}
 pub use Rattle.run.specs.Run.{Ran, ran}
 unfoldable pub use Rattle.run.specs.Run.{runWith}

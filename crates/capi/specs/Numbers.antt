@@ -1,6 +1,7 @@
 -- What the byte boundary answers in one number, or in six words.
 use Rattle.capi.specs.Names.{ℕ, _+_, _*_, _%_, _^_, List, _∷_, _++_, wide, Place, placeCode, Built, builtNumber, builtValue, Verdict, verdictNumber, verdictValue}
 use Rattle.capi.specs.Names.{Inventory, inventoryNumber, inventoryValue, Owner, ownerNumber, Comparison, comparisonNumber, comparisonOwner, comparisonStart, comparisonWords}
+use Rattle.capi.specs.Names.{Written, writtenNumber, writtenValue}
 
 -- where four bytes lie and the word they are: memory * 2^60 + offset * 2^32 + word; 0 of no bytes, whose word is 0
 abbrev pub placeNumber : Place → ℕ → ℕ
@@ -51,6 +52,18 @@ cutInventory Inventory.BadMemory = Inventory.BadMemory
 cutInventory (Inventory.Outside at) = Inventory.Outside at
 cutInventory (Inventory.Unequal at) = Inventory.Unequal at
 cutInventory (Inventory.TooShort n) = Inventory.TooShort (n % 2 ^ 32)
+
+-- the bytes of a recording or of its calls, or a refusal
+abbrev pub writtenWord : Written → ℕ
+writtenWord (Written.Length n) = n
+writtenWord (Written.Bad i) = refused (writtenNumber (Written.Bad i)) (writtenValue (Written.Bad i))
+writtenWord (Written.TooShort n) = refused (writtenNumber (Written.TooShort n)) (writtenValue (Written.TooShort n))
+
+-- the index or the bytes needed in the bits that there are for it
+abbrev pub cutWritten : Written → Written
+cutWritten (Written.Length n) = Written.Length n
+cutWritten (Written.Bad i) = Written.Bad (i % 2 ^ 32)
+cutWritten (Written.TooShort n) = Written.TooShort (n % 2 ^ 32)
 
 -- a refusal's number or 0, whose the part is, its offset there, and the words that differ
 abbrev pub partingWords : ℕ → Owner → ℕ → ℕ → List ℕ

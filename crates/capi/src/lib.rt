@@ -1,10 +1,10 @@
-// The byte boundary: the builder, images from elsewhere, two images compared, sessions and the fetch for callers that speak C, over numbers and bytes alone.
+// The byte boundary: the builder, images from elsewhere, two images compared, sessions, recordings and the fetch for callers that speak C, over numbers and bytes alone.
 mod numbers;
 
 use page::PhysicalAddress;
 use session::Bench;
-ghost use Rattle.capi.specs.Names.{_≡_, megabytes, lent, pricesOf, ran, checkOf};
-ghost use Rattle.capi.specs.Boundary.{runOf, fromOf, fetchOf, buildRan, listRan, partRan};
+ghost use Rattle.capi.specs.Names.{_≡_, megabytes, lent, pricesOf, ran, checkOf, crc32};
+ghost use Rattle.capi.specs.Boundary.{runOf, fromOf, fetchOf, buildRan, listRan, partRan, recordRan, recordedRan};
 ghost use Rattle.capi.specs.Numbers.{verdictWord};
 
 // Builds the tables of a list in a memory.
@@ -138,4 +138,28 @@ pub extern "C" fn nx_fetch<'a>(
     let c = PhysicalAddress(extbase);
     let part = memory::fetch(on, b, ext, c, at);
     numbers::place_number(memory::locate(on, b, ext, c, at), wire::word_of(part))
+}
+
+// Writes calls as a recording.
+#[no_mangle]
+pub extern "C" fn nx_record(calls: &[u8], out: &mut [u8]) -> u64
+    ensures { λ r. ⌜ ran r (now (out .exit)) ≡ recordRan (now (calls .entry)) (now (out .entry)) ⌝ }
+{
+    numbers::written_number(recording::write(calls, out))
+}
+
+// Reads the calls of a recording.
+#[no_mangle]
+pub extern "C" fn nx_recorded(recording: &[u8], out: &mut [u8]) -> u64
+    ensures { λ r. ⌜ ran r (now (out .exit)) ≡ recordedRan (now (recording .entry)) (now (out .entry)) ⌝ }
+{
+    numbers::written_number(recording::read(recording, out))
+}
+
+// The CRC-32 of bytes.
+#[no_mangle]
+pub extern "C" fn nx_crc(bytes: &[u8]) -> u64
+    ensures { λ r. ⌜ r ≡ crc32 (now (bytes .entry)) ⌝ }
+{
+    crc::crc32(bytes) as u64
 }

@@ -1,4 +1,4 @@
-// What the byte boundary answers in one number: a build's answer, the verdict on an image, a list's answer, a place with its word; and a comparison, in six words.
+// What the byte boundary answers in one number: a build's answer, the verdict on an image, a list's answer, a recording's, a place with its word; and a comparison, in six words.
 use audit::Inventory;
 use audit::Verdict;
 use builder::Built;
@@ -6,12 +6,13 @@ use memory::Place;
 use page::PhysicalAddress;
 use parting::Comparison;
 use parting::Owner;
+use recording::Written;
 ghost use Rattle.capi.specs.Names.{_≡_, _%_, _^_, _≤_, cutPlace, ownerNumber};
-ghost use Rattle.capi.specs.Numbers.{refused, placeNumber, builtWord, cutBuilt, verdictWord, inventoryWord, cutInventory, partingWords, comparisonSaid};
+ghost use Rattle.capi.specs.Numbers.{refused, placeNumber, builtWord, cutBuilt, verdictWord, inventoryWord, cutInventory, partingWords, comparisonSaid, writtenWord, cutWritten};
 
 // A refusal with an index or a count, in one number.
 fn refusal(number: u64, i: usize) -> u64
-    requires { ⌜ number ≤ 12 ⌝ }
+    requires { ⌜ number ≤ 16 ⌝ }
     ensures { λ r. ⌜ r ≡ refused number (i % 2 ^ 32) ⌝ }
 {
     9223372036854775808 + number * 4294967296 + (i % 4294967296) as u64
@@ -60,6 +61,17 @@ pub(crate) fn inventory_number(a: Inventory) -> u64
         Inventory::Outside(at) => refusal_at(17, at),
         Inventory::Unequal(at) => refusal_at(18, at),
         Inventory::TooShort(n) => refusal(12, n),
+    }
+}
+
+// The answer of a recording written or read, in one number.
+pub(crate) fn written_number(w: Written) -> u64
+    ensures { λ r. ⌜ r ≡ writtenWord (cutWritten w) ⌝ }
+{
+    match w {
+        Written::Length(n) => n as u64,
+        Written::Bad(i) => refusal(16, i),
+        Written::TooShort(n) => refusal(12, n),
     }
 }
 

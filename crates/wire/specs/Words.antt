@@ -52,6 +52,10 @@ highAt l at = wordAt l at / 65536
 unfoldable pub pasted : List ℕ → ℕ → List ℕ → List ℕ
 pasted l at s = (take at l ++ s) ++ drop (at + length s) l
 
+-- the same where there is room for them, nothing where there is not
+unfoldable pub bytesPut : List ℕ → ℕ → List ℕ → List ℕ
+bytesPut l at s = pick (leb (at + length s) (length l)) (pasted l at s) l
+
 -- a list of bytes
 abbrev pub Bytes : List ℕ → Type 0
 Bytes l = (i : ℕ) → getD l i 0 < 256

@@ -1,6 +1,6 @@
 // Numbers as little-endian bytes: words put into a buffer and read from one.
 ghost use Rattle.wire.specs.Names.{_≡_, ℕ, [], _∷_, _+_, _*_, _≤_, leb, length, getD};
-ghost use Rattle.wire.specs.Words.{littleEndian, wordOf, placed, wordsPut, halves, swapped, wordAt, lowAt, highAt};
+ghost use Rattle.wire.specs.Words.{littleEndian, wordOf, placed, wordsPut, pasted, bytesPut, halves, swapped, wordAt, lowAt, highAt};
 ghost use Rattle.wire.specs.Signed.{twos};
 ghost use Rattle.wire.specs.Spliced.{spliced, runPut};
 
@@ -76,6 +76,32 @@ pub fn put(out: &mut [u8], at: usize, words: &[u32])
     if room(out.len(), at, words.len()) {
         put_all(out, at, words);
     }
+}
+
+// Bytes that have room, from an offset on.
+fn copy(out: &mut [u8], at: usize, s: &[u8])
+    requires { ⌜ at + length (now s) ≤ length (now out) ⌝ }
+    ensures { λ _. ⌜ now (out .exit) ≡ pasted (now (out .entry)) at (now (s .entry)) ⌝ }
+{
+    let n = s.len();
+    let mut i: usize = 0;
+    while i < n {
+        out[at + i] = s[i];
+        i += 1;
+    }
+}
+
+// Bytes from an offset on, where they have room.
+pub fn put_bytes(out: &mut [u8], at: usize, s: &[u8])
+    ensures { λ _. ⌜ now (out .exit) ≡ bytesPut (now (out .entry)) at (now (s .entry)) ⌝ }
+{
+    if at > out.len() {
+        return;
+    }
+    if out.len() - at < s.len() {
+        return;
+    }
+    copy(out, at, s);
 }
 
 // A word that has room a number of times over, from an offset on.

@@ -1,17 +1,20 @@
 //! Speed of the proved implementation against the second program, through the
 //! byte boundary, in one process: nx_run on sessions of each sort of call,
 //! nx_build on ten lists, nx_check and nx_list on five images, nx_part on four pairs
-//! of images. Rounds of the two are interleaved; the table has medians with their
-//! quartiles, and the median of the rounds' own ratios. Before that the two are seen
-//! to write the same bytes.
+//! of images, nx_recorded and then nx_run on two recorded sessions, nx_record and
+//! nx_recorded on 1 MiB of recording, nx_crc on a block and on 64 KiB. Rounds of the
+//! two are interleaved; the table has medians with their quartiles, and the median of
+//! the rounds' own ratios, and for recordings and checks how many bytes that is.
+//! Before that the two are seen to write the same bytes.
 //!
 //! `--cleared` clears what is written to before each round, outside its time;
 //! `--length N` gives the sessions N calls; `--rounds N` sets the rounds;
 //! `--only WORDS` keeps the rows whose names have the words.
 
-use second::boundary::{self, Lending, Program, Second, ANSWER, PARTING, STATE};
+use second::boundary::{self, Lending, Program, Second, ANSWER, CALL, PARTING, STATE};
 use second::dice::Dice;
 use second::native;
+use second::recording::{BLOCK, FULL, MOST_CALLS};
 use std::hint::black_box;
 use std::process::ExitCode;
 use std::time::Instant;
@@ -72,28 +75,80 @@ struct Sort {
     words: fn(usize) -> usize,
 }
 
+/// The two memories of a session.
+#[derive(Clone)]
+struct Memories {
+    on_chip: Vec<u8>,
+    external: Vec<u8>,
+}
+
+impl Memories {
+    fn lending(&self) -> Lending<'_> {
+        Lending {
+            on: &self.on_chip,
+            on_base: BASE,
+            external: &self.external,
+            external_base: EXTERNAL,
+            on_price: (0, 3.5, 0.0),
+            external_price: (1, 10.0, 45.0),
+        }
+    }
+}
+
 /// What is done in one round.
 enum Work {
-    Run { calls: Vec<u8>, on_chip: Vec<u8>, external: Vec<u8>, out: Vec<u8> },
-    Build { list: Vec<u8>, builds: usize, memory: Vec<u8> },
-    Check { image: Vec<u8>, checks: usize },
-    List { image: Vec<u8>, lists: usize, out: Vec<u8> },
-    Part { new: Vec<u8>, signed: Vec<u8>, parts: usize, out: [u8; PARTING] },
+    Run {
+        calls: Vec<u8>,
+        memories: Memories,
+        out: Vec<u8>,
+    },
+    Build {
+        list: Vec<u8>,
+        builds: usize,
+        memory: Vec<u8>,
+    },
+    Check {
+        image: Vec<u8>,
+        checks: usize,
+    },
+    List {
+        image: Vec<u8>,
+        lists: usize,
+        out: Vec<u8>,
+    },
+    Part {
+        new: Vec<u8>,
+        signed: Vec<u8>,
+        parts: usize,
+        out: [u8; PARTING],
+    },
+    /// So many calls are written first, and behind them what they answer.
+    Replay {
+        recording: Vec<u8>,
+        calls: usize,
+        memories: Memories,
+        out: Vec<u8>,
+    },
+    Record {
+        calls: Vec<u8>,
+        out: Vec<u8>,
+    },
+    Recorded {
+        recording: Vec<u8>,
+        out: Vec<u8>,
+    },
+    Crc {
+        bytes: Vec<u8>,
+        crcs: usize,
+        says: u64,
+    },
 }
 
 impl Work {
     fn go(&mut self, program: &dyn Program) {
         match self {
-            Work::Run { calls, on_chip, external, out } => {
-                let lending = Lending {
-                    on: on_chip,
-                    on_base: BASE,
-                    external,
-                    external_base: EXTERNAL,
-                    on_price: (0, 3.5, 0.0),
-                    external_price: (1, 10.0, 45.0),
-                };
-                let written = program.run(&lending, black_box(calls), out);
+            Work::Run { calls, memories, out } => {
+                let written = program.run(&memories.lending(), black_box(calls), out);
                 assert_eq!(written as usize, out.len());
                 black_box(out);
             }
@@ -123,6 +178,29 @@ impl Work {
                     black_box(&mut *out);
                 }
             }
+            Work::Replay { recording, calls, memories, out } => {
+                let (calls, out) = out.split_at_mut(*calls * CALL);
+                let length = program.recorded(black_box(recording), calls);
+                assert_eq!(length as usize, calls.len());
+                let written = program.run(&memories.lending(), black_box(calls), out);
+                assert_eq!(written as usize, out.len());
+                black_box(out);
+            }
+            Work::Record { calls, out } => {
+                let length = program.record(black_box(calls), out);
+                assert_eq!(length as usize, out.len());
+                black_box(out);
+            }
+            Work::Recorded { recording, out } => {
+                let length = program.recorded(black_box(recording), out);
+                assert_eq!(length as usize, out.len());
+                black_box(out);
+            }
+            Work::Crc { bytes, crcs, says } => {
+                for _ in 0..*crcs {
+                    assert_eq!(program.crc(black_box(bytes)), *says);
+                }
+            }
         }
     }
 
@@ -133,6 +211,10 @@ impl Work {
             Work::Check { .. } => &mut [],
             Work::List { out, .. } => out,
             Work::Part { out, .. } => out,
+            Work::Replay { out, .. } => out,
+            Work::Record { out, .. } => out,
+            Work::Recorded { out, .. } => out,
+            Work::Crc { .. } => &mut [],
         }
     }
 }
@@ -142,7 +224,19 @@ struct Bench {
     /// What one work unit is, and how many there are in one round.
     unit: &'static str,
     units: usize,
+    /// How many bytes they are, where that is told.
+    bytes: Option<usize>,
     work: Work,
+}
+
+impl Bench {
+    fn new(name: String, unit: &'static str, units: usize, work: Work) -> Bench {
+        Bench { name, unit, units, bytes: None, work }
+    }
+
+    fn of_bytes(self, bytes: usize) -> Bench {
+        Bench { bytes: Some(bytes), ..self }
+    }
 }
 
 /// The lists that are built, with how many builds make a round.
@@ -361,21 +455,48 @@ fn sorts() -> Vec<Sort> {
     ]
 }
 
+/// The calls of a session.
+fn session(sort: &Sort, length: usize) -> Vec<u8> {
+    let mut dice = Dice::new(0xBE9C);
+    let mut calls = sort.first.concat();
+    for n in 0..length {
+        calls.extend((sort.each)(n, &mut dice));
+    }
+    calls
+}
+
+/// So many calls of every kind, most of them requests.
+fn calls_of_every_kind(count: usize) -> Vec<u8> {
+    let mut dice = Dice::new(0xBE9D);
+    let one = |n: usize| match n % 8 {
+        1 => write(0x2C, dice.below(1 << 16) as u16),
+        3 => read(0x14),
+        5 => call(boundary::DROP, 0, 0, 0),
+        7 => call(boundary::SHIFT, 0, dice.below(1 << 24), 0),
+        _ => request(dice.below(1 << 24)),
+    };
+    (0..count).flat_map(one).collect()
+}
+
+/// The recording of these calls.
+fn recording(calls: &[u8]) -> Vec<u8> {
+    let mut out = vec![0; (calls.len() / CALL).div_ceil(FULL) * BLOCK];
+    let length = boundary::record(calls, &mut out);
+    assert_eq!(length as usize, out.len());
+    out
+}
+
 fn benches(length_of_session: usize) -> Vec<Bench> {
     let mut benches = Vec::new();
 
     // Small pages; the image is in the on-chip memory.
     let list: Vec<u8> = (0..64).flat_map(|n| record(page(n), 0x4000_0000 + (n << 12), 2)).collect();
-    let on_chip = image(&list);
+    let memories = Memories { on_chip: image(&list), external: vec![0; 4_096] };
     for sort in sorts() {
-        let mut dice = Dice::new(0xBE9C);
-        let mut calls = sort.first.concat();
-        for n in 0..length_of_session {
-            calls.extend((sort.each)(n, &mut dice));
-        }
-        let units = calls.len() / boundary::CALL;
+        let calls = session(&sort, length_of_session);
+        let units = calls.len() / CALL;
         let out = vec![0; units * ANSWER + STATE];
-        let mut work = Work::Run { calls, on_chip: on_chip.clone(), external: vec![0; 4_096], out };
+        let mut work = Work::Run { calls, memories: memories.clone(), out };
         work.go(&Second);
         let (answers, state) = work.written().split_at(units * ANSWER);
         let said = answers.chunks(ANSWER).skip(sort.first.len());
@@ -384,26 +505,21 @@ fn benches(length_of_session: usize) -> Vec<Bench> {
         }
         let words = (sort.words)(length_of_session) as u32;
         assert_eq!(state[boundary::METERS_AT + 8..][..4], words.to_le_bytes(), "{}", sort.name);
-        let name = format!("run: {}", sort.name);
-        benches.push(Bench { name, unit: "call", units, work });
+        benches.push(Bench::new(format!("run: {}", sort.name), "call", units, work));
     }
 
     for (name, builds, list) in lists() {
-        benches.push(Bench {
-            name: format!("build: {name}"),
-            unit: "build",
-            units: builds,
-            work: Work::Build { list, builds, memory: vec![0xA5; 65_536] },
-        });
+        let work = Work::Build { list, builds, memory: vec![0xA5; 65_536] };
+        benches.push(Bench::new(format!("build: {name}"), "build", builds, work));
     }
 
     for (name, _, checks, image) in images() {
-        let (name, work) = (format!("check: {name}"), Work::Check { image, checks });
-        benches.push(Bench { name, unit: "check", units: checks, work });
+        let work = Work::Check { image, checks };
+        benches.push(Bench::new(format!("check: {name}"), "check", checks, work));
     }
     for (name, pages, lists, image) in images() {
         let work = Work::List { image, lists, out: vec![0; 12 * pages] };
-        benches.push(Bench { name: format!("list: {name}"), unit: "list", units: lists, work });
+        benches.push(Bench::new(format!("list: {name}"), "list", lists, work));
     }
 
     for (name, parts, signed, others) in pairs() {
@@ -417,7 +533,54 @@ fn benches(length_of_session: usize) -> Vec<Bench> {
         let mut work = Work::Part { new, signed, parts, out: [0; PARTING] };
         work.go(&Second);
         assert_eq!(work.written(), said.concat(), "{name}");
-        benches.push(Bench { name: format!("part: {name}"), unit: "part", units: parts, work });
+        benches.push(Bench::new(format!("part: {name}"), "part", parts, work));
+    }
+
+    benches.extend(recordings(length_of_session, &memories));
+    benches
+}
+
+/// What is done with recordings, and with their checks.
+fn recordings(length_of_session: usize, memories: &Memories) -> Vec<Bench> {
+    let mut benches = Vec::new();
+
+    // The two sessions of P13, where they are no longer than a recording may be.
+    for name in ["hits", "misses"] {
+        let sort = sorts().into_iter().find(|sort| sort.name.starts_with(name)).expect("a session");
+        let calls = session(&sort, length_of_session);
+        let units = calls.len() / CALL;
+        if units > MOST_CALLS {
+            continue;
+        }
+        let mut answers = vec![0; units * ANSWER + STATE];
+        boundary::run(&memories.lending(), &calls, &mut answers);
+        let mut work = Work::Replay {
+            recording: recording(&calls),
+            calls: units,
+            memories: memories.clone(),
+            out: vec![0; calls.len() + answers.len()],
+        };
+        work.go(&Second);
+        assert!(work.written() == [calls, answers].concat(), "{name}");
+        benches.push(Bench::new(format!("recorded and replayed: {name}"), "call", units, work));
+    }
+
+    const MEBIBYTE: usize = 1 << 20;
+    let units = MEBIBYTE / BLOCK * FULL;
+    let calls = calls_of_every_kind(units);
+    let recording = recording(&calls);
+    let bytes = recording[..65_536].to_vec();
+    let work = Work::Record { calls, out: vec![0; MEBIBYTE] };
+    benches.push(Bench::new("record: 1 MiB".into(), "call", units, work).of_bytes(MEBIBYTE));
+    let work = Work::Recorded { recording, out: vec![0; units * CALL] };
+    benches.push(Bench::new("recorded: 1 MiB".into(), "call", units, work).of_bytes(MEBIBYTE));
+    for (name, unit, units, length, crcs) in
+        [("508 bytes", "crc", 1_000, 508, 1_000), ("64 KiB", "KiB", 20 * 64, 65_536, 20)]
+    {
+        let bytes = bytes[..length].to_vec();
+        let work = Work::Crc { says: boundary::crc(&bytes), bytes, crcs };
+        let bench = Bench::new(format!("crc: {name}"), unit, units, work);
+        benches.push(bench.of_bytes(crcs * length));
     }
     benches
 }
@@ -450,6 +613,17 @@ fn quartiles(mut figures: Vec<f64>) -> [f64; 3] {
 
 fn cell([low, median, high]: [f64; 3]) -> String {
     format!("{median:>9.1} ({low:.1} to {high:.1})")
+}
+
+/// Millions of bytes in a second, of each program whose median this is; nothing where bytes
+/// are not told.
+fn speeds(bench: &Bench, medians: &[f64]) -> String {
+    let Some(bytes) = bench.bytes else {
+        return String::new();
+    };
+    let speed =
+        |median: &f64| format!("{:.0}", 1_000.0 * bytes as f64 / (median * bench.units as f64));
+    medians.iter().map(speed).collect::<Vec<_>>().join(" and ")
 }
 
 /// What the command line asks for.
@@ -494,8 +668,8 @@ fn main() -> ExitCode {
     println!("Sessions of {length} calls; buffers are the same in every round and {whether}.");
     println!();
     println!(
-        "{:<32} {:<6} {:>28} {:>28} {:>20}",
-        "what", "unit", "native", "second", "native / second"
+        "{:<32} {:<6} {:>28} {:>28} {:>20} {:>14}",
+        "what", "unit", "native", "second", "native / second", "MB a second"
     );
     for mut bench in benches(length).into_iter().filter(|bench| bench.name.contains(&only)) {
         if let Some(native) = &native {
@@ -519,15 +693,19 @@ fn main() -> ExitCode {
             one(1 - n % 2);
         }
         let [natives, seconds] = times;
-        let second = cell(quartiles(seconds.clone()));
-        let (native, ratio) = if natives.is_empty() {
-            ("not linked".into(), "".into())
+        let own = quartiles(seconds.clone());
+        let (native, ratio, medians) = if natives.is_empty() {
+            ("not linked".into(), "".into(), vec![own[1]])
         } else {
             let ratios = natives.iter().zip(&seconds).map(|(native, second)| native / second);
             let [low, median, high] = quartiles(ratios.collect());
-            (cell(quartiles(natives)), format!("{median:.2} ({low:.2} to {high:.2})"))
+            let native = quartiles(natives);
+            let ratio = format!("{median:.2} ({low:.2} to {high:.2})");
+            (cell(native), ratio, vec![native[1], own[1]])
         };
-        println!("{:<32} {:<6} {native:>28} {second:>28} {ratio:>20}", bench.name, bench.unit);
+        let (second, speeds) = (cell(own), speeds(&bench, &medians));
+        let Bench { name, unit, .. } = bench;
+        println!("{name:<32} {unit:<6} {native:>28} {second:>28} {ratio:>20} {speeds:>14}");
     }
     if native.is_some() || std::env::var_os("NX_WITHOUT_NATIVE").is_some_and(|set| set == "1") {
         ExitCode::SUCCESS

@@ -13,7 +13,9 @@ pub mod nx;
 pub mod partings;
 pub mod places;
 pub mod plain;
+pub mod recordings;
 pub mod rows;
+pub mod spoiled;
 pub mod states;
 pub mod told;
 pub mod turned;
@@ -159,7 +161,8 @@ pub fn answer(bytes: &[u8], index: usize) -> (u32, i64) {
     (word(bytes, at), double(bytes, at + 8) as i64)
 }
 
-/// A refusal of build, check or list: its number, and the index, count or address with it.
+/// A refusal of build, check, list, record or recorded: its number, and the index, count or
+/// address with it.
 pub const fn refused(number: u64, at: u64) -> u64 {
     1 << 63 | number << 32 | at
 }

@@ -1,0 +1,3 @@
+pub mod Names
+pub mod Crc
+pub mod Statements

@@ -1,0 +1,75 @@
+-- The first call that is not as said. Assumes nothing.
+use Rattle.recording.specs.Names.{_≡_, List, Bool, true, false, ℕ, zero, suc, _+_, _-_, _*_, _/_, _%_, _<_, _≤_, length, min, take, drop, isGood, callAt}
+use Rattle.recording.specs.Blocks.{mostCalls}
+use Rattle.recording.specs.Writing.{recordsIn, badCall}
+use Rattle.recording.proofs.Names.{refl, sym, _∙_, ap, arith, subst, pick-yes, pick-no, pick-by, lt-leb, firstBad}
+use Rattle.calls.specs.declared.Call.{Call}
+use Rattle.calls.specs.Records.{callOf}
+use mathlib.Core.Bool.{false≢true}
+use native.Mathlib.Decide.{decLe}
+
+-- record i, then those behind it
+pub first-on : (l : List ℕ) (n i : ℕ) → i < n → isGood (callAt l (12 * i)) ≡ true → firstBad l i (n - i) ≡ firstBad l (i + 1) (n - (i + 1))
+unfolding firstBad
+first-on l n i h g = ap (firstBad l i) (let e : n - i ≡ suc (n - (i + 1)) = omega arith in e) ∙ pick-yes _ _ _ g
+
+pub first-here : (l : List ℕ) (n i : ℕ) → i < n → isGood (callAt l (12 * i)) ≡ false → firstBad l i (n - i) ≡ i
+unfolding firstBad
+first-here l n i h g = ap (firstBad l i) (let e : n - i ≡ suc (n - (i + 1)) = omega arith in e) ∙ pick-no _ _ _ g
+
+pub first-none : (l : List ℕ) (n i : ℕ) → i ≤ n → n ≤ i → firstBad l i (n - i) ≡ i
+unfolding firstBad
+first-none l n i a h = ap (firstBad l i) (let e : n - i ≡ 0 = omega arith in e)
+
+pub first-start : (l : List ℕ) (n : ℕ) → firstBad l 0 n ≡ firstBad l 0 (n - 0)
+first-start l n = ap (firstBad l 0) (let e : n ≡ n - 0 = omega arith in e)
+
+-- it is none behind those looked at, and before it all are as said
+pub first-le : (l : List ℕ) (i n : ℕ) → firstBad l i n ≤ i + n
+unfolding firstBad
+first-le l i zero = omega arith
+first-le l i (suc n) = pick-by (λ (x : ℕ). x ≤ i + suc n) _ _ _ (λ _. omega (arith, first-le l (i + 1) n)) (λ _. omega arith)
+
+first-ge : (l : List ℕ) (i n : ℕ) → i ≤ firstBad l i n
+unfolding firstBad
+first-ge l i zero = omega arith
+first-ge l i (suc n) = pick-by (λ (x : ℕ). i ≤ x) _ _ _ (λ _. omega (arith, first-ge l (i + 1) n)) (λ _. omega arith)
+
+pub first-good : (l : List ℕ) (i n j : ℕ) → i ≤ j → j < firstBad l i n → isGood (callAt l (12 * j)) ≡ true
+unfolding firstBad
+first-good l i zero j a h = absurd (let f : ⊥ = omega arith in f)
+first-good l i (suc n) j a h =
+    by-test (first-good l (i + 1) n j) (isGood (callAt l (12 * i))) refl (decLe (i + 1) j)
+  where
+    by-test : (i + 1 ≤ j → j < firstBad l (i + 1) n → isGood (callAt l (12 * j)) ≡ true) → (t : Bool) → isGood (callAt l (12 * i)) ≡ t → Dec (i + 1 ≤ j)
+        → isGood (callAt l (12 * j)) ≡ true
+    by-test on true e (yes g) = on g (subst (λ (x : ℕ). j < x) (pick-yes _ _ _ e) h)
+    by-test on true e (no g) = ap (λ (x : ℕ). isGood (callAt l (12 * x))) (let z : j ≡ i = omega arith in z) ∙ e
+    by-test on false e d = absurd (let f : ⊥ = omega (arith, subst (λ (x : ℕ). j < x) (pick-no _ _ _ e) h) in f)
+
+-- a short record is not as said
+short-bad : (l : List ℕ) (at : ℕ) → length l < at + 12 → isGood (callAt l at) ≡ false
+unfolding callAt
+short-bad l at h = ap isGood (pick-no _ _ _ (lt-leb _ _ h))
+
+-- calls that are accepted: whole records, no more than the most, each as said
+pub record Accepted (l : List ℕ) : Type 0 where
+  pub whole : length l % 12 ≡ 0
+  pub few : recordsIn l ≤ mostCalls
+  pub each : (j : ℕ) → j < recordsIn l → isGood (callAt l (12 * j)) ≡ true
+
+pub accepted-by : (l : List ℕ) → recordsIn l ≤ badCall l → Accepted l
+accepted-by l h = record { whole = whole; few = few; each = each }
+  where
+    few : recordsIn l ≤ mostCalls
+    few = omega (arith, first-le l 0 (min (recordsIn l) mostCalls))
+
+    each : (j : ℕ) → j < recordsIn l → isGood (callAt l (12 * j)) ≡ true
+    each j g = first-good l 0 (min (recordsIn l) mostCalls) j (omega arith) (omega arith)
+
+    whole : length l % 12 ≡ 0
+    whole = elim (decLe 1 (length l % 12)) [
+      | no g ↦ omega arith
+      | yes g ↦
+          absurd (false≢true (sym (short-bad l (12 * (recordsIn l - 1)) (omega arith)) ∙ each (recordsIn l - 1) (omega arith)))
+    ]

@@ -1,0 +1,13 @@
+pub mod Names
+pub mod Pieces
+pub mod Joins
+pub mod Puts
+pub mod Judged
+pub mod Zeros
+pub mod Passed
+pub mod Hears
+pub mod Firsts
+pub mod Turns
+pub mod Runs
+pub mod Writes
+pub mod Values

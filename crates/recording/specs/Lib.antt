@@ -1,0 +1,4 @@
+pub mod Names
+pub mod Blocks
+pub mod Writing
+pub mod Reading
