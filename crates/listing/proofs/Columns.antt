@@ -8,8 +8,7 @@ use Rattle.records.specs.Mappings.{noMapping}
 use Rattle.listing.specs.Prints.{accessColumn, Printing, printing}
 use Rattle.wire.specs.Words.{Shown}
 use Rattle.listing.specs.Theorems.{PrintedWithin}
-use Rattle.listing.proofs.Pastes.{followed}
-use Rattle.wire.proofs.Pastes.{pasted-none}
+use Rattle.wire.proofs.Pastes.{pasted-followed, pasted-none}
 
 pub kind-length : (k : Kind) → length (kindColumn k) ≡ 8
 kind-length Kind.Section = refl
@@ -64,7 +63,7 @@ pub shown-then : (l m n : List ℕ) (at k r : ℕ) (s t : List ℕ) → k ≡ at
 shown-then l m n at k r s t e h p q =
     ap₂ shown
     (shown-count _ _ _ _ q ∙ (let z : k + length t ≡ at + length (s ++ t) = omega (arith, length-append s t) in z))
-    (followed l m n at k s t e h p (shown-memory _ _ _ _ q))
+    (pasted-followed l m n at k s t e h p (shown-memory _ _ _ _ q))
 
 -- a line, column by column
 pub line-made : (o o1 o2 o3 o4 v p : List ℕ) (at r : ℕ) (m : Mapping) → at + 27 ≤ length o
@@ -82,8 +81,8 @@ line-made o o1 o2 o3 o4 v p at r m h a ve b pe d f =
     let kv = length-append K W in
     let kvp = length-append (K ++ W) P in
     let two : o2 ≡ pasted o at (K ++ W) =
-    followed o o1 o2 at (at + 8) K W (omega arith) (omega arith) a (b ∙ ap (pasted o1 (at + 8)) (ap (λ (x : List ℕ). take 7 (drop 2 x)) ve ∙ six-of-eight (m .at .0))) in
-    let three : o3 ≡ pasted o at ((K ++ W) ++ P) = followed o o2 o3 at (at + 15) (K ++ W) P (omega arith) (omega arith) two (d ∙ ap (pasted o2 (at + 15)) pe) in
+    pasted-followed o o1 o2 at (at + 8) K W (omega arith) (omega arith) a (b ∙ ap (pasted o1 (at + 8)) (ap (λ (x : List ℕ). take 7 (drop 2 x)) ve ∙ six-of-eight (m .at .0))) in
+    let three : o3 ≡ pasted o at ((K ++ W) ++ P) = pasted-followed o o2 o3 at (at + 15) (K ++ W) P (omega arith) (omega arith) two (d ∙ ap (pasted o2 (at + 15)) pe) in
     shown-then o o3 o4 at (at + 24) r ((K ++ W) ++ P) A (omega arith) (omega arith) three f
     ∙ ap (shownAt o at) (append-assoc (K ++ W) P A ∙ append-assoc K W (P ++ A))
 

@@ -2,7 +2,6 @@ pub mod Names
 pub mod Digits
 pub mod Runs
 pub mod Says
-pub mod Pastes
 pub mod Turns
 pub mod Columns
 pub mod Comments

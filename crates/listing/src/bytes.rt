@@ -10,12 +10,7 @@ pub(crate) fn put(out: &mut [u8], at: usize, s: &[u8])
     requires { ⌜ at + length (now s) ≤ length (now out) ⌝ }
     ensures { λ _. ⌜ now (out .exit) ≡ pasted (now (out .entry)) at (now (s .entry)) ⌝ }
 {
-    let n = s.len();
-    let mut i = 0;
-    while i < n {
-        out[at + i] = s[i];
-        i += 1;
-    }
+    wire::put_bytes(out, at, s);
 }
 
 // The paper's number of a kind.

@@ -88,14 +88,6 @@ fewest-twenty n k f h = elim (decLe k 20) [
 pub pasted-taken : (l : List ℕ) (at : ℕ) (t s : List ℕ) (r : ℕ) (o : List ℕ) → t ≡ s → shown r o ≡ shown (at + length t) (pasted l at t) → shown r o ≡ shown (at + length s) (pasted l at s)
 pasted-taken l at t s r o e h = h ∙ ap (λ (x : List ℕ). shown (at + length x) (pasted l at x)) e
 
--- a copy of all of a text
-pub copied : (l o s : List ℕ) (at i : ℕ) → i ≡ length s → o ≡ paste l at s i → o ≡ pasted l at s
-unfolding pasted
-copied l o s at i e h =
-    h
-    ∙ ap (λ (k : ℕ). paste l at s k) e
-    ∙ ap (λ (t : List ℕ). (take at l ++ t) ++ drop (at + length s) l) (take-length s)
-
 -- the answer of a build and what it left, as what is shown
 module _ (rs l : List ℕ) (room : 64 ≤ length l) where
   shown-by : (b : Built) → b ≡ answerOf rs base (length l) → shownIn (outputBytes b (image megabytes (mappings rs) base)) l ≡ outputOf rs l

@@ -13,13 +13,8 @@ fn put(out: &mut [u8], at: usize, s: &[u8]) -> usize
     requires { ⌜ at + length (now s) ≤ length (now out) ⌝ }
     ensures { λ r. ⌜ shown r (now (out .exit)) ≡ shown (at + length (now (s .entry))) (pasted (now (out .entry)) at (now (s .entry))) ⌝ }
 {
-    let n = s.len();
-    let mut i = 0;
-    while i < n {
-        out[at + i] = s[i];
-        i += 1;
-    }
-    at + n
+    wire::put_bytes(out, at, s);
+    at + s.len()
 }
 
 // A number's decimal digits, into a memory from an index on; the index behind them.
