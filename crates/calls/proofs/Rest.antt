@@ -1,6 +1,6 @@
 -- The calls that are left from record i on. Assumes nothing.
-use Rattle.calls.specs.Names.{_≡_, true, false, List, [], _∷_, ℕ, zero, suc, _+_, _*_, _≤_}
-use Rattle.calls.proofs.Names.{_∙_, ap, _-_, _<_, arith, and-yes, and-no, and-right, callAt, callsFrom, isGood, goodCalls, allGood}
+use Rattle.calls.specs.Names.{_≡_, true, false, List, [], _∷_, ℕ, zero, suc, _+_, _*_, _%_, _≤_, length}
+use Rattle.calls.proofs.Names.{refl, _∙_, ap, eq-eqb, _-_, _<_, arith, and-yes, and-no, and-right, callAt, callsFrom, isGood, goodCalls, allGood}
 use Rattle.page.proofs.Picks.{and-left}
 use Rattle.calls.specs.Records.{callSize, callCount}
 
@@ -34,3 +34,13 @@ good-from l (suc n) j (suc k) i e h g = good-from l n (j + 1) k i (omega arith) 
 pub all-good-at : (l : List ℕ) (i : ℕ) → allGood l ≡ true → i < callCount l → isGood (callAt l (callSize * i)) ≡ true
 unfolding allGood
 all-good-at l i g h = good-from l (callCount l) 0 i i (omega arith) h (and-right _ _ g)
+
+-- where each of whole records is good, all are
+good-each : (l : List ℕ) (n j : ℕ) → ((i : ℕ) → j ≤ i → i < j + n → isGood (callAt l (callSize * i)) ≡ true) → goodCalls (callsFrom l j n) ≡ true
+unfolding callsFrom
+good-each l zero j h = refl
+good-each l (suc n) j h = and-yes _ _ (h j (omega arith) (omega arith)) ∙ good-each l n (j + 1) (λ i a b. h i (omega arith) (omega arith))
+
+pub each-all-good : (l : List ℕ) → length l % callSize ≡ 0 → ((i : ℕ) → i < callCount l → isGood (callAt l (callSize * i)) ≡ true) → allGood l ≡ true
+unfolding allGood
+each-all-good l e h = and-yes _ _ (eq-eqb _ _ e) ∙ good-each l (callCount l) 0 (λ i _ b. h i (omega arith))

@@ -5,11 +5,9 @@ use Rattle.demands.specs.Demands.Names.{moneyOk, freshBill, Answer, Bill
 use Rattle.demands.proofs.Names.{refl, sym, _∙_, ap, ap₂, subst, inl, inr, arith, pick, byteOf, holder, image-length-is, accepted}
 use Rattle.demands.proofs.Names.{leaves-image, meantAs, ValuesFit, Session}
 use Prim.Native.Nat.{_+_, _-_, _/_}
-use native.Mathlib.Decide.{decLe}
 use lib.Count.{trailingZeros}
 use lib.Ieee.{ofFields, ofBits, odd, le, lt, eq}
-use lib.ListN.{getD, length-append, length-drop, length-replicate, List·getD-append}
-use lib.Seq.{getD-append-add}
+use lib.ListN.{getD, length-append, length-drop, length-replicate}
 use borrow.Author.Tests.{ltb-true}
 use Rattle.page.specs.Pick.{_and_, _or_}
 use Rattle.page.specs.Low.{upper, joined}
@@ -23,7 +21,7 @@ use Rattle.wire.specs.Spliced.{bytesBy}
 use Rattle.prices.specs.Prices.{figureOk, every}
 use Rattle.translates.specs.Statements.{Has}
 use Rattle.translates.proofs.Theorems.{built-has}
-use Rattle.wire.proofs.Reading.{bytes-drop}
+use Rattle.wire.proofs.Reading.{bytes-append, bytes-drop, word-bytes, zero-bytes}
 use Rattle.translates.proofs.Samples.{accepts-a}
 use Rattle.demands.specs.Buyer.{BuiltThenCalled, builtIn, BuiltSession, roomA, pricesA, memoryA, deviceA, callsA, byteA, Exhibited}
 use Rattle.demands.proofs.Lists.{start-is}
@@ -55,30 +53,10 @@ built-then-called rs base len before m v p b₀ cs b c va a r bytes e l =
     demand-3 rs base (length before) len m v p b₀ cs b c va a r bytes (answer-is rs base len before e) (stands rs base len before m l (answer-is rs base len before e))
 
 -- bytes
-pub bytes-append : (xs ys : List ℕ) → Bytes xs → Bytes ys → Bytes (xs ++ ys)
-bytes-append xs ys f g i = elim (decLe (length xs) i) [
-  | yes h ↦
-      let s : i ≡ length xs + (i - length xs) = omega arith in
-      subst (λ (x : ℕ). x < 256) (sym (ap (λ (k : ℕ). getD (xs ++ ys) k 0) s ∙ getD-append-add xs ys (i - length xs) 0)) (g (i - length xs))
-  | no h ↦ subst (λ (x : ℕ). x < 256) (sym (List·getD-append xs ys 0 i (omega arith))) (f i)
-]
-
-pub word-bytes : (w : ℕ) → Bytes (wordBytes w)
-word-bytes w zero = omega arith
-word-bytes w (suc zero) = omega arith
-word-bytes w (suc (suc zero)) = omega arith
-word-bytes w (suc (suc (suc zero))) = omega arith
-word-bytes w (suc (suc (suc (suc i)))) = omega arith
-
 bytes-of : (f : ℕ → ℕ) (k : ℕ) → Bytes (bytesBy f k)
 unfolding bytesBy
 bytes-of f zero = λ i. omega arith
 bytes-of f (suc k) = bytes-append (bytesBy f k) (wordBytes (f k)) (bytes-of f k) (word-bytes (f k))
-
-zero-bytes : (n : ℕ) → Bytes (replicate n 0)
-zero-bytes zero i = omega arith
-zero-bytes (suc n) zero = omega arith
-zero-bytes (suc n) (suc i) = zero-bytes n i
 
 -- a list whose every member is below 256
 abbrev below : List ℕ → Bool

@@ -37,7 +37,7 @@ use Rattle.translates.specs.Statements.{Gives}
 use Rattle.translates.proofs.Over.{first-read, first-is, says-fine, says-coarse}
 use Rattle.translates.proofs.Repeats.{image-repeated, no-table}
 use Rattle.translates.proofs.Theorems.{ImageRead, image-read}
-use Rattle.wire.proofs.Reading.{bytes-drop, bytes-take, word-lt}
+use Rattle.wire.proofs.Reading.{bytes-append, bytes-drop, bytes-take, word-bytes, word-lt}
 use Rattle.audit.specs.Check.{imageOk}
 use Rattle.audit.specs.Statements.{foundBy, NamedInside, Consistent}
 use Rattle.audit.specs.Pages.{pageMapping, wordPages, tablePages, firstPages, levelPages}
@@ -52,7 +52,7 @@ use Rattle.audit.proofs.Meaning.{pages-mean}
 use Rattle.demands.specs.Foreign.{imageAnswer, ForeignCalled, PagesAnswer, BuiltAccepted, RebuiltAlike, Foreign}
 use Rattle.demands.proofs.Auditing.{audit-refuses}
 use Rattle.demands.proofs.Lists.{list-said, as-list, refused-uniform, refused-plain}
-use Rattle.demands.proofs.Buyer.{answer-is, stands, is-lent, built-length, built-lent, bytes-append, word-bytes}
+use Rattle.demands.proofs.Buyer.{answer-is, stands, is-lent, built-length, built-lent}
 
 -- a listed page gives its byte and access
 page-gives : (h : Held) (va : VirtualAddress) → Gives h va (foundBy h)

@@ -47,6 +47,12 @@ first-good l i (suc n) j a h =
     by-test on true e (no g) = ap (λ (x : ℕ). isGood (callAt l (12 * x))) (let z : j ≡ i = omega arith in z) ∙ e
     by-test on false e d = absurd (let f : ⊥ = omega (arith, subst (λ (x : ℕ). j < x) (pick-no _ _ _ e) h) in f)
 
+pub first-all : (l : List ℕ) (i n : ℕ) → ((j : ℕ) → i ≤ j → j < i + n → isGood (callAt l (12 * j)) ≡ true) → firstBad l i n ≡ i + n
+unfolding firstBad
+first-all l i zero h = omega arith
+first-all l i (suc n) h =
+    pick-yes _ _ _ (h i (omega arith) (omega arith)) ∙ first-all l (i + 1) n (λ j a b. h j (omega arith) (omega arith)) ∙ (let e : i + 1 + n ≡ i + suc n = omega arith in e)
+
 -- a short record is not as said
 short-bad : (l : List ℕ) (at : ℕ) → length l < at + 12 → isGood (callAt l at) ≡ false
 unfolding callAt

@@ -11,3 +11,9 @@ pub mod Turns
 pub mod Runs
 pub mod Writes
 pub mod Values
+pub mod Fields
+pub mod Damage
+pub mod Streaming
+pub mod Chunks
+pub mod Back
+pub mod One

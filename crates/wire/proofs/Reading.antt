@@ -1,10 +1,10 @@
 -- Words read from their bytes. Assumes nothing.
-use Rattle.wire.specs.Names.{_≡_, _≤_, List, ℕ, zero, suc, _+_, _*_, _/_, _%_, _^_, getD, length, take, drop}
-use Rattle.wire.proofs.Names.{_<_, _∙_, sym, decLe, le-leb, pick-yes, arith, length-drop, lt-leb, pick-no, wordOf}
+use Rattle.wire.specs.Names.{_≡_, _≤_, List, _++_, ℕ, zero, suc, _+_, _-_, _*_, _/_, _%_, _^_, getD, length, take, drop}
+use Rattle.wire.proofs.Names.{_<_, _∙_, sym, ap, decLe, le-leb, pick-yes, arith, length-drop, lt-leb, pick-no, wordBytes, wordOf}
 use mathlib.Core.Path.{subst}
 use lib.Dec.{lit<}
-use lib.ListN.{length-take, List·getD-eq-default}
-use lib.Seq.{ext-getD, getD-take, getD-drop}
+use lib.ListN.{length-take, replicate, List·getD-append, List·getD-eq-default}
+use lib.Seq.{ext-getD, getD-append-add, getD-take, getD-drop}
 use Rattle.page.proofs.Picks.{pick-by}
 use Rattle.wire.specs.Words.{littleEndian, wordAt, Bytes}
 
@@ -32,6 +32,31 @@ bytes-take n l h i = elim (decLe n i) [
   | yes g ↦ subst (λ (x : ℕ). x < 256) (sym (List·getD-eq-default (take n l) 0 {n = i} (omega (arith, length-take n l)))) (lit< tt)
   | no g ↦ subst (λ (x : ℕ). x < 256) (sym (getD-take n l i 0 (omega arith))) (h i)
 ]
+
+pub bytes-append : (xs ys : List ℕ) → Bytes xs → Bytes ys → Bytes (xs ++ ys)
+bytes-append xs ys f g i = elim (decLe (length xs) i) [
+  | yes h ↦
+      let s : i ≡ length xs + (i - length xs) = omega arith in
+      subst (λ (x : ℕ). x < 256) (sym (ap (λ (k : ℕ). getD (xs ++ ys) k 0) s ∙ getD-append-add xs ys (i - length xs) 0)) (g (i - length xs))
+  | no h ↦ subst (λ (x : ℕ). x < 256) (sym (List·getD-append xs ys 0 i (omega arith))) (f i)
+]
+
+pub zero-bytes : (n : ℕ) → Bytes (replicate n 0)
+zero-bytes zero i = omega arith
+zero-bytes (suc n) zero = omega arith
+zero-bytes (suc n) (suc i) = zero-bytes n i
+
+-- the bytes of a word, and the word that they are
+pub word-bytes : (w : ℕ) → Bytes (wordBytes w)
+word-bytes w zero = omega arith
+word-bytes w (suc zero) = omega arith
+word-bytes w (suc (suc zero)) = omega arith
+word-bytes w (suc (suc (suc zero))) = omega arith
+word-bytes w (suc (suc (suc (suc i)))) = omega arith
+
+pub word-back : (w : ℕ) → w < 2 ^ 32 → wordOf (wordBytes w) ≡ w
+unfolding wordOf
+word-back w h = pick-yes _ _ _ (le-leb 4 4 (omega arith)) ∙ word-value w h
 
 pub word-lt : (l : List ℕ) → Bytes l → wordOf l < 2 ^ 32
 unfolding wordOf
