@@ -1,0 +1,4 @@
+pub mod Names
+pub mod Replay
+pub mod Blocks
+pub mod Statements
