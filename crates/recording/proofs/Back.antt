@@ -4,7 +4,8 @@ use Rattle.recording.specs.Blocks.{callRoom, fullBlock, mostBlocks, coun
 use Rattle.recording.specs.Writing.{recordsIn, badCall, callsFor, blockFor, blocksFor, recordingOf}
 use Rattle.recording.specs.Reading.{progress, blockAt, blocksIn, callsAt, callBytes, heard}
 use Rattle.recording.specs.Statements.{ReadBack, RoundTrip}
-use Rattle.recording.proofs.Names.{refl, sym, _∙_, ap, ap₂, subst, arith, length-take, length-drop, length-take-le, drop-at, drop-drop, pick-yes, le-leb, callsOf, joined, filledWith, heardFrom}
+use Rattle.recording.proofs.Names.{refl, sym, _∙_, ap, ap₂, subst, arith, length-take, length-drop, length-take-le, drop-at, drop-drop, pick-yes, le-leb}
+use Rattle.recording.proofs.Names.{callsOf, joined, filledWith, heardFrom}
 use Rattle.recording.proofs.Firsts.{Accepted, accepted-by}
 use Rattle.recording.proofs.Joins.{join-same}
 use Rattle.recording.proofs.Chunks.{cut-whole, join-at}

@@ -1,5 +1,6 @@
 -- What a block that was written says, field by field. Assumes nothing.
-use Rattle.recording.specs.Names.{_≡_, List, [], _++_, true, ℕ, _+_, _-_, _*_, _/_, _%_, _^_, _<_, _≤_, length, take, drop, replicate, Bytes, halves, wordBytes, wordAt, callCount, crc32, allGood}
+use Rattle.recording.specs.Names.{_≡_, List, [], _++_, true, ℕ, _+_, _-_, _*_, _/_, _%_, _^_, _<_, _≤_, length, take, drop, replicate}
+use Rattle.recording.specs.Names.{Bytes, halves, wordBytes, wordAt, callCount, crc32, allGood}
 use Rattle.recording.specs.Blocks.{callRoom, mostBlocks, fullBlock, blockFront, countIn, numberIn, checkIn}
 use Rattle.recording.specs.Reading.{progress}
 use Rattle.recording.proofs.Names.{refl, sym, _∙_, ap, ap₂, arith, append-assoc, take-at, drop-at, drop-drop, blockOf, callsOf, unusedOf, allZero}

@@ -17,3 +17,4 @@ pub mod Streaming
 pub mod Chunks
 pub mod Back
 pub mod One
+pub mod Example

@@ -1,10 +1,11 @@
 -- What the reader accepts is what the writer would write. Assumes nothing.
-use Rattle.recording.specs.Names.{_≡_, List, _++_, true, ℕ, zero, suc, _+_, _-_, _*_, _/_, _%_, _^_, _<_, _≤_, length, take, drop, min, replicate, Bytes, halves, wordBytes, wordAt, isGood, callAt, callCount, crc32, allGood, Progress, Heard}
+use Rattle.recording.specs.Names.{_≡_, List, _++_, true, ℕ, zero, suc, _+_, _-_, _*_, _/_, _%_, _^_, _<_, _≤_, length, take, drop, min, replicate}
+use Rattle.recording.specs.Names.{Bytes, halves, wordBytes, wordAt, isGood, callAt, callCount, crc32, Progress, Heard}
 use Rattle.recording.specs.Blocks.{callRoom, fullBlock, mostCalls, blockFront, countIn}
 use Rattle.recording.specs.Writing.{recordsIn, badCall, callsFor, blockFor, blocksFor, recordingOf}
 use Rattle.recording.specs.Reading.{progress, blockAt, blocksIn, callsAt, callBytes, heard}
 use Rattle.recording.specs.Statements.{Recordable, OneRecording}
-use Rattle.recording.proofs.Names.{refl, sym, _∙_, ap, ap₂, subst, arith, append-assoc, length-take, length-drop, take-append-drop, take-at, drop-drop, callsOf, unusedOf, blockOf, joined, firstBad}
+use Rattle.recording.proofs.Names.{refl, sym, _∙_, ap, ap₂, subst, arith, append-assoc, length-take, length-drop, take-append-drop, take-at, drop-drop, callsOf, unusedOf, blockOf, joined}
 use Rattle.recording.proofs.Joins.{join-same}
 use Rattle.recording.proofs.Chunks.{cut-whole, join-at, join-long}
 use Rattle.recording.proofs.Zeros.{zeros-are}
@@ -100,7 +101,8 @@ pub runs-full : {r : List ℕ} {p q : Progress} {k : ℕ} → Runs r p k q → (
 runs-full Runs.done j g = absurd (omega arith)
 runs-full (Runs.more h Runs.done) j g = absurd (omega arith)
 runs-full {r} (Runs.more {p = p} h (Runs.more h′ t)) zero g =
-    ap (λ (m : ℕ). countIn (blockAt r m)) (let e : p .blocks + 0 ≡ p .blocks = omega arith in e) ∙ (let e : countIn (blockAt r (p .blocks)) ≡ fullBlock = omega (arith, h .full, h′ .full) in e)
+    ap (λ (m : ℕ). countIn (blockAt r m)) (let e : p .blocks + 0 ≡ p .blocks = omega arith in e)
+    ∙ (let e : countIn (blockAt r (p .blocks)) ≡ fullBlock = omega (arith, h .full, h′ .full) in e)
 runs-full {r} (Runs.more {p = p} h (Runs.more h′ t)) (suc j) g =
     ap (λ (m : ℕ). countIn (blockAt r m)) (let e : p .blocks + suc j ≡ p .blocks + 1 + j = omega arith in e) ∙ runs-full (Runs.more h′ t) j (omega arith)
 
@@ -165,7 +167,8 @@ module _ (r : List ℕ) (p : Progress) (bytes : Bytes r) (h : heard r ≡ Heard.
   again =
       ap (joined (blockFor (callBytes r)) 0) many
       ∙ join-same (blockFor (callBytes r)) (blockAt r) 0 (blocksIn r)
-      (λ j _ g. ap (blockOf j) (calls-are j (omega arith)) ∙ sym (passed-is (progress j (fullBlock * j)) (blockAt r j) (passes j (omega arith)) (bytes-take 512 (drop (512 * j) r) (bytes-drop (512 * j) r bytes))))
+      (λ j _ g. ap (blockOf j) (calls-are j (omega arith))
+      ∙ sym (passed-is (progress j (fullBlock * j)) (blockAt r j) (passes j (omega arith)) (bytes-take 512 (drop (512 * j) r) (bytes-drop (512 * j) r bytes))))
       ∙ cut-whole r 512 (blocksIn r) (omega arith)
 
 pub one-recording : OneRecording

@@ -1,6 +1,6 @@
 -- What the laws of this crate say (02, P1): what is written is read back, there is one recording for each list of calls, a damaged block is refused,
 -- and what is carried from block to block is all that the blocks before it say.
-use Rattle.recording.specs.Names.{ℕ, _+_, _%_, _<_, _≤_, _≡_, List, [], _++_, length, getD, set, Bytes, callCount, Progress, Taken, Heard}
+use Rattle.recording.specs.Names.{ℕ, _+_, _%_, _<_, _≤_, _≡_, List, [], _∷_, _++_, length, getD, set, replicate, Bytes, callCount, Progress, Taken, Heard}
 use Rattle.recording.specs.Blocks.{blockSize}
 use Rattle.recording.specs.Writing.{recordsIn, badCall, blocksFor, recordingOf, filledWith}
 use Rattle.recording.specs.Reading.{progress, blockTaken, onward, heard, callBytes, recordingRead}
@@ -17,6 +17,14 @@ pub record ReadBack (l : List ℕ) : Type 0 where
 
 abbrev pub RoundTrip : Type 0
 RoundTrip = (l : List ℕ) → Bytes l → Recordable l → ReadBack l
+
+-- it accepts one drop, whose recording is one block with this check
+abbrev pub oneDrop : List ℕ
+oneDrop = 4 ∷ replicate 11 0
+
+pub record DropRecorded : Type 0 where
+  pub accepted : Recordable oneDrop
+  pub block : recordingOf oneDrop ≡ (1 ∷ 0 ∷ 0 ∷ 0 ∷ oneDrop) ++ (replicate 492 0 ++ (0x81 ∷ 0xFD ∷ 0xF4 ∷ 0xF8 ∷ []))
 
 -- what the reader accepts is what the writer would write
 abbrev pub OneRecording : Type 0

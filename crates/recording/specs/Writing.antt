@@ -1,5 +1,6 @@
 -- Calls as a recording (02, P1): refusal 16 with the index of the first call that is not as said or past the most, then 12 with the bytes needed.
-use Rattle.recording.specs.Names.{ℕ, zero, suc, _+_, _*_, _/_, _%_, _<_, _≤_, _≡_, List, eqb, leb, ltb, length, take, drop, min, pick, _and_, callSize, callAt, isGood, pasted, IsTable, Written}
+use Rattle.recording.specs.Names.{ℕ, zero, suc, _+_, _*_, _/_, _%_, _<_, _≤_, _≡_, List, eqb, leb, ltb, length, take, drop, min, pick, _and_}
+use Rattle.recording.specs.Names.{callSize, callAt, isGood, pasted, IsTable, Written}
 use Rattle.recording.specs.Blocks.{blockSize, callRoom, mostBlocks, mostCalls, blockOf, joined}
 
 -- how many records there are, a short one counted, and the first of n from record i on that is not as said, the one behind them where all are

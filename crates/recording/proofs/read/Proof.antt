@@ -13,7 +13,9 @@ enum-known-h : tie.Need-enum-known-h
 enum-known-h c = search needs
 
 mul-bytes : tie.Need-mul-bytes
-mul-bytes c = omega (arith, heard-counted (c .before .before .before .before .before .before .before .args .recording .now) _ (sym (c .before .before .before .before .hear .ensures) ∙ c .before .before .h .given .1) .few)
+mul-bytes c =
+    let s4 = c .before .before .before .before in
+    omega (arith, heard-counted (s4 .before .before .before .args .recording .now) _ (sym (s4 .hear .ensures) ∙ c .before .before .h .given .1) .few)
 
 returns : tie.Need-returns
 returns c =
@@ -40,13 +42,17 @@ returns-2 c =
     let o = s12 .args .out .now in
     let e = sym (s9 .hear .ensures) ∙ c .before .before .before .before .before .before .before .h .given .1 in
     let n = heard-counted r _ e in
-    filled-all _ o _ (n .calls) _ (c .before .before .before .before .if1 .left) (c .before .before .fill .ensures ∙ ap (λ (k : ℕ). pasted o 0 (joined (callsAt r) 0 k)) (n .blocks)) ∙ read-good r o _ e
+    filled-all _ o _ (n .calls) _ (c .before .before .before .before .if1 .left)
+    (c .before .before .fill .ensures ∙ ap (λ (k : ℕ). pasted o 0 (joined (callsAt r) 0 k)) (n .blocks))
+    ∙ read-good r o _ e
 
 enum-known-h-2 : tie.Need-enum-known-h-2
 enum-known-h-2 c = search needs
 
 returns-3 : tie.Need-returns-3
-returns-3 c = read-bad (c .before .before .before .before .before .before .args .recording .now) (c .before .before .before .before .before .before .args .out .now) _ (sym (c .before .before .before .hear .ensures) ∙ c .before .h2 .given .1)
+returns-3 c =
+    let s3 = c .before .before .before in
+    let x = s3 .before .before .before .args in read-bad (x .recording .now) (x .out .now) _ (sym (s3 .hear .ensures) ∙ c .before .h2 .given .1)
 
 pub read-spec : {M : Type 1} → statement M
 read-spec =

@@ -29,7 +29,15 @@ slice-aggregate-put-block : tie.Need-slice-aggregate-put-block
 slice-aggregate-put-block c = search needs
 
 put-block-requires : tie.Need-put-block-requires
-put-block-requires c κs = record { laid = c .before .before .table .ensures; numbered = c .before .before .before .before .before .before .if1 .left; called = c .before .before .before .before .before .if2 .left; whole = c .before .before .before .before .if3 .left; held = c .before .before .before .if4 .left }
+put-block-requires c κs =
+    let s3 = c .before .before .before in
+    record {
+      laid = c .before .before .table .ensures;
+      numbered = s3 .before .before .before .if1 .left;
+      called = s3 .before .before .if2 .left;
+      whole = s3 .before .if3 .left;
+      held = s3 .if4 .left;
+    }
 
 same-length : tie.Need-same-length
 same-length c = search needs

@@ -69,7 +69,10 @@ same-length : tie.Need-same-length Inv-loop μ-loop
 same-length c = search needs
 
 returns : tie.Need-returns Inv-loop μ-loop
-returns c = sym (c .before .loop .inv .3 ∙ put-none (callsAt (c .before .before .before .before .args .recording .now)) (c .before .before .before .before .args .n) (c .before .loop .i) (c .before .loop .at) (c .before .loop .out) (c .loop-test .left))
+returns c =
+    let s1 = c .before in
+    let x = s1 .before .before .before .args in
+    sym (s1 .loop .inv .3 ∙ put-none (callsAt (x .recording .now)) (x .n) (s1 .loop .i) (s1 .loop .at) (s1 .loop .out) (c .loop-test .left))
 
 pub fill-spec : {M : Type 1} → statement M
 fill-spec =

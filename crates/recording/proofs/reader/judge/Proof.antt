@@ -21,7 +21,10 @@ crc32-by-requires : tie.Need-crc32-by-requires
 crc32-by-requires c κs = search needs
 
 returns : tie.Need-returns
-returns c = judged-check (c .before .before .before .before .before .before .args .p) (c .before .before .before .before .before .before .args .block .now) (λ h. c .if1 .taken (c .before .before .before .word-at .ensures ∙ h ∙ sym (c .before .crc32-by .ensures (c .before .before .before .before .before .before .pre .laid))))
+returns c =
+    let s3 = c .before .before .before in
+    let s6 = s3 .before .before .before in
+    judged-check (s6 .args .p) (s6 .args .block .now) (λ h. c .if1 .taken (s3 .word-at .ensures ∙ h ∙ sym (c .before .crc32-by .ensures (s6 .pre .laid))))
 
 high-at-requires : tie.Need-high-at-requires
 high-at-requires c κs = search needs
@@ -82,7 +85,8 @@ returns-5 c =
     let s15 = s9 .before .before .before .before .before .before in
     let b = s15 .args .block .now in
     judged-record (s15 .args .p) b (sym (s9 .before .before .before .word-at .ensures) ∙ s9 .if1 .left ∙ s9 .before .crc32-by .ensures (s15 .pre .laid))
-    (sym (s5 .before .before .before .high-at .ensures) ∙ s5 .before .if2 .left) (λ h. c .before .before .before .before .if3 .left (s5 .low-at .ensures ∙ h)) (omega (arith, s5 .low-at .ensures, c .before .before .before .if4 .left))
+    (sym (s5 .before .before .before .high-at .ensures) ∙ s5 .before .if2 .left) (λ h. c .before .before .before .before .if3 .left (s5 .low-at .ensures ∙ h))
+    (omega (arith, s5 .low-at .ensures, c .before .before .before .if4 .left))
     (sym (c .before .all-good .ensures ∙ ap allGood (calls-part b _ (s5 .low-at .ensures))) ∙ not-true _ (c .if5 .taken))
 
 mul-all-zero : tie.Need-mul-all-zero

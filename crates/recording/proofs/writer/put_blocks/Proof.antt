@@ -59,7 +59,9 @@ loop-again c =
     let l = s11 .args .calls .now in (
       omega arith,
       c .before .before .put-block .kept .1 .1 .1 .0 ∙ s7 .loop .inv .1,
-      s7 .loop .inv .2 ∙ block-turn l (s7 .loop .out) _ (s11 .args .n) (s7 .loop .i) (c .before .before .before .before .before .before .loop-test .taken) (omega (arith, s11 .pre .held, s7 .loop .inv .1))
+      s7 .loop .inv .2
+          ∙ block-turn l (s7 .loop .out) _ (s11 .args .n) (s7 .loop .i) (c .before .before .before .before .before .before .loop-test .taken)
+          (omega (arith, s11 .pre .held, s7 .loop .inv .1))
           (c .before .before .put-block .ensures ∙ ap (λ (x : List ℕ). pasted (s7 .loop .out) (512 * s7 .loop .i) (blockOf (s7 .loop .i) x)) (s4 .piece .ensures)),
     )
 
