@@ -1,11 +1,12 @@
 /* The paper's list A, from C: builds its tables, compares them with those of a list whose last page is elsewhere, tries a few
- * calls on the model, and prints what was answered.
+ * calls on the model, records them and reads them back, and prints what was answered.
  *
  *     tools/native capi
  *     cc -I include examples/list_a.c target/native/libcapi.a -o list_a && ./list_a
  */
 #include <inttypes.h>
 #include <stdio.h>
+#include <string.h>
 
 #include "nextizual.h"
 
@@ -50,6 +51,7 @@ static void print_from(uint32_t from) {
 int main(void) {
     static uint8_t records[3 * NX_RECORD_BYTES], memory[8192], external[4], calls[CALLS * NX_CALL_BYTES];
     static uint8_t before[8192], parted[NX_PART_BYTES], out[CALLS * NX_ANSWER_BYTES + NX_STATE_BYTES];
+    static uint8_t recording[NX_BLOCK_BYTES], again[CALLS * NX_CALL_BYTES];
     put_record(records, 0x010000, 0x10020000, 1, 3);
     put_record(records + NX_RECORD_BYTES, 0x300000, 0x11200000, 0, 2);
     put_record(records + 2 * NX_RECORD_BYTES, 0x500400, 0x10000C00, 3, 3);
@@ -94,6 +96,13 @@ int main(void) {
     }
     const uint8_t *meters = out + CALLS * NX_ANSWER_BYTES + 292;
     printf("fresh %" PRIu64 ", retries %" PRIu64 ", words %" PRIu64 "\n", get(meters, 4), get(meters + 4, 4), get(meters + 8, 4));
+    uint64_t recorded = nx_record(calls, sizeof calls, recording, sizeof recording);
+    uint64_t read = nx_recorded(recording, recorded, again, sizeof again);
+    printf("recording of %" PRIu64 " bytes, check %08" PRIX64 ", read back %s\n", recorded, nx_crc(recording, NX_BLOCK_BYTES - 4),
+           read == sizeof calls && memcmp(calls, again, sizeof calls) == 0 ? "as it was" : "otherwise");
+    recording[100] ^= 1;
+    uint64_t damaged = nx_recorded(recording, recorded, again, sizeof again);
+    printf("damaged: refused %" PRIu64 " at block %" PRIu64 "\n", damaged >> 32 & 0xFF, damaged & 0xFFFFFFFF);
     uint64_t found = nx_fetch(memory, sizeof memory, BASE, external, sizeof external, 0x10000000, 0x20000448);
     printf("word at 20000448: memory %" PRIu64 ", offset %" PRIX64 ", %08" PRIX64 "\n",
            found >> 60, found >> 32 & 0xFFFFFFF, found & 0xFFFFFFFF);

@@ -117,6 +117,27 @@ uint64_t nx_from(const uint8_t *state, size_t state_len, double total, double mi
                  uint32_t external_kind, double external_a, double external_b,
                  uint8_t *out, size_t out_len);
 
+/* A recording of a session: blocks of 512 bytes, each the number of its calls (2 bytes), its own number from 0 on (2), 42 calls
+ * and the CRC-32 of the first 508 bytes (4). All blocks but the last have 42 calls; bytes of unused calls are zero; no calls
+ * make no blocks. At most 65,536 blocks, 2,752,512 calls. */
+#define NX_BLOCK_BYTES 512
+#define NX_BLOCK_CALLS 42
+#define NX_MOST_BLOCKS 65536
+
+/* Writes calls as a recording. Gives the bytes written to `out`; later bytes stay. Or gives a refusal, 2^63 + number * 2^32 +
+ * value, `out` unchanged: 16 with the index of the first call that is not as said, is short or is past the most; then 12 with
+ * the bytes needed where `out` is too short. */
+uint64_t nx_record(const uint8_t *calls, size_t calls_len, uint8_t *out, size_t out_len);
+
+/* Reads the calls of a recording, as nx_run takes them. Gives the bytes written to `out`; later bytes stay. Or gives a refusal,
+ * `out` unchanged: 16 with the index of the first block that is short, follows one not full, is past the most, or has a wrong
+ * check or number, no calls or over 42, a call that is not as said, or a byte of an unused call that is not zero; then 12 with
+ * the bytes needed. What nx_record accepts is read back as it was, and what nx_recorded accepts is what nx_record writes. */
+uint64_t nx_recorded(const uint8_t *recording, size_t recording_len, uint8_t *out, size_t out_len);
+
+/* The CRC-32 of bytes (IEEE 802.3, reflected; CBF43926 of "123456789"). */
+uint64_t nx_crc(const uint8_t *bytes, size_t bytes_len);
+
 /* The four bytes at a physical address, as memory * 2^60 + offset * 2^32 + word, memory 1 being the on-chip and 2 the
  * external one: above the word it is what an answer says of where its word came from. 0 where neither memory holds all
  * four, or the memories are such as refusal 4 names. */

@@ -9,6 +9,7 @@ mod common;
 
 use common::without_native;
 use second::builder::{MOST_BYTES, MOST_RECORDS};
+use second::recording::{BLOCK, CALL, FULL, MOST_BLOCKS};
 use std::path::Path;
 use std::process::Command;
 
@@ -29,6 +30,8 @@ call 6: 100 112ABCDE
 call 7: 101 2000
 call 8: 102 FB00800, from on-chip offset 1004
 fresh 3, retries 0, words 3
+recording of 512 bytes, check A462E2A9, read back as it was
+damaged: refused 16 at block 0
 word at 20000448: memory 1, offset 448, 10020031
 ";
 
@@ -56,17 +59,28 @@ fn list_a_from_c() {
     assert!(run.status.success() && run.stderr.is_empty());
 }
 
+/// A figure of the header.
+fn figure(name: &str) -> usize {
+    let define = format!("#define {name} ");
+    let header = include_str!("../../include/nextizual.h");
+    let value = header.lines().find_map(|line| line.strip_prefix(&define));
+    value.expect(name).parse().expect(name)
+}
+
 /// The figures of a list, which the differential tests try on the archive, are the
 /// second program's.
 #[test]
 fn limit_of_records() {
-    let header = include_str!("../../include/nextizual.h");
-    let figure = |name: &str| -> usize {
-        let define = format!("#define {name} ");
-        let value = header.lines().find_map(|line| line.strip_prefix(&define));
-        value.expect(name).parse().expect(name)
-    };
     assert_eq!(figure("NX_MOST_RECORDS"), MOST_RECORDS);
     assert_eq!(figure("NX_MOST_RECORDS") * figure("NX_RECORD_BYTES"), MOST_BYTES);
     assert_eq!(figure("NX_MOST_PAGES"), 16 * 1_024);
+}
+
+/// The figures of a recording, likewise.
+#[test]
+fn figures_of_a_recording() {
+    assert_eq!(figure("NX_BLOCK_BYTES"), BLOCK);
+    assert_eq!(figure("NX_BLOCK_CALLS"), FULL);
+    assert_eq!(figure("NX_MOST_BLOCKS"), MOST_BLOCKS);
+    assert_eq!(figure("NX_CALL_BYTES"), CALL);
 }
