@@ -7,28 +7,39 @@ use crate::files;
 use crate::image;
 use crate::map;
 use crate::pages;
+use crate::playback;
+use crate::record;
 use crate::show;
 use crate::text;
 use crate::trial;
 
 // The commands' names, in the order of the table below.
 fn command(w: &[u8]) -> usize {
-    text::place(b"help|build|show|try|map|records|text|check|list|diff", w)
+    text::place(
+        b"help|build|show|try|map|records|text|check|list|diff|record|script|replay",
+        w,
+    )
+}
+
+// Whether a number is one of those from a least to a most.
+fn within(n: usize, least: usize, most: usize) -> bool {
+    (least <= n) & (n <= most)
 }
 
 // Whether a command takes so many words.
 fn takes(command: usize, n: usize) -> bool {
     match command {
-        0 => return n == 0,
-        1 | 9 => return (n == 2) | (n == 3),
-        4 => return (n == 1) | (n == 2),
-        3 | 7 | 8 => return n == 2,
-        2 | 5 | 6 => return n == 1,
+        0 => return within(n, 0, 0),
+        1 | 9 => return within(n, 2, 3),
+        4 => return within(n, 1, 2),
+        3 | 7 | 8 | 10 => return within(n, 2, 2),
+        2 | 5 | 6 | 11 => return within(n, 1, 1),
+        12 => return within(n, 1, 17),
         _ => return false,
     }
 }
 
-// What a command with its words answers: 0 fine, 1 a list, a script, an image or a file is wrong or two images differ, 2 wrong use.
+// What a command with its words answers: 0 fine, 1 a list, a script, a recording, an image or a file is wrong or two images differ, 2 wrong use.
 fn done(command: usize, first: &[u8], second: &[u8], third: &[u8]) -> u32 {
     match command {
         1 => return build::run(first, second, third),
@@ -40,11 +51,14 @@ fn done(command: usize, first: &[u8], second: &[u8], third: &[u8]) -> u32 {
         7 => return image::run(first, second),
         8 => return pages::run(first, second),
         9 => return diff::run(first, second, third),
+        10 => return record::run(first, second),
+        11 => return record::script(first),
+        12 => return playback::run(first),
         _ => return files::told(usage(text::OUT)),
     }
 }
 
-// A command with the words behind it.
+// A command with the words behind it, of which it looks up any fourth itself.
 fn with_words(command: usize) -> u32 {
     let mut first = io::buffer();
     let mut second = io::buffer();
@@ -85,6 +99,9 @@ fn usage(fd: i32) -> bool {
           \x20 nx list IMAGE BASE          the pages of an accepted image, as a list (- and -1: no access)\n\
           \x20 nx map IMAGE BASE           a picture of an accepted image, as SVG\n\
           \x20 nx diff NEW SIGNED [BASE]   compare two images: the words that differ and what they map\n\
+          \x20 nx record SCRIPT RECORDING  write the calls of a script to RECORDING\n\
+          \x20 nx script RECORDING         the calls of a recording as a script\n\
+          \x20 nx replay RECORDING [..]    the calls of a recording on the model, their meters and their bill\n\
           \x20 nx help                     this page\n\n",
     )
         & text::put(
@@ -95,6 +112,9 @@ fn usage(fd: i32) -> bool {
           \x20 price external row 2 10.25  # on-chip or external, flat or row, nanoseconds\n\
           \x20 write control 7             # or: read fault-status\n\
           \x20 request w 412345            # or: acknowledge, prefetch 1FF800, drop, shift 012345\n\n\
-          A file named - is standard input. Pages go to standard output.\n",
+          A replay takes memories and prices as words behind the recording, in any order.\n\
+          \x20 on-chip FILE BASE           # or: external FILE BASE; not given: empty, at 0\n\
+          \x20 price external row 2 10.25  # as in a script; not given: 0\n\n\
+          A file named - is standard input, which no recording can be. Pages go to standard output.\n",
         )
 }

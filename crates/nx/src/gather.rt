@@ -53,13 +53,13 @@ fn decimal(out: &mut [u8], at: usize, n: u64) -> usize {
     put(out, at, &digits[..k])
 }
 
-// Blanks behind what begins at an index, up to a width of at most 16.
+// Blanks behind what begins at an index, up to a width of at most 32.
 pub(crate) fn pad(out: &mut [u8], from: usize, at: usize, width: usize) -> usize {
     put(
         out,
         at,
         parse::cut(
-            b"                ",
+            b"                                ",
             std::num::wrapping_sub_usize(at, from),
             width,
         ),

@@ -1,4 +1,4 @@
-// nx: lists of mappings as text, their tables, sessions on the model, images from elsewhere, and two images compared, for people.
+// nx: lists of mappings as text, their tables, sessions on the model, recorded and replayed, images from elsewhere, and two images compared, for people.
 mod args;
 mod boxes;
 mod build;
@@ -6,6 +6,7 @@ mod changes;
 mod cli;
 mod columns;
 mod convert;
+mod costs;
 mod diff;
 mod files;
 mod gather;
@@ -15,12 +16,18 @@ mod labels;
 mod list;
 mod map;
 mod mappings;
+mod options;
 mod pages;
 mod parse;
+mod playback;
+mod record;
+mod recordings;
 mod refusal;
 mod script;
+mod scripts;
 mod second;
 mod show;
+mod spelling;
 mod text;
 mod trial;
 mod utf8;

@@ -11,13 +11,17 @@ use prices::Price;
 // The most bytes of a line.
 const LONGEST: usize = 200;
 
-// The registers, in the order of the paper's Table 3.
-const REGISTERS: usize = 21;
+// The registers' names, in the order of the paper's Table 3, and how many there are.
+pub const NAMES: [u8; 232] =
+    *b"prefetch|walk-status|control|fault-address-high|fault-address-low|fault-status|acknowledge|base-high|base-low|lock|load\
+      |cam-high|cam-low|ram-high|ram-low|global-flush|entry-flush|read-cam-high|read-cam-low|read-ram-high|read-ram-low";
+
+pub const REGISTERS: usize = 21;
 
 // The offsets of the prefetch and of the acknowledge register.
 const PREFETCH: u32 = 0x00;
 
-const ACKNOWLEDGE: u32 = 0x18;
+pub const ACKNOWLEDGE: u32 = 0x18;
 
 // A prefetch takes an address by this many bytes.
 const REACH: u32 = 1024;
@@ -35,7 +39,7 @@ const VALUE: usize = 4;
 
 const ACCESS: usize = 5;
 
-const MISSING: usize = 6;
+pub const MISSING: usize = 6;
 
 const TOO_MANY: usize = 7;
 
@@ -49,8 +53,10 @@ const TOO_LONG: usize = 11;
 
 pub const LATE: usize = 12;
 
+pub const NO_ROOM: usize = 13;
+
 // Nothing is.
-pub const FINE: usize = 13;
+pub const FINE: usize = 14;
 
 // What a line says.
 pub enum Step {
@@ -68,18 +74,15 @@ pub(crate) fn say(n: usize) -> bool {
         b"unknown call (write, read, request, acknowledge, prefetch, drop, shift or price)\n|unknown register\n|not a hex number\n\
           |the number is too large\n|a register's value is over FFFF\n|unknown access (r or w)\n|a word is missing\n|a word too many\n\
           |unknown memory (on-chip or external)\n|unknown price (flat or row)\n|not a price (at most nine digits, two of them behind the point)\n\
-          |the line is longer than 200 bytes\n|a price behind the first call\n",
+          |the line is longer than 200 bytes\n|a price behind the first call\n\
+          |a recording has no room for a register offset over FF\n",
         n,
     )
 }
 
 // A register's offset, by its name or as it is.
 fn offset(w: &[u8]) -> Number {
-    let place = text::place(
-        b"prefetch|walk-status|control|fault-address-high|fault-address-low|fault-status|acknowledge|base-high|base-low|lock|load\
-          |cam-high|cam-low|ram-high|ram-low|global-flush|entry-flush|read-cam-high|read-cam-low|read-ram-high|read-ram-low",
-        w,
-    );
+    let place = text::place(&NAMES, w);
     if place < REGISTERS {
         return Number::Value(4 * place as u32);
     }
@@ -201,7 +204,7 @@ fn flat(memory: usize, n: Fixed) -> Step {
 }
 
 // The words that a price has, 0 where it is neither flat nor by row.
-fn price_words(w: &[u8]) -> usize {
+pub(crate) fn price_words(w: &[u8]) -> usize {
     match text::place(b"flat|row", w) {
         0 => return 4,
         1 => return 5,
@@ -209,22 +212,27 @@ fn price_words(w: &[u8]) -> usize {
     }
 }
 
-// A price.
-fn price(c: &[u8]) -> Step {
-    let memory = text::place(b"on-chip|external", parse::word(c, 1));
-    let n = price_words(parse::word(c, 2));
-    if memory > 1 {
+// A price, by its words: its memory, its form and its figures.
+pub(crate) fn price_of(memory: &[u8], form: &[u8], first: &[u8], second: &[u8]) -> Step {
+    let place = text::place(b"on-chip|external", memory);
+    if place > 1 {
         return Step::Bad(MEMORY);
     }
-    match n {
-        4 => return flat(memory, parse::decimal(parse::word(c, 3))),
-        5 => return by_row(
-            memory,
-            parse::decimal(parse::word(c, 3)),
-            parse::decimal(parse::word(c, 4)),
-        ),
+    match price_words(form) {
+        4 => return flat(place, parse::decimal(first)),
+        5 => return by_row(place, parse::decimal(first), parse::decimal(second)),
         _ => return Step::Bad(PRICE),
     }
+}
+
+// A price.
+fn price(c: &[u8]) -> Step {
+    price_of(
+        parse::word(c, 1),
+        parse::word(c, 2),
+        parse::word(c, 3),
+        parse::word(c, 4),
+    )
 }
 
 // How many words a call has, by its place in the table below.

@@ -14,11 +14,6 @@ pub(crate) fn put(fd: i32, s: &[u8]) -> bool {
     io::write_all(fd, s)
 }
 
-// A number in decimal.
-pub(crate) fn decimal(fd: i32, n: u64) -> bool {
-    io::print_decimal(fd, n)
-}
-
 // A number in hexadecimal and capitals, with zeros in front up to a width.
 pub(crate) fn hex(fd: i32, n: u64, width: usize) -> bool {
     let mut digits = [0u8; 16];
@@ -59,13 +54,6 @@ pub(crate) fn place(t: &[u8], w: &[u8]) -> usize {
         i = end + 1;
     }
     n
-}
-
-// A number in decimal, with blanks behind it up to a width.
-pub(crate) fn left(fd: i32, n: u64, width: usize) -> bool {
-    let mut digits = [0u8; 20];
-    let k = io::decimal(n, &mut digits);
-    put(fd, &digits[..k]) & pad(fd, k, width)
 }
 
 // Blanks, at most 48.

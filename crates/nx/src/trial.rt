@@ -1,31 +1,26 @@
 // nx try: a session on the model from a script, what each call says, and what the session cost.
 use crate::build;
 use crate::columns;
+use crate::costs;
 use crate::files;
 use crate::files::Got;
+use crate::gather;
 use crate::list;
 use crate::list::Loaded;
 use crate::parse;
 use crate::script;
 use crate::script::Step;
+use crate::scripts;
 use crate::text;
-use bill::Bill;
 use calls::Call;
 use decision::Said;
 use memory::Place;
 use meters::Meters;
 use page::PhysicalAddress;
-use prices::Price;
 use prices::Prices;
 use session::Bench;
 use session::Stepped;
 ghost use Prim.Native.Nat.{_≤_};
-
-// The most words of a line.
-const WORDS: usize = 5;
-
-// A figure's bits have its fraction below this.
-const FRACTION: u64 = 4503599627370496;
 
 // How many bytes a word and a blank behind it have, of a word that a script may hold.
 fn word_width(w: &[u8]) -> usize
@@ -45,30 +40,19 @@ fn word_width(w: &[u8]) -> usize
 fn call_width(c: &[u8]) -> usize {
     let mut n = 0;
     let mut k = 0;
-    while k < WORDS {
+    while k < scripts::WORDS {
         n += word_width(parse::word(c, k));
         k += 1;
     }
     n
 }
 
-// A call's words, a blank behind each.
-fn call_words(c: &[u8]) -> bool {
-    let mut ok = true;
-    let mut k = 0;
-    while k < WORDS {
-        let w = parse::word(c, k);
-        if w.len() > 0 {
-            ok = ok & text::shown(text::OUT, w) & text::put(text::OUT, b" ");
-        }
-        k += 1;
-    }
-    ok
-}
-
 // A call, in a column of a width.
 fn call_shown(c: &[u8], width: usize) -> bool {
-    text::put(text::OUT, b"  ") & call_words(c) & text::pad(text::OUT, call_width(c), width)
+    text::put(text::OUT, b" ")
+        & scripts::words(c)
+        & text::put(text::OUT, b" ")
+        & text::pad(text::OUT, call_width(c), width)
 }
 
 // A price, which has a remark and nothing else.
@@ -101,100 +85,6 @@ fn widest(t: &[u8]) -> usize {
     n
 }
 
-// What is wrong with a line, behind a call or before the first: the number of words, one more where nothing is.
-fn wrong(s: Step, called: bool) -> usize {
-    match s {
-        Step::Bad(why) => return why,
-        Step::OnChip(_) => return late(called),
-        Step::External(_) => return late(called),
-        Step::Make(_) => return script::FINE,
-        Step::Nothing => return script::FINE,
-    }
-}
-
-// What is wrong with a price, behind a call or before the first.
-fn late(called: bool) -> usize {
-    if called {
-        return script::LATE;
-    }
-    script::FINE
-}
-
-// Whether a line is a call.
-fn is_call(s: Step) -> bool {
-    match s {
-        Step::Make(_) => return true,
-        Step::OnChip(_) => return false,
-        Step::External(_) => return false,
-        Step::Nothing => return false,
-        Step::Bad(_) => return false,
-    }
-}
-
-// Whether a script is good; its first error is said.
-fn good(path: &[u8], t: &[u8]) -> bool {
-    let mut called = false;
-    let mut number: u64 = 0;
-    let mut at = 0;
-    while at < t.len() {
-        let s = script::said(parse::line(t, at));
-        let why = wrong(s, called);
-        number += 1;
-        if why != script::FINE {
-            list::at_line(path, number);
-            script::say(why);
-            return false;
-        }
-        called = called | is_call(s);
-        at = parse::next_line(t, at);
-    }
-    true
-}
-
-// Prices after a line.
-fn priced(prices: Prices, s: Step) -> Prices {
-    let onchip = prices.onchip;
-    let external = prices.external;
-    match s {
-        Step::OnChip(p) => return Prices {
-            onchip: p,
-            external: external,
-        },
-        Step::External(p) => return Prices {
-            onchip: onchip,
-            external: p,
-        },
-        Step::Make(_) => return prices,
-        Step::Nothing => return prices,
-        Step::Bad(_) => return prices,
-    }
-}
-
-// The prices of a script, nothing where it gives none.
-fn prices_of(t: &[u8]) -> Prices {
-    let mut p = Prices {
-        onchip: Price::Flat(0.0),
-        external: Price::Flat(0.0),
-    };
-    let mut at = 0;
-    while at < t.len() {
-        p = priced(p, script::said(parse::line(t, at)));
-        at = parse::next_line(t, at);
-    }
-    p
-}
-
-// The call of a line, none where it is no call.
-fn call_of(s: Step) -> Call {
-    match s {
-        Step::Make(call) => return call,
-        Step::OnChip(_) => return Call::Bad,
-        Step::External(_) => return Call::Bad,
-        Step::Nothing => return Call::Bad,
-        Step::Bad(_) => return Call::Bad,
-    }
-}
-
 // The bench after a call, and what the call said.
 fn stepped(b: Bench, ext: &[u8], call: Call, prices: Prices) -> Stepped {
     let on = [0u8; 16];
@@ -217,6 +107,27 @@ fn remark(line: &[u8], indent: usize) -> bool {
     text::blanks(text::OUT, indent) & text::shown(text::OUT, c) & text::put(text::OUT, b"\n")
 }
 
+// What the list says of a call, what the unit answered, how many words it read and where the last one lies.
+fn answered(records: &[u8], call: Call, said: Said, read: u32, from: Place) -> bool {
+    let mut bytes = [0u8; 16];
+    let mut out = [0u8; 96];
+    run::answers::put_said(&mut bytes, 0, said, from);
+    let a = columns::meant(&mut out, 0, records, call);
+    let b = columns::answer(&mut out, a, &bytes);
+    let c = gather::left(&mut out, b, read as u64, 7);
+    let d = columns::source(&mut out, c, &bytes);
+    text::put(text::OUT, parse::cut(&out, 0, d))
+}
+
+// How many blanks stand behind that, up to the remark.
+fn behind(from: Place) -> usize {
+    match from {
+        Place::OnChip(_) => 2,
+        Place::External(_) => 2,
+        Place::Nowhere => 14,
+    }
+}
+
 // A line's row: a call with what the list says, what the unit answered, how many words it read and where the last one lies; or a price.
 fn row(records: &[u8], line: &[u8], said: Said, read: u32, from: Place, width: usize) -> bool {
     let s = script::said(line);
@@ -224,12 +135,8 @@ fn row(records: &[u8], line: &[u8], said: Said, read: u32, from: Place, width: u
         Step::Make(call) => {
             return call_shown(parse::code(line), width)
                 & text::put(text::OUT, b" ")
-                & columns::meant(records, call)
-                & columns::told(said)
-                & text::decimal(text::OUT, read as u64)
-                & text::blanks(text::OUT, 6)
-                & columns::source(from)
-                & remark(line, columns::behind(from));
+                & answered(records, call, said, read, from)
+                & remark(line, behind(from));
         }
         Step::OnChip(_) => return price_shown(line, width),
         Step::External(_) => return price_shown(line, width),
@@ -250,7 +157,7 @@ fn session(records: &[u8], ext: &[u8], t: &[u8], prices: Prices, width: usize) -
     let mut at = 0;
     while at < t.len() {
         let line = parse::line(t, at);
-        let s = stepped(b, ext, call_of(script::said(line)), prices);
+        let s = stepped(b, ext, scripts::call_of(script::said(line)), prices);
         let said = s.said;
         let from = s.from;
         let next = s.bench;
@@ -266,51 +173,7 @@ fn session(records: &[u8], ext: &[u8], t: &[u8], prices: Prices, width: usize) -
         b = next;
         at = parse::next_line(t, at);
     }
-    let m = b.meters;
-    let bill = b.bill;
-    ok & totals(m) & paid(m, bill)
-}
-
-// The meters at the end.
-fn totals(m: Meters) -> bool {
-    text::form(
-        text::OUT,
-        b"\nThe meters and the bill\n  fresh requests    %d\n  retries           %d\n  words read        %d\n",
-        &[m.fresh as u64, m.retries as u64, m.words as u64],
-    )
-}
-
-// The bill at the end.
-fn paid(m: Meters, bill: Bill) -> bool {
-    let w = state::rest_words(m, bill);
-    text::put(text::OUT, b"  nanoseconds paid  ")
-        & figure(columns::joined(w[3], w[4]))
-        & text::put(text::OUT, b"  smoothed misses   ")
-        & figure(columns::joined(w[5], w[6]))
-}
-
-// How many whole hundredths a figure of a session has, from its bits.
-fn hundredths(bits: u64) -> u64 {
-    let e = bits / FRACTION % 2048;
-    if e < 1012 {
-        return 0;
-    }
-    if e > 1074 {
-        return 0;
-    }
-    (bits % FRACTION + FRACTION) * 100 >> (1075 - e) as u32
-}
-
-// A figure from its bits: to two places, cut, and exactly as the bits; and a line end.
-fn figure(bits: u64) -> bool {
-    let h = hundredths(bits);
-    text::form(
-        text::OUT,
-        b"%d.%d%d  bits ",
-        &[h / 100, h / 10 % 10, h % 10],
-    )
-        & text::hex(text::OUT, bits, 16)
-        & text::put(text::OUT, b"\n")
+    ok & costs::table(b)
 }
 
 // The page.
@@ -326,25 +189,15 @@ fn page(records: &[u8], ext: &[u8], t: &[u8]) -> bool {
             text::OUT,
             b" list says  unit answers          words  from           remark\n",
         )
-        & session(records, ext, t, prices_of(t), width)
+        & session(records, ext, t, scripts::prices_of(t), width)
 }
 
 // A script read and its session shown.
 fn scripted(path: &[u8], records: &[u8], ext: &[u8]) -> u32 {
     let mut t = [0u8; list::TEXT];
-    let got = files::read(path, &mut t);
+    let got = scripts::load(path, &mut t, scripts::LAST);
     match got {
-        Got::Bytes(n) => {
-            if n >= list::TEXT {
-                list::at_line(path, 0);
-                text::put(text::ERR, b"the text is longer than 262144 bytes\n");
-                return 1;
-            }
-            if good(path, parse::cut(&t, 0, n)) {
-                return files::told(page(records, ext, parse::cut(&t, 0, n)));
-            }
-            return 1;
-        }
+        Got::Bytes(n) => return files::told(page(records, ext, parse::cut(&t, 0, n))),
         Got::Failed => return 1,
     }
 }

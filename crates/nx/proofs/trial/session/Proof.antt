@@ -42,11 +42,8 @@ loop-less c = search needs
 loop-again : tie.Need-loop-again Inv-loop μ-loop
 loop-again c = search needs
 
-totals-requires : tie.Need-totals-requires Inv-loop μ-loop
-totals-requires c κs = search needs
-
-paid-requires : tie.Need-paid-requires Inv-loop μ-loop
-paid-requires c κs = search needs
+table-requires : tie.Need-table-requires Inv-loop μ-loop
+table-requires c κs = search needs
 
 returns : tie.Need-returns Inv-loop μ-loop
 returns c = search needs
@@ -68,6 +65,5 @@ session-spec =
     next-line-requires
     loop-less
     loop-again
-    totals-requires
-    paid-requires
+    table-requires
     returns)

@@ -1,13 +1,13 @@
 use Rattle.nx.proofs.Names.{_-_, needs}
 use lib.ListN.{length}
-use Rattle.nx.proofs.trial.prices_of.Statement.{statement}
-use Rattle.nx.proofs.trial.prices_of.Tie as tie
+use Rattle.nx.proofs.scripts.price_at.Statement.{statement}
+use Rattle.nx.proofs.scripts.price_at.Tie as tie
 
 abbrev Inv-loop : tie.InvT-loop
-Inv-loop t p₀ at₀ p at = Unit {0}
+Inv-loop t external last₀ at₀ last at = Unit {0}
 
 abbrev μ-loop : tie.MeasureT-loop
-μ-loop t p₀ at₀ p at = length t - at
+μ-loop t external last₀ at₀ last at = length t - at
 
 loop-holds : tie.Need-loop-holds Inv-loop μ-loop
 loop-holds c = search needs
@@ -18,8 +18,8 @@ line-requires c κs = search needs
 said-requires : tie.Need-said-requires Inv-loop μ-loop
 said-requires c κs = search needs
 
-priced-requires : tie.Need-priced-requires Inv-loop μ-loop
-priced-requires c κs = search needs
+is-price-requires : tie.Need-is-price-requires Inv-loop μ-loop
+is-price-requires c κs = search needs
 
 next-line-requires : tie.Need-next-line-requires Inv-loop μ-loop
 next-line-requires c κs = search needs
@@ -33,8 +33,8 @@ loop-again c = search needs
 returns : tie.Need-returns Inv-loop μ-loop
 returns c = search needs
 
-pub prices-of-spec : {M : Type 1} → statement M
-prices-of-spec =
+pub price-at-spec : {M : Type 1} → statement M
+price-at-spec =
     tie.close
     (tie.spec
     Inv-loop
@@ -42,7 +42,7 @@ prices-of-spec =
     loop-holds
     line-requires
     said-requires
-    priced-requires
+    is-price-requires
     next-line-requires
     loop-less
     loop-again

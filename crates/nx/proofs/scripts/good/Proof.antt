@@ -1,14 +1,14 @@
 use Rattle.nx.proofs.Names.{_-_, needs}
 use Prim.Native.Nat.{_≤_}
 use lib.ListN.{length}
-use Rattle.nx.proofs.trial.good.Statement.{statement}
-use Rattle.nx.proofs.trial.good.Tie as tie
+use Rattle.nx.proofs.scripts.good.Statement.{statement}
+use Rattle.nx.proofs.scripts.good.Tie as tie
 
 abbrev Inv-loop : tie.InvT-loop
-Inv-loop path t called₀ number₀ at₀ called number at = number ≤ at
+Inv-loop path t last called₀ number₀ at₀ called number at = number ≤ at
 
 abbrev μ-loop : tie.MeasureT-loop
-μ-loop path t called₀ number₀ at₀ called number at = length t - at
+μ-loop path t last called₀ number₀ at₀ called number at = length t - at
 
 loop-holds : tie.Need-loop-holds Inv-loop μ-loop
 loop-holds c = search needs
