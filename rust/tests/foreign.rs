@@ -6,7 +6,7 @@
 
 mod common;
 
-use common::coverage::{self, see_image, see_list, Coverage};
+use common::coverage::{self, see_image, see_list};
 use common::groups::Group;
 use common::images::{definition, Image, Words};
 use common::lists::{self, Record};
@@ -15,7 +15,7 @@ use common::rows::{self, BASE};
 use common::turned::Place;
 use common::written::{self, outside, page, unequal, COARSE, FINE};
 use common::*;
-use second::boundary::{self, Program, Second, ANSWER, STATE};
+use second::boundary::{self, Second, ANSWER, STATE};
 use second::builder::MOST_RECORDS;
 use second::dice::Dice;
 use std::collections::BTreeSet;
@@ -24,21 +24,7 @@ use std::fmt::Display;
 // ---------------------------------------------------------------------------
 // One image under both programs
 
-/// The program to compare with, and what was seen.
-struct Bench {
-    rival: Box<dyn Program>,
-    seen: Coverage,
-}
-
 impl Bench {
-    fn new() -> Bench {
-        Bench { rival: rival(), seen: Coverage::default() }
-    }
-
-    fn programs(&self) -> [&dyn Program; 2] {
-        [&Second, &*self.rival]
-    }
-
     /// Checks and lists an image with both programs, in rooms of every sort, and compares
     /// what they answer and every byte of the room with the definition. Gives what it
     /// says.

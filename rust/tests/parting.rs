@@ -5,11 +5,10 @@
 
 mod common;
 
-use common::coverage::Coverage;
 use common::images::Image;
 use common::lists::{self, Record};
 use common::partings::*;
-use common::{long, rival, seed, turn};
+use common::{long, seed, turn, Bench};
 use second::boundary::{Program, Second};
 use second::dice::Dice;
 use std::fmt::Display;
@@ -17,21 +16,7 @@ use std::fmt::Display;
 // ---------------------------------------------------------------------------
 // Two images under both programs
 
-/// The program to compare with, and what was seen.
-struct Bench {
-    rival: Box<dyn Program>,
-    seen: Coverage,
-}
-
 impl Bench {
-    fn new() -> Bench {
-        Bench { rival: rival(), seen: Coverage::default() }
-    }
-
-    fn programs(&self) -> [&dyn Program; 2] {
-        [&Second, &*self.rival]
-    }
-
     /// Compares two images with both programs, in rooms of every sort, and what they answer
     /// and every byte in and after the room with the definition. Gives what it says.
     fn part(&mut self, new: &[u8], signed: &[u8], title: impl Display) -> Said {

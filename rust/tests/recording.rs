@@ -7,7 +7,6 @@
 mod common;
 
 use common::callers::Caller;
-use common::coverage::Coverage;
 use common::recordings::*;
 use common::spoiled::*;
 use common::states;
@@ -23,21 +22,7 @@ type Said = Result<Vec<u8>, u64>;
 /// What a program is called for, with the room that it writes to.
 type Go<'a> = &'a dyn Fn(&dyn Program, &mut [u8]) -> u64;
 
-/// The program to compare with, and what was seen.
-struct Bench {
-    rival: Box<dyn Program>,
-    seen: Coverage,
-}
-
 impl Bench {
-    fn new() -> Bench {
-        Bench { rival: rival(), seen: Coverage::default() }
-    }
-
-    fn programs(&self) -> [&dyn Program; 2] {
-        [&Second, &*self.rival]
-    }
-
     /// Records a list with both programs, in rooms of every sort, and compares what they
     /// answer and every byte in and about the room with the definition; read back it is that
     /// list. Gives what the definition says.

@@ -22,6 +22,7 @@ pub mod turned;
 pub mod worlds;
 pub mod written;
 
+use coverage::Coverage;
 use second::boundary::{self, Program, Second};
 
 pub use second::boundary::Lending;
@@ -53,6 +54,22 @@ pub fn rival() -> Box<dyn Program> {
              build it into ../target/native, or name its folder in NX_LIB; \
              NX_WITHOUT_NATIVE=1 compares the second program with itself"
         ),
+    }
+}
+
+/// The program to compare with, and what was seen.
+pub struct Bench {
+    pub rival: Box<dyn Program>,
+    pub seen: Coverage,
+}
+
+impl Bench {
+    pub fn new() -> Bench {
+        Bench { rival: rival(), seen: Coverage::default() }
+    }
+
+    pub fn programs(&self) -> [&dyn Program; 2] {
+        [&Second, &*self.rival]
     }
 }
 
