@@ -6,10 +6,9 @@
 
 mod common;
 
-use common::callers::Caller;
+use common::callers;
 use common::recordings::*;
 use common::spoiled::*;
-use common::states;
 use common::worlds::{self, World};
 use common::*;
 use second::boundary::{Program, Second, ANSWER, STATE};
@@ -727,7 +726,7 @@ fn replayed() {
         let quotes = (worlds::good_quote(&mut dice), worlds::good_quote(&mut dice));
         let lending = world.lending(quotes.0, quotes.1);
         let length = dice.pick(&[0, 1, 41, 42, 43, 84, 150, 300]);
-        let calls = session_of(&mut dice, &world, &lending, length);
+        let calls = callers::session(&mut dice, &world, &lending, length);
         let mut said = vec![0; length * ANSWER + STATE];
         assert_eq!(Second.run(&lending, &calls, &mut said), said.len() as u64);
         for at in 0..length {
@@ -751,20 +750,4 @@ fn replayed() {
     let lengths = [0, 1, 41, 42, 43, 84, 150, 300];
     names.extend(lengths.map(|length| format!("a session of {length} calls")));
     bench.seen.demand(10, &names);
-}
-
-/// So many calls, each drawn with an eye on the state before it.
-fn session_of(dice: &mut Dice, world: &World, lending: &Lending, length: usize) -> Vec<u8> {
-    let mut caller = Caller::new();
-    let mut state: Vec<u8> = states::fresh_state().into();
-    let mut calls = Vec::new();
-    for _ in 0..length {
-        let call = caller.next(dice, world, View(&state));
-        let bill = (View(&state).total(), View(&state).misses());
-        let mut out = [0; ANSWER + STATE];
-        assert_eq!(Second.from(lending, &state, bill, &call, &mut out), out.len() as u64);
-        state.copy_from_slice(&out[ANSWER..]);
-        calls.extend(call);
-    }
-    calls
 }

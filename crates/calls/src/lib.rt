@@ -7,7 +7,7 @@ ghost use Rattle.calls.specs.Names.{_≡_, true, _≤_, length};
 ghost use Rattle.calls.specs.Records.{callSize, callOf, callAt, callCount, isGood, allGood};
 
 // The bytes of a record.
-const SIZE: usize = 12;
+pub const SIZE: usize = 12;
 
 // A call, or a record that is none.
 pub enum Call {

@@ -41,7 +41,7 @@ fn row(out: &mut [u8], at: usize, number: u64, call: Call, said: &[u8]) -> usize
 fn rows(block: &[u8], said: &[u8], first: usize) -> bool {
     let mut out = io::buffer();
     let calls = recording::calls_of(block);
-    let n = calls.len() / recordings::CALL;
+    let n = calls.len() / calls::SIZE;
     let mut at = 0;
     let mut i = 0;
     while i < n {
@@ -50,7 +50,7 @@ fn rows(block: &[u8], said: &[u8], first: usize) -> bool {
             &mut out,
             at,
             std::num::wrapping_add_usize(first, i) as u64,
-            calls::decode(calls, recordings::CALL * i),
+            calls::decode(calls, calls::SIZE * i),
             parse::cut(said, from, from + ANSWER),
         );
         i += 1;

@@ -18,7 +18,7 @@ use recording::Progress;
 ghost use Prim.Native.Nat.{_≤_};
 
 // The bytes of a full block's calls.
-const CALLS: usize = recordings::CALL * recording::FULL;
+const CALLS: usize = calls::SIZE * recording::FULL;
 
 // What writing a script's calls came to: how many there are, or a failure that has been said.
 enum Wrote {
@@ -54,7 +54,7 @@ fn kept(call: Call) -> [u32; 3] {
 // A call, put behind so many others of its block.
 fn put(calls: &mut [u8], before: usize, call: Call) {
     let words = kept(call);
-    wire::put(calls, recordings::CALL * (before % recording::FULL), &words);
+    wire::put(calls, calls::SIZE * (before % recording::FULL), &words);
 }
 
 // A block of calls, behind the others of a new file.
@@ -74,7 +74,7 @@ fn last(fresh: Fresh, path: &[u8], n: usize, calls: &[u8]) -> Wrote {
         fresh,
         path,
         n / recording::FULL,
-        parse::cut(calls, 0, recordings::CALL * rest),
+        parse::cut(calls, 0, calls::SIZE * rest),
     ) {
         return Wrote::Calls(n);
     }
@@ -175,11 +175,11 @@ pub(crate) fn run(path: &[u8], recording: &[u8]) -> u32 {
 fn lines(block: &[u8]) -> bool {
     let mut out = io::buffer();
     let calls = recording::calls_of(block);
-    let n = calls.len() / recordings::CALL;
+    let n = calls.len() / calls::SIZE;
     let mut at = 0;
     let mut i = 0;
     while i < n {
-        let end = spelling::call(&mut out, at, calls::decode(calls, recordings::CALL * i));
+        let end = spelling::call(&mut out, at, calls::decode(calls, calls::SIZE * i));
         at = gather::put(&mut out, end, b"\n");
         i += 1;
     }

@@ -8,9 +8,6 @@ use recording::Flaw;
 use recording::Progress;
 use recording::Taken;
 
-// The bytes of a call.
-pub const CALL: usize = 12;
-
 // What comes next in a file: one more block and how far it goes, the end, a block that is refused, or a failure that has been said.
 pub enum Next {
     Block(Progress),
@@ -61,11 +58,11 @@ fn at_block(path: &[u8], i: usize) {
 
 // The first call that is not as said, or the number of calls.
 fn first_bad(calls: &[u8]) -> usize {
-    let n = calls.len() / CALL;
+    let n = calls.len() / calls::SIZE;
     let mut i = 0;
     while i < n {
-        let at = CALL * i;
-        if !calls::all_good(parse::cut(calls, at, at + CALL)) {
+        let at = calls::SIZE * i;
+        if !calls::all_good(parse::cut(calls, at, at + calls::SIZE)) {
             return i;
         }
         i += 1;

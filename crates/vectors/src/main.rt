@@ -1,4 +1,4 @@
-// What the parts, the unit, the builder, the audit and the comparison answer for inputs worked out by hand.
+// What the parts, the unit, the builder, the audit, the comparison, CRC-32 and the recordings answer for inputs worked out by hand.
 mod bills;
 mod entries;
 mod foreign;
@@ -8,6 +8,7 @@ mod memories;
 mod offsets;
 mod pages;
 mod pairs;
+mod recordings;
 mod sessions;
 mod tallies;
 mod walks;
@@ -25,4 +26,5 @@ fn main() {
     limits::show_all();
     foreign::show_all();
     pairs::show_all();
+    recordings::show_all();
 }

@@ -1,9 +1,9 @@
 //! Calls for the differential tests, from the dice.
 
-use super::states::entry;
+use super::states::{entry, fresh_state};
 use super::worlds::World;
 use super::*;
-use second::boundary::{Second, STATE};
+use second::boundary::{Second, ANSWER, STATE};
 use second::dice::Dice;
 use std::collections::VecDeque;
 
@@ -215,4 +215,20 @@ pub fn state_after(lending: &Lending, calls: &[u8]) -> Vec<u8> {
     let mut out = vec![0; answers + STATE];
     assert_eq!(Second.run(lending, calls, &mut out), out.len() as u64);
     out.split_off(answers)
+}
+
+/// So many calls, each drawn with an eye on the state before it.
+pub fn session(dice: &mut Dice, world: &World, lending: &Lending, length: usize) -> Vec<u8> {
+    let mut caller = Caller::new();
+    let mut state: Vec<u8> = fresh_state().into();
+    let mut calls = Vec::new();
+    for _ in 0..length {
+        let call = caller.next(dice, world, View(&state));
+        let figures = (View(&state).total(), View(&state).misses());
+        let mut out = [0; ANSWER + STATE];
+        assert_eq!(Second.from(lending, &state, figures, &call, &mut out), out.len() as u64);
+        state.copy_from_slice(&out[ANSWER..]);
+        calls.extend(call);
+    }
+    calls
 }

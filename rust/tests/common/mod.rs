@@ -14,6 +14,7 @@ pub mod partings;
 pub mod places;
 pub mod plain;
 pub mod recordings;
+pub mod replays;
 pub mod rows;
 pub mod spoiled;
 pub mod states;
