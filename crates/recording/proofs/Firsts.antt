@@ -53,6 +53,30 @@ first-all l i zero h = omega arith
 first-all l i (suc n) h =
     pick-yes _ _ _ (h i (omega arith) (omega arith)) ∙ first-all l (i + 1) n (λ j a b. h j (omega arith) (omega arith)) ∙ (let e : i + 1 + n ≡ i + suc n = omega arith in e)
 
+-- the one that it names is not as said
+pub first-wrong : (l : List ℕ) (i n : ℕ) → firstBad l i n < i + n → isGood (callAt l (12 * firstBad l i n)) ≡ false
+unfolding firstBad
+first-wrong l i zero h = absurd (let f : ⊥ = omega arith in f)
+first-wrong l i (suc n) h = by-test (first-wrong l (i + 1) n) (isGood (callAt l (12 * i))) refl
+  where
+    by-test : (firstBad l (i + 1) n < i + 1 + n → isGood (callAt l (12 * firstBad l (i + 1) n)) ≡ false) → (t : Bool) → isGood (callAt l (12 * i)) ≡ t
+        → isGood (callAt l (12 * firstBad l i (suc n))) ≡ false
+    by-test on true e =
+        ap (λ (k : ℕ). isGood (callAt l (12 * k))) (pick-yes _ _ _ e) ∙ on (omega (arith, subst (λ (k : ℕ). k < i + suc n) (pick-yes _ _ _ e) h))
+    by-test on false e = ap (λ (k : ℕ). isGood (callAt l (12 * k))) (pick-no _ _ _ e) ∙ e
+
+-- and it is the only one before which all are, and which is not or is the one behind them
+pub first-is : (l : List ℕ) (i n k : ℕ) → i ≤ k → k ≤ i + n → ((j : ℕ) → i ≤ j → j < k → isGood (callAt l (12 * j)) ≡ true)
+    → (k < i + n → isGood (callAt l (12 * k)) ≡ false) → firstBad l i n ≡ k
+unfolding firstBad
+first-is l i zero k a b g w = omega arith
+first-is l i (suc n) k a b g w = elim (decLe k i) [
+  | yes h ↦
+      let e : k ≡ i = omega arith in
+      pick-no _ _ _ (ap (λ (j : ℕ). isGood (callAt l (12 * j))) (sym e) ∙ w (omega arith)) ∙ sym e
+  | no h ↦ pick-yes _ _ _ (g i (omega arith) (omega arith)) ∙ first-is l (i + 1) n k (omega arith) (omega arith) (λ j x y. g j (omega arith) y) (λ y. w (omega arith))
+]
+
 -- a short record is not as said
 short-bad : (l : List ℕ) (at : ℕ) → length l < at + 12 → isGood (callAt l at) ≡ false
 unfolding callAt

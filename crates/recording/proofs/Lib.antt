@@ -18,3 +18,4 @@ pub mod Chunks
 pub mod Back
 pub mod One
 pub mod Example
+pub mod Refused

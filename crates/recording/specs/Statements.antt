@@ -1,9 +1,11 @@
 -- What the laws of this crate say (02, P1): what is written is read back, there is one recording for each list of calls, a damaged block is refused,
 -- and what is carried from block to block is all that the blocks before it say.
-use Rattle.recording.specs.Names.{ℕ, _+_, _%_, _<_, _≤_, _≡_, List, [], _∷_, _++_, length, getD, set, replicate, Bytes, callCount, Progress, Taken, Heard}
-use Rattle.recording.specs.Blocks.{blockSize}
-use Rattle.recording.specs.Writing.{recordsIn, badCall, blocksFor, recordingOf, filledWith}
-use Rattle.recording.specs.Reading.{progress, blockTaken, onward, heard, callBytes, recordingRead}
+use mathlib.Core.Logic.{_⊎_}
+use Rattle.recording.specs.Names.{ℕ, _*_, _%_, _<_, _≤_, _≡_, false, true, List, [], _∷_, _++_, length, take, getD, set, replicate, Bytes}
+use Rattle.recording.specs.Names.{callAt, callCount, callSize, isGood, Flaw, Heard, Progress, Taken, Written}
+use Rattle.recording.specs.Blocks.{blockSize, mostCalls}
+use Rattle.recording.specs.Writing.{recordsIn, badCall, blocksFor, recordingOf, filledWith, recordingWritten, writtenNumber}
+use Rattle.recording.specs.Reading.{progress, blockTaken, blockAt, blocksIn, onward, heard, callBytes, recordingRead}
 
 -- calls that the writer does not refuse 16
 abbrev pub Recordable : List ℕ → Type 0
@@ -29,6 +31,28 @@ pub record DropRecorded : Type 0 where
 -- what the reader accepts is what the writer would write
 abbrev pub OneRecording : Type 0
 OneRecording = (r : List ℕ) (p : Progress) → Bytes r → heard r ≡ Heard.Whole p → Recordable (callBytes r) × (recordingOf (callBytes r) ≡ r)
+
+-- call i is the first that is not as said, short, or past the most
+pub record RefusedCall (l : List ℕ) (i : ℕ) : Type 0 where
+  pub there : i < recordsIn l
+  pub within : i ≤ mostCalls
+  pub before : (j : ℕ) → j < i → isGood (callAt l (callSize * j)) ≡ true
+  pub wrong : (i ≡ mostCalls) ⊎ (isGood (callAt l (callSize * i)) ≡ false)
+
+-- block i is the first that is bad: those before it are accepted, and behind what they leave it is refused
+pub record RefusedBlock (r : List ℕ) (i : ℕ) : Type 0 where
+  pub there : i < blocksIn r
+  pub carried : Progress
+  pub before : heard (take (blockSize * i) r) ≡ Heard.Whole carried
+  pub flaw : Flaw
+  pub wrong : blockTaken carried (blockAt r i) ≡ Taken.Refused flaw
+
+-- 16 names that call or that block, and no refusal changes a byte
+pub record RefusesFirst : Type 0 where
+  pub write : (l before : List ℕ) (i : ℕ) → (recordingWritten l before .answer ≡ Written.Bad i → RefusedCall l i) × (RefusedCall l i → recordingWritten l before .answer ≡ Written.Bad i)
+  pub read : (r before : List ℕ) (i : ℕ) → recordingRead r before .answer ≡ Written.Bad i → RefusedBlock r i
+  pub write-keeps : (l before : List ℕ) → (writtenNumber (recordingWritten l before .answer) ≡ 0 → ⊥) → recordingWritten l before .memory ≡ before
+  pub read-keeps : (r before : List ℕ) → (writtenNumber (recordingRead r before .answer) ≡ 0 → ⊥) → recordingRead r before .memory ≡ before
 
 -- of a block that is taken, every other value of any one byte is refused: so is every single damaged bit
 abbrev pub DamageRefused : Type 0
