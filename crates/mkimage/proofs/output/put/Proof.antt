@@ -14,7 +14,9 @@ same-length : tie.Need-same-length
 same-length c = search needs
 
 returns : tie.Need-returns
-returns c = let s6 = c .before .before .before .before .before .before in ap (shown (s6 .args .at + length (s6 .args .s .now))) (c .before .before .put-bytes .ensures ∙ bytes-fit (s6 .args .out .now) (s6 .args .at) (s6 .args .s .now) (s6 .pre))
+returns c =
+    let s6 = c .before .before .before .before .before .before in
+    let x = s6 .args in ap (shown (x .at + length (x .s .now))) (c .before .before .put-bytes .ensures ∙ bytes-fit (x .out .now) (x .at) (x .s .now) (s6 .pre))
 
 pub put-spec : {M : Type 1} → statement M
 put-spec = tie.close (tie.spec put-bytes-requires add-result same-length returns)
