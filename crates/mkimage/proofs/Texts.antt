@@ -85,7 +85,8 @@ fewest-twenty n k f h = elim (decLe k 20) [
 ]
 
 -- a text of k bytes is what a longer buffer begins with
-pub pasted-taken : (l : List ℕ) (at : ℕ) (t s : List ℕ) (r : ℕ) (o : List ℕ) → t ≡ s → shown r o ≡ shown (at + length t) (pasted l at t) → shown r o ≡ shown (at + length s) (pasted l at s)
+pub pasted-taken : (l : List ℕ) (at : ℕ) (t s : List ℕ) (r : ℕ) (o : List ℕ) → t ≡ s → shown r o ≡ shown (at + length t) (pasted l at t)
+    → shown r o ≡ shown (at + length s) (pasted l at s)
 pasted-taken l at t s r o e h = h ∙ ap (λ (x : List ℕ). shown (at + length x) (pasted l at x)) e
 
 -- the answer of a build and what it left, as what is shown

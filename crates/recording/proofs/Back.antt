@@ -3,16 +3,16 @@ use Rattle.recording.specs.Names.{_≡_, List, true, ℕ, zero, suc, _+_
 use Rattle.recording.specs.Blocks.{callRoom, fullBlock, mostBlocks, countIn}
 use Rattle.recording.specs.Writing.{recordsIn, badCall, callsFor, blockFor, blocksFor, recordingOf}
 use Rattle.recording.specs.Reading.{progress, blockAt, blocksIn, callsAt, callBytes, heard}
-use Rattle.recording.specs.Statements.{ReadBack, RoundTrip}
+use Rattle.recording.specs.Statements.{RecordedBack, RoundTrip}
 use Rattle.recording.proofs.Names.{refl, sym, _∙_, ap, ap₂, subst, arith, length-take, length-drop, length-take-le, drop-at, drop-drop, pick-yes, le-leb}
-use Rattle.recording.proofs.Names.{callsOf, joined, filledWith, heardFrom}
-use Rattle.recording.proofs.Firsts.{Accepted, accepted-by}
+use Rattle.recording.proofs.Names.{callsOf, pieces, filledWith, heardFrom}
+use Rattle.recording.proofs.Firsts.{CallsAccepted, accepted-by}
 use Rattle.recording.proofs.Joins.{join-same}
 use Rattle.recording.proofs.Chunks.{cut-whole, join-at}
 use Rattle.recording.proofs.Puts.{block-length}
 use Rattle.recording.proofs.Turns.{calls-few, calls-whole}
 use Rattle.recording.proofs.Fields.{count-is, calls-are, block-passes}
-use Rattle.recording.proofs.Passed.{Passed, carried}
+use Rattle.recording.proofs.Passed.{BlockPasses, carriedOn}
 use Rattle.recording.proofs.Runs.{Runs, runs-heard}
 use Rattle.recording.proofs.Writes.{recording-length, blocks-few, read-good}
 use Rattle.calls.specs.Records.{callOf}
@@ -37,7 +37,7 @@ call-in-part l o m at h =
         ∙ take-take 12 (m - at) (drop at (drop o l)) (omega (arith, length-take m (drop o l)))
         ∙ ap (take 12) (drop-drop at o l)
 
-module _ (l : List ℕ) (bytes : Bytes l) (accepted : Accepted l) where
+module _ (l : List ℕ) (bytes : Bytes l) (accepted : CallsAccepted l) where
   r : List ℕ
   r = recordingOf l
 
@@ -62,9 +62,9 @@ module _ (l : List ℕ) (bytes : Bytes l) (accepted : Accepted l) where
         (λ j g. ap isGood (call-in-part l (callRoom * i) callRoom (12 * j) (omega arith) ∙ ap (callAt l) (let e : callRoom * i + 12 * j ≡ 12 * (42 * i + j) = omega arith in e))
         ∙ accepted .each (42 * i + j) (omega (arith, part-long)))
 
-    passes : Passed (progress i (fullBlock * i)) (blockAt r i)
+    passes : BlockPasses (progress i (fullBlock * i)) (blockAt r i)
     passes =
-        subst (Passed (progress i (fullBlock * i))) (sym block-is)
+        subst (BlockPasses (progress i (fullBlock * i))) (sym block-is)
         (block-passes i (callsFor l i) number-low (calls-few l i) (calls-whole l i (accepted .whole)) part-bytes (omega (arith, part-long)) calls-good)
 
     counts : countIn (blockAt r i) ≡ length (callsFor l i) / 12
@@ -82,7 +82,7 @@ module _ (l : List ℕ) (bytes : Bytes l) (accepted : Accepted l) where
   runs i (suc k) e =
       let h : i < blocksFor l = omega arith in
       let full : fullBlock * i ≡ min (fullBlock * i) (callCount l) = omega (arith, accepted .whole) in
-      Runs.more (subst (λ (c : ℕ). Passed (progress i c) (blockAt r i)) full (passes i h))
+      Runs.more (subst (λ (c : ℕ). BlockPasses (progress i c) (blockAt r i)) full (passes i h))
       (subst (λ (q : Progress). Runs r q k (progress (blocksFor l) (callCount l)))
       (ap (progress (i + 1))
       (let z : min (fullBlock * (i + 1)) (callCount l) ≡ min (fullBlock * i) (callCount l) + countIn (blockAt r i) =
@@ -101,7 +101,7 @@ module _ (l : List ℕ) (bytes : Bytes l) (accepted : Accepted l) where
 
   all-calls : callBytes r ≡ l
   all-calls =
-      ap (joined (callsAt r) 0) many
+      ap (pieces (callsAt r) 0) many
       ∙ join-same (callsAt r) (callsFor l) 0 (blocksFor l) (λ j _ b. called j (omega arith))
       ∙ cut-whole l callRoom (blocksFor l) (omega arith)
 

@@ -5,7 +5,7 @@ use Rattle.recording.specs.Blocks.{callRoom, mostBlocks, fullBlock, bloc
 use Rattle.recording.specs.Reading.{progress}
 use Rattle.recording.proofs.Names.{refl, sym, _∙_, ap, ap₂, arith, append-assoc, take-at, drop-at, drop-drop, blockOf, callsOf, unusedOf, allZero}
 use Rattle.recording.proofs.Puts.{zeros-length, front-length, block-length}
-use Rattle.recording.proofs.Passed.{Passed}
+use Rattle.recording.proofs.Passed.{BlockPasses}
 use Rattle.recording.proofs.Zeros.{zeros-pass}
 use Rattle.wire.specs.Words.{wordOf}
 use Rattle.wire.proofs.Reading.{bytes-append, word-bytes, word-back, zero-bytes}
@@ -74,7 +74,7 @@ module _ (n : ℕ) (calls : List ℕ) (numbered : n < mostBlocks) (few : length 
       ∙ take-at zeros check (callRoom - length calls) (zeros-length (callRoom - length calls))
 
   -- so it passes, behind full blocks
-  pub block-passes : 0 < length calls → allGood calls ≡ true → Passed (progress n (fullBlock * n)) (blockOf n calls)
+  pub block-passes : 0 < length calls → allGood calls ≡ true → BlockPasses (progress n (fullBlock * n)) (blockOf n calls)
   block-passes some good =
       record {
         room = numbered;

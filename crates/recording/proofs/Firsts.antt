@@ -83,12 +83,12 @@ unfolding callAt
 short-bad l at h = ap isGood (pick-no _ _ _ (lt-leb _ _ h))
 
 -- calls that are accepted: whole records, no more than the most, each as said
-pub record Accepted (l : List ℕ) : Type 0 where
+pub record CallsAccepted (l : List ℕ) : Type 0 where
   pub whole : length l % 12 ≡ 0
   pub few : recordsIn l ≤ mostCalls
   pub each : (j : ℕ) → j < recordsIn l → isGood (callAt l (12 * j)) ≡ true
 
-pub accepted-by : (l : List ℕ) → recordsIn l ≤ badCall l → Accepted l
+pub accepted-by : (l : List ℕ) → recordsIn l ≤ badCall l → CallsAccepted l
 accepted-by l h = record { whole = whole; few = few; each = each }
   where
     few : recordsIn l ≤ mostCalls

@@ -10,6 +10,6 @@ pub use native.Mathlib.Decide.{decLe}
 pub use native.Mathlib.Numerals.{add-one}
 pub use native.Mathlib.Omega.{arith}
 pub use Rattle.page.proofs.Picks.{and-left, and-no, and-right, and-yes, pick-by, pick-no, pick-yes}
-unfoldable pub use Rattle.recording.specs.Blocks.{blockOf, callsOf, joined, unusedOf}
+unfoldable pub use Rattle.recording.specs.Blocks.{blockOf, callsOf, pieces, unusedOf}
 unfoldable pub use Rattle.recording.specs.Reading.{allZero, blockJudged, blockTaken, heardFrom, recordingRead}
 unfoldable pub use Rattle.recording.specs.Writing.{blockWritten, filledWith, firstBad, recordingWritten}

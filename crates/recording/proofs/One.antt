@@ -4,14 +4,14 @@ use Rattle.recording.specs.Names.{Bytes, halves, wordBytes, wordAt, isGo
 use Rattle.recording.specs.Blocks.{callRoom, fullBlock, mostCalls, blockFront, countIn}
 use Rattle.recording.specs.Writing.{recordsIn, badCall, callsFor, blockFor, blocksFor, recordingOf}
 use Rattle.recording.specs.Reading.{progress, blockAt, blocksIn, callsAt, callBytes, heard}
-use Rattle.recording.specs.Statements.{Recordable, OneRecording}
-use Rattle.recording.proofs.Names.{refl, sym, _∙_, ap, ap₂, subst, arith, append-assoc, length-take, length-drop, take-append-drop, take-at, drop-drop, callsOf, unusedOf, blockOf, joined}
+use Rattle.recording.specs.Statements.{Writable, OneRecording}
+use Rattle.recording.proofs.Names.{refl, sym, _∙_, ap, ap₂, subst, arith, append-assoc, length-take, length-drop, take-append-drop, take-at, drop-drop, callsOf, unusedOf, blockOf, pieces}
 use Rattle.recording.proofs.Joins.{join-same}
 use Rattle.recording.proofs.Chunks.{cut-whole, join-at, join-long}
 use Rattle.recording.proofs.Zeros.{zeros-are}
 use Rattle.recording.proofs.Puts.{front-length}
 use Rattle.recording.proofs.Firsts.{first-all}
-use Rattle.recording.proofs.Passed.{Passed, carried}
+use Rattle.recording.proofs.Passed.{BlockPasses, carriedOn}
 use Rattle.recording.proofs.Runs.{Runs, runs-of, calls-length, Counted, heard-counted}
 use Rattle.recording.proofs.Back.{call-in-part}
 use Rattle.calls.proofs.Rest.{all-good-at}
@@ -21,7 +21,7 @@ use Rattle.wire.proofs.Reading.{bytes-take, bytes-drop, word-bytes, word-back, 
 use lib.Seq.{take-all}
 
 -- a block that passes is the one that its number and its calls make
-module _ (p : Progress) (b : List ℕ) (h : Passed p b) (bytes : Bytes b) where
+module _ (p : Progress) (b : List ℕ) (h : BlockPasses p b) (bytes : Bytes b) where
   abbrev calls : List ℕ
   calls = callsOf b
 
@@ -89,13 +89,13 @@ module _ (p : Progress) (b : List ℕ) (h : Passed p b) (bytes : Bytes b) where
   passed-is = parts ∙ ap (λ (x : List ℕ). blockFront (p .blocks) calls ++ x) check-is
 
 -- each block of those that are all taken passes, and all but the last are full
-pub runs-at : {r : List ℕ} {p q : Progress} {k : ℕ} → Runs r p k q → (j : ℕ) → j < k → Passed (progress (p .blocks + j) (fullBlock * (p .blocks + j))) (blockAt r (p .blocks + j))
+pub runs-at : {r : List ℕ} {p q : Progress} {k : ℕ} → Runs r p k q → (j : ℕ) → j < k → BlockPasses (progress (p .blocks + j) (fullBlock * (p .blocks + j))) (blockAt r (p .blocks + j))
 runs-at Runs.done j g = absurd (omega arith)
 runs-at {r} (Runs.more {p = p} h t) zero g =
-    subst (λ (m : ℕ). Passed (progress m (fullBlock * m)) (blockAt r m)) (let e : p .blocks ≡ p .blocks + 0 = omega arith in e)
-    (subst (λ (c : ℕ). Passed (progress (p .blocks) c) (blockAt r (p .blocks))) (h .full) h)
+    subst (λ (m : ℕ). BlockPasses (progress m (fullBlock * m)) (blockAt r m)) (let e : p .blocks ≡ p .blocks + 0 = omega arith in e)
+    (subst (λ (c : ℕ). BlockPasses (progress (p .blocks) c) (blockAt r (p .blocks))) (h .full) h)
 runs-at {r} (Runs.more {p = p} h t) (suc j) g =
-    subst (λ (m : ℕ). Passed (progress m (fullBlock * m)) (blockAt r m)) (let e : p .blocks + 1 + j ≡ p .blocks + suc j = omega arith in e) (runs-at t j (omega arith))
+    subst (λ (m : ℕ). BlockPasses (progress m (fullBlock * m)) (blockAt r m)) (let e : p .blocks + 1 + j ≡ p .blocks + suc j = omega arith in e) (runs-at t j (omega arith))
 
 pub runs-full : {r : List ℕ} {p q : Progress} {k : ℕ} → Runs r p k q → (j : ℕ) → j + 1 < k → countIn (blockAt r (p .blocks + j)) ≡ fullBlock
 runs-full Runs.done j g = absurd (omega arith)
@@ -107,9 +107,9 @@ runs-full {r} (Runs.more {p = p} h (Runs.more h′ t)) (suc j) g =
     ap (λ (m : ℕ). countIn (blockAt r m)) (let e : p .blocks + suc j ≡ p .blocks + 1 + j = omega arith in e) ∙ runs-full (Runs.more h′ t) j (omega arith)
 
 module _ (r : List ℕ) (p : Progress) (bytes : Bytes r) (h : heard r ≡ Heard.Whole p) where
-  passes : (j : ℕ) → j < blocksIn r → Passed (progress j (fullBlock * j)) (blockAt r j)
+  passes : (j : ℕ) → j < blocksIn r → BlockPasses (progress j (fullBlock * j)) (blockAt r j)
   passes j g =
-      subst (λ (m : ℕ). Passed (progress m (fullBlock * m)) (blockAt r m)) (let e : 0 + j ≡ j = omega arith in e) (runs-at (runs-of r (progress 0 0) (blocksIn r) p h) j g)
+      subst (λ (m : ℕ). BlockPasses (progress m (fullBlock * m)) (blockAt r m)) (let e : 0 + j ≡ j = omega arith in e) (runs-at (runs-of r (progress 0 0) (blocksIn r) p h) j g)
 
   full : (j : ℕ) → j + 1 < blocksIn r → length (callsAt r j) ≡ callRoom
   full j g =
@@ -126,12 +126,12 @@ module _ (r : List ℕ) (p : Progress) (bytes : Bytes r) (h : heard r ≡ Heard.
 
   -- as many blocks as were read
   many : blocksFor (callBytes r) ≡ blocksIn r
-  unfolding joined
+  unfolding pieces
   many = by-count (blocksIn r) refl
     where
       by-count : (m : ℕ) → blocksIn r ≡ m → blocksFor (callBytes r) ≡ m
       by-count zero e =
-          ap (λ (m : ℕ). (length (joined (callsAt r) 0 m) + 503) / callRoom) e
+          ap (λ (m : ℕ). (length (pieces (callsAt r) 0 m) + 503) / callRoom) e
       by-count (suc m) e =
           omega (
             arith,
@@ -158,14 +158,14 @@ module _ (r : List ℕ) (p : Progress) (bytes : Bytes r) (h : heard r ≡ Heard.
       ∙ ap (λ (s : List ℕ). callAt s (12 * k)) (calls-are i low))
       ∙ all-good-at (callsAt r i) k (passes i low .good) (omega (arith, ap length (calls-are i low), inside))
 
-  recordable : Recordable (callBytes r)
+  recordable : Writable (callBytes r)
   recordable =
       first-all (callBytes r) 0 (min (recordsIn (callBytes r)) mostCalls) (λ j _ b. each j (omega arith))
       ∙ (let e : 0 + min (recordsIn (callBytes r)) mostCalls ≡ recordsIn (callBytes r) = omega (arith, counted .calls, counted .few) in e)
 
   again : recordingOf (callBytes r) ≡ r
   again =
-      ap (joined (blockFor (callBytes r)) 0) many
+      ap (pieces (blockFor (callBytes r)) 0) many
       ∙ join-same (blockFor (callBytes r)) (blockAt r) 0 (blocksIn r)
       (λ j _ g. ap (blockOf j) (calls-are j (omega arith))
       ∙ sym (passed-is (progress j (fullBlock * j)) (blockAt r j) (passes j (omega arith)) (bytes-take 512 (drop (512 * j) r) (bytes-drop (512 * j) r bytes))))

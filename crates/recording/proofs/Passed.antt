@@ -8,7 +8,7 @@ use borrow.Author.Tests.{eqb-false, leb-false, ltb-false}
 use mathlib.Core.Path.{subst}
 use Rattle.page.specs.Pick.{pick}
 
-pub record Passed (p : Progress) (b : List ℕ) : Type 0 where
+pub record BlockPasses (p : Progress) (b : List ℕ) : Type 0 where
   pub room : p .blocks < mostBlocks
   pub long : length b ≡ blockSize
   pub full : p .calls ≡ fullBlock * p .blocks
@@ -20,10 +20,10 @@ pub record Passed (p : Progress) (b : List ℕ) : Type 0 where
   pub zeros : allZero (unusedOf b) ≡ true
 
 -- what is carried on behind it
-abbrev pub carried : Progress → List ℕ → Progress
-carried p b = progress (p .blocks + 1) (p .calls + countIn b)
+abbrev pub carriedOn : Progress → List ℕ → Progress
+carriedOn p b = progress (p .blocks + 1) (p .calls + countIn b)
 
-pub passed-taken : (p : Progress) (b : List ℕ) → Passed p b → blockTaken p b ≡ Taken.Next (carried p b)
+pub passed-taken : (p : Progress) (b : List ℕ) → BlockPasses p b → blockTaken p b ≡ Taken.Next (carriedOn p b)
 passed-taken p b h =
     sym (judged-next p b (h .checked) (h .numbered) (h .some) (h .few) (h .good) (h .zeros) ∙ taken-judged p b (h .room) (h .long) (h .full))
 
@@ -40,7 +40,7 @@ peel false w x q h = (refl, h)
 same : (a b : ℕ) → not (eqb a b) ≡ false → a ≡ b
 same a b h = eqb-true a b (not-false _ h)
 
-pub next-passed : (p : Progress) (b : List ℕ) (q : Progress) → blockTaken p b ≡ Taken.Next q → Passed p b
+pub next-passed : (p : Progress) (b : List ℕ) (q : Progress) → blockTaken p b ≡ Taken.Next q → BlockPasses p b
 unfolding blockTaken blockJudged
 next-passed p b q h =
     let a = peel _ _ _ q h in
@@ -65,5 +65,5 @@ next-passed p b q h =
     }
 
 -- and what it comes to is what is carried on
-pub next-carried : (p : Progress) (b : List ℕ) (q : Progress) → blockTaken p b ≡ Taken.Next q → q ≡ carried p b
-next-carried p b q h = let e = sym h ∙ passed-taken p b (next-passed p b q h) in let z : q ≡ carried p b = cc in z
+pub next-carried : (p : Progress) (b : List ℕ) (q : Progress) → blockTaken p b ≡ Taken.Next q → q ≡ carriedOn p b
+next-carried p b q h = let e = sym h ∙ passed-taken p b (next-passed p b q h) in let z : q ≡ carriedOn p b = cc in z

@@ -4,7 +4,7 @@ use Rattle.recording.specs.Blocks.{mostBlocks}
 use Rattle.recording.specs.Writing.{Wrote, wrote, recordsIn, badCall, blocksFor, recordingOf}
 use Rattle.recording.specs.Reading.{callBytes, heard, heardAs}
 use Rattle.recording.proofs.Names.{sym, _∙_, ap, ap₂, arith, pick-yes, pick-no, lt-ltb, le-ltb, filledWith, recordingWritten, recordingRead}
-use Rattle.recording.proofs.Firsts.{Accepted, accepted-by}
+use Rattle.recording.proofs.Firsts.{CallsAccepted, accepted-by}
 use Rattle.recording.proofs.Turns.{blocks-length}
 use Rattle.recording.proofs.Runs.{heard-counted}
 
@@ -33,7 +33,7 @@ pub recording-length : (l : List ℕ) → length (recordingOf l) ≡ 512 * block
 recording-length l = blocks-length l 0 (blocksFor l)
 
 -- accepted calls have no more blocks than the most
-pub blocks-few : (l : List ℕ) → Accepted l → blocksFor l ≤ mostBlocks
+pub blocks-few : (l : List ℕ) → CallsAccepted l → blocksFor l ≤ mostBlocks
 blocks-few l h = omega (arith, h .few)
 
 module _ (r before : List ℕ) where

@@ -51,6 +51,6 @@ unfoldable pub unusedOf : List ℕ → List ℕ
 unusedOf b = take (callRoom - callSize * countIn b) (drop (headSize + callSize * countIn b) b)
 
 -- k pieces from piece i on, one behind the other
-unfoldable pub joined : (ℕ → List ℕ) → ℕ → ℕ → List ℕ
-joined f i zero = []
-joined f i (suc k) = f i ++ joined f (i + 1) k
+unfoldable pub pieces : (ℕ → List ℕ) → ℕ → ℕ → List ℕ
+pieces f i zero = []
+pieces f i (suc k) = f i ++ pieces f (i + 1) k

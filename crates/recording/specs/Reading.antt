@@ -1,7 +1,7 @@
 -- A recording read (02, P1): block by block with what is carried from one to the next; refusal 16 with the index of the first bad block, then 12 with the bytes needed.
 use Rattle.recording.specs.Names.{ℕ, zero, suc, _+_, _*_, _/_, Bool, not, List, [], _∷_, eqb, leb, ltb, length, take, drop, pick, _and_, allGood, crc32, true, _<_, _≤_, _≡_, IsTable}
 use Rattle.recording.specs.Names.{Flaw, Heard, Progress, Taken, Written}
-use Rattle.recording.specs.Blocks.{blockSize, fullBlock, checkedSize, mostBlocks, countIn, numberIn, checkIn, callsOf, unusedOf, joined}
+use Rattle.recording.specs.Blocks.{blockSize, fullBlock, checkedSize, mostBlocks, countIn, numberIn, checkIn, callsOf, unusedOf, pieces}
 use Rattle.recording.specs.Writing.{Wrote, wrote, filledWith}
 
 -- only zeros
@@ -56,7 +56,7 @@ abbrev pub callsAt : List ℕ → ℕ → List ℕ
 callsAt r i = callsOf (blockAt r i)
 
 abbrev pub callBytes : List ℕ → List ℕ
-callBytes r = joined (callsAt r) 0 (blocksIn r)
+callBytes r = pieces (callsAt r) 0 (blocksIn r)
 
 -- the reader
 abbrev pub heardAs : Heard → List ℕ → List ℕ → Wrote
@@ -76,4 +76,4 @@ pub record Judgeable (t : List ℕ) (p : Progress) (b : List ℕ) : Type 0 where
 -- what putting the calls of n blocks asks
 pub record Fillable (r : List ℕ) (n room : ℕ) : Type 0 where
   pub all : n ≡ blocksIn r
-  pub held : length (joined (callsAt r) 0 n) ≤ room
+  pub held : length (pieces (callsAt r) 0 n) ≤ room

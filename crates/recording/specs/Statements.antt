@@ -8,29 +8,29 @@ use Rattle.recording.specs.Writing.{recordsIn, badCall, blocksFor, recor
 use Rattle.recording.specs.Reading.{progress, blockTaken, blockAt, blocksIn, onward, heard, callBytes, recordingRead}
 
 -- calls that the writer does not refuse 16
-abbrev pub Recordable : List ℕ → Type 0
-Recordable l = badCall l ≡ recordsIn l
+abbrev pub Writable : List ℕ → Type 0
+Writable l = badCall l ≡ recordsIn l
 
 -- whatever the writer accepts, read back, is that list: the reader hears all of it, and answers as if the calls themselves were put
-pub record ReadBack (l : List ℕ) : Type 0 where
+pub record RecordedBack (l : List ℕ) : Type 0 where
   pub whole : heard (recordingOf l) ≡ Heard.Whole (progress (blocksFor l) (callCount l))
   pub calls : callBytes (recordingOf l) ≡ l
   pub answered : (before : List ℕ) → recordingRead (recordingOf l) before ≡ filledWith l before
 
 abbrev pub RoundTrip : Type 0
-RoundTrip = (l : List ℕ) → Bytes l → Recordable l → ReadBack l
+RoundTrip = (l : List ℕ) → Bytes l → Writable l → RecordedBack l
 
 -- it accepts one drop, whose recording is one block with this check
 abbrev pub oneDrop : List ℕ
 oneDrop = 4 ∷ replicate 11 0
 
 pub record DropRecorded : Type 0 where
-  pub accepted : Recordable oneDrop
+  pub accepted : Writable oneDrop
   pub block : recordingOf oneDrop ≡ (1 ∷ 0 ∷ 0 ∷ 0 ∷ oneDrop) ++ (replicate 492 0 ++ (0x81 ∷ 0xFD ∷ 0xF4 ∷ 0xF8 ∷ []))
 
 -- what the reader accepts is what the writer would write
 abbrev pub OneRecording : Type 0
-OneRecording = (r : List ℕ) (p : Progress) → Bytes r → heard r ≡ Heard.Whole p → Recordable (callBytes r) × (recordingOf (callBytes r) ≡ r)
+OneRecording = (r : List ℕ) (p : Progress) → Bytes r → heard r ≡ Heard.Whole p → Writable (callBytes r) × (recordingOf (callBytes r) ≡ r)
 
 -- call i is the first that is not as said, short, or past the most
 pub record RefusedCall (l : List ℕ) (i : ℕ) : Type 0 where

@@ -1,7 +1,7 @@
 -- Calls as a recording (02, P1): refusal 16 with the index of the first call that is not as said or past the most, then 12 with the bytes needed.
 use Rattle.recording.specs.Names.{ℕ, zero, suc, _+_, _*_, _/_, _%_, _<_, _≤_, _≡_, List, eqb, leb, ltb, length, take, drop, min, pick, _and_}
 use Rattle.recording.specs.Names.{callSize, callAt, isGood, pasted, IsTable, Written}
-use Rattle.recording.specs.Blocks.{blockSize, callRoom, mostBlocks, mostCalls, blockOf, joined}
+use Rattle.recording.specs.Blocks.{blockSize, callRoom, mostBlocks, mostCalls, blockOf, pieces}
 
 -- how many records there are, a short one counted, and the first of n from record i on that is not as said, the one behind them where all are
 abbrev pub recordsIn : List ℕ → ℕ
@@ -27,7 +27,7 @@ blocksFor l = (length l + 503) / callRoom
 
 -- the recording
 abbrev pub recordingOf : List ℕ → List ℕ
-recordingOf l = joined (blockFor l) 0 (blocksFor l)
+recordingOf l = pieces (blockFor l) 0 (blocksFor l)
 
 -- an answer and the lent memory beside it
 pub record Wrote : Type 0 where

@@ -7,7 +7,7 @@ use crate::MOST;
 use crate::Progress;
 use crate::Taken;
 ghost use Rattle.recording.specs.Names.{_≡_, length, pasted, IsTable};
-ghost use Rattle.recording.specs.Blocks.{joined};
+ghost use Rattle.recording.specs.Blocks.{pieces};
 ghost use Rattle.recording.specs.Reading.{allZero, blockJudged, blockTaken, heard, callsAt, Judgeable, Fillable};
 
 // Whether all bytes are zero.
@@ -95,7 +95,7 @@ pub(crate) fn hear(recording: &[u8]) -> Heard
 // The calls of the first n blocks, at the front of a memory that has room for them.
 pub(crate) fn fill(recording: &[u8], n: usize, out: &mut [u8])
     requires { ⌜ Fillable (now recording) n (length (now out)) ⌝ }
-    ensures { λ _. ⌜ now (out .exit) ≡ pasted (now (out .entry)) 0 (joined (callsAt (now (recording .entry))) 0 n) ⌝ }
+    ensures { λ _. ⌜ now (out .exit) ≡ pasted (now (out .entry)) 0 (pieces (callsAt (now (recording .entry))) 0 n) ⌝ }
 {
     let mut at: usize = 0;
     let mut i: usize = 0;

@@ -4,7 +4,7 @@ use Rattle.replay.specs.Names.{allGood, blocksIn, callBytes, callCount, 
 use Rattle.replay.specs.Blocks.{machineBench, machineCalls}
 use Rattle.replay.specs.Statements.{ReplaysAsRun, RecordedReplays}
 use Rattle.replay.proofs.Names.{refl, sym, _∙_, ap, arith, _%_, eq-eqb, and-yes, and-right, goodCalls, callsFrom}
-use Rattle.replay.proofs.Names.{joined, benchBehind, answersOf, blockBench, blockWords}
+use Rattle.replay.proofs.Names.{pieces, benchBehind, answersOf, blockBench, blockWords}
 use Rattle.replay.proofs.Calls.{calls-both}
 use mathlib.Core.List.{append-assoc}
 use Rattle.page.proofs.Picks.{and-left}
@@ -13,7 +13,7 @@ use Rattle.recording.specs.Reading.{progress, blockAt}
 use Rattle.recording.specs.Writing.{blocksFor, recordingOf}
 use Rattle.recording.proofs.Back.{round-trip}
 use Rattle.recording.proofs.Runs.{Runs, runs-of, calls-length, heard-counted}
-use Rattle.recording.proofs.Passed.{Passed}
+use Rattle.recording.proofs.Passed.{BlockPasses}
 use Rattle.unit.specs.Machine
 
 -- calls behind calls
@@ -48,37 +48,37 @@ good-both (c ∷ cs) ds g h = and-yes _ _ (and-left _ _ g) ∙ good-both cs ds (
 
 -- the calls of a block that passes, and of those behind it
 module _ (r : List ℕ) where
-  calls-more : (s : Progress) (k : ℕ) → Passed s (blockAt r (s .blocks))
-      → callsIn (joined (callsAt r) (s .blocks) (suc k)) ≡ callsIn (callsAt r (s .blocks)) ++ callsIn (joined (callsAt r) (s .blocks + 1) k)
-  unfolding joined
+  calls-more : (s : Progress) (k : ℕ) → BlockPasses s (blockAt r (s .blocks))
+      → callsIn (pieces (callsAt r) (s .blocks) (suc k)) ≡ callsIn (callsAt r (s .blocks)) ++ callsIn (pieces (callsAt r) (s .blocks + 1) k)
+  unfolding pieces
   calls-more s k h =
-      calls-both (callsAt r (s .blocks)) (joined (callsAt r) (s .blocks + 1) k) (countIn (blockAt r (s .blocks))) (calls-length s (blockAt r (s .blocks)) h)
+      calls-both (callsAt r (s .blocks)) (pieces (callsAt r) (s .blocks + 1) k) (countIn (blockAt r (s .blocks))) (calls-length s (blockAt r (s .blocks)) h)
 
-  blocks-good : {s q : Progress} {k : ℕ} → Runs r s k q → goodCalls (callsIn (joined (callsAt r) (s .blocks) k)) ≡ true
-  unfolding joined callsFrom allGood
+  blocks-good : {s q : Progress} {k : ℕ} → Runs r s k q → goodCalls (callsIn (pieces (callsAt r) (s .blocks) k)) ≡ true
+  unfolding pieces callsFrom allGood
   blocks-good Runs.done = refl
   blocks-good (Runs.more {p = s} {k = k} h t) =
       ap goodCalls (calls-more s k h)
-      ∙ good-both (callsIn (callsAt r (s .blocks))) (callsIn (joined (callsAt r) (s .blocks + 1) k)) (and-right _ _ (h .good)) (blocks-good t)
+      ∙ good-both (callsIn (callsAt r (s .blocks))) (callsIn (pieces (callsAt r) (s .blocks + 1) k)) (and-right _ _ (h .good)) (blocks-good t)
 
   module _ (m : Lent) (p : Prices) where
     blocks-words : (handed : ℕ) (b : Bench) {s q : Progress} {k : ℕ} → Runs r s k q
-        → blockWords m p handed r b (s .blocks) k ≡ sessionWords m p handed b (callsIn (joined (callsAt r) (s .blocks) k))
-    unfolding blockWords joined sessionWords callsFrom
+        → blockWords m p handed r b (s .blocks) k ≡ sessionWords m p handed b (callsIn (pieces (callsAt r) (s .blocks) k))
+    unfolding blockWords pieces sessionWords callsFrom
     blocks-words handed b Runs.done = refl
     blocks-words handed b (Runs.more {p = s} {k = k} h t) =
         let cs = callsIn (callsAt r (s .blocks)) in
         ap (λ (l : List ℕ). answersOf m p b cs ++ l) (blocks-words handed (benchBehind m p b cs) t)
-        ∙ sym (session-both m p handed b cs (callsIn (joined (callsAt r) (s .blocks + 1) k)))
+        ∙ sym (session-both m p handed b cs (callsIn (pieces (callsAt r) (s .blocks + 1) k)))
         ∙ ap (sessionWords m p handed b) (sym (calls-more s k h))
 
-    blocks-bench : (b : Bench) {s q : Progress} {k : ℕ} → Runs r s k q → blockBench m p r b (s .blocks) k ≡ benchBehind m p b (callsIn (joined (callsAt r) (s .blocks) k))
-    unfolding blockBench joined benchBehind callsFrom
+    blocks-bench : (b : Bench) {s q : Progress} {k : ℕ} → Runs r s k q → blockBench m p r b (s .blocks) k ≡ benchBehind m p b (callsIn (pieces (callsAt r) (s .blocks) k))
+    unfolding blockBench pieces benchBehind callsFrom
     blocks-bench b Runs.done = refl
     blocks-bench b (Runs.more {p = s} {k = k} h t) =
         let cs = callsIn (callsAt r (s .blocks)) in
         blocks-bench (benchBehind m p b cs) t
-        ∙ sym (behind-both m p b cs (callsIn (joined (callsAt r) (s .blocks + 1) k)))
+        ∙ sym (behind-both m p b cs (callsIn (pieces (callsAt r) (s .blocks + 1) k)))
         ∙ ap (benchBehind m p b) (sym (calls-more s k h))
 
 pub replays-as-run : ReplaysAsRun

@@ -1,6 +1,6 @@
 -- What the law of this crate says (02, P1): replaying a recording block by block is running its calls one after another.
 use Rattle.recording.specs.Writing.{blocksFor, recordingOf}
-use Rattle.recording.specs.Statements.{Recordable}
+use Rattle.recording.specs.Statements.{Writable}
 use Rattle.wire.specs.Words.{Bytes}
 use Rattle.unit.specs.Machine
 use Rattle.replay.specs.Names.{ℕ, List, true, _≡_, Lent, Prices, callsIn, allGood, heard, blocksIn, callBytes, Heard, Progress, Bench, sessionWords}
@@ -21,5 +21,5 @@ ReplaysAsRun = (r : List ℕ) (q : Progress) → heard r ≡ Heard.Whole q → (
 -- and calls that are recorded are replayed as they would have been run (02, P1)
 abbrev pub RecordedReplays : Type 0
 RecordedReplays =
-    (l : List ℕ) → Bytes l → Recordable l → (m : Lent) (p : Prices) (handed : ℕ) (b : Bench)
+    (l : List ℕ) → Bytes l → Writable l → (m : Lent) (p : Prices) (handed : ℕ) (b : Bench)
     → blockWords m p handed (recordingOf l) b 0 (blocksFor l) ≡ sessionWords m p handed b (callsIn l)

@@ -1,6 +1,6 @@
 use Rattle.recording.specs.Names.{ℕ, length, pasted}
 use Rattle.recording.specs.Reading.{callsAt}
-use Rattle.recording.proofs.Names.{sym, _∙_, ap, arith, needs, joined}
+use Rattle.recording.proofs.Names.{sym, _∙_, ap, arith, needs, pieces}
 use Rattle.recording.proofs.Runs.{heard-counted}
 use Rattle.recording.proofs.Writes.{filled-short, filled-all, read-good, read-bad}
 use Rattle.recording.proofs.read.Statement.{statement}
@@ -29,7 +29,7 @@ fill-requires c κs =
     let s9 = c .before .before .before .before .before .before .before .before .before in
     let r = s9 .args .recording .now in
     let n = heard-counted r _ (sym (c .before .before .before .before .before .before .hear .ensures) ∙ c .before .before .before .before .h .given .1) in
-    record { all = n .blocks; held = omega (arith, ap (λ (k : ℕ). length (joined (callsAt r) 0 k)) (n .blocks), n .calls, c .before .if1 .left) }
+    record { all = n .blocks; held = omega (arith, ap (λ (k : ℕ). length (pieces (callsAt r) 0 k)) (n .blocks), n .calls, c .before .if1 .left) }
 
 same-length : tie.Need-same-length
 same-length c = search needs
@@ -43,7 +43,7 @@ returns-2 c =
     let e = sym (s9 .hear .ensures) ∙ c .before .before .before .before .before .before .before .h .given .1 in
     let n = heard-counted r _ e in
     filled-all _ o _ (n .calls) _ (c .before .before .before .before .if1 .left)
-    (c .before .before .fill .ensures ∙ ap (λ (k : ℕ). pasted o 0 (joined (callsAt r) 0 k)) (n .blocks))
+    (c .before .before .fill .ensures ∙ ap (λ (k : ℕ). pasted o 0 (pieces (callsAt r) 0 k)) (n .blocks))
     ∙ read-good r o _ e
 
 enum-known-h-2 : tie.Need-enum-known-h-2

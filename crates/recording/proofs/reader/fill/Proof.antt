@@ -1,6 +1,6 @@
 use Rattle.recording.specs.Names.{_≡_, _+_, _-_, _≤_, length, pasted}
 use Rattle.recording.specs.Reading.{callsAt}
-use Rattle.recording.proofs.Names.{refl, sym, _∙_, ap, arith, needs, joined, callsOf}
+use Rattle.recording.proofs.Names.{refl, sym, _∙_, ap, arith, needs, pieces, callsOf}
 use Rattle.recording.proofs.Joins.{join-start, put-none}
 use Rattle.recording.proofs.Turns.{piece-fits, piece-turn}
 use Rattle.recording.proofs.reader.fill.Statement.{statement}
@@ -8,8 +8,8 @@ use Rattle.recording.proofs.reader.fill.Tie as tie
 
 abbrev Inv-loop : tie.InvT-loop
 Inv-loop recording n out₀ at₀ i₀ out at i =
-    (i ≤ n) × (length out ≡ length out₀) × (at + length (joined (callsAt recording) i (n - i)) ≤ length out₀)
-    × (pasted out₀ 0 (joined (callsAt recording) 0 n) ≡ pasted out at (joined (callsAt recording) i (n - i)))
+    (i ≤ n) × (length out ≡ length out₀) × (at + length (pieces (callsAt recording) i (n - i)) ≤ length out₀)
+    × (pasted out₀ 0 (pieces (callsAt recording) 0 n) ≡ pasted out at (pieces (callsAt recording) i (n - i)))
 
 abbrev μ-loop : tie.MeasureT-loop
 μ-loop recording n out₀ at₀ i₀ out at i = n - i
@@ -58,7 +58,7 @@ loop-again c =
     let i = s7 .loop .i in
     let e = s4 .calls-of .ensures ∙ ap callsOf (s4 .before .piece .ensures) in
     let h = c .before .before .before .before .before .before .loop-test .taken in
-    let fits = let z : s7 .loop .at + length (joined f i (n - i)) ≤ length (s7 .loop .out) = omega (arith, s7 .loop .inv .1, s7 .loop .inv .2) in z in (
+    let fits = let z : s7 .loop .at + length (pieces f i (n - i)) ≤ length (s7 .loop .out) = omega (arith, s7 .loop .inv .1, s7 .loop .inv .2) in z in (
       omega arith,
       c .before .before .put-bytes .kept .0 ∙ s7 .loop .inv .1,
       omega (arith, piece-fits f n i (s7 .loop .at) (s7 .loop .out) _ h fits e, s7 .loop .inv .1),

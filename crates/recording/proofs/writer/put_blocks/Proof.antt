@@ -1,6 +1,6 @@
 use Rattle.recording.specs.Names.{ℕ, List, _≡_, _-_, _*_, _≤_, length, pasted}
 use Rattle.recording.specs.Writing.{blockFor}
-use Rattle.recording.proofs.Names.{refl, sym, _∙_, ap, arith, needs, joined, blockOf}
+use Rattle.recording.proofs.Names.{refl, sym, _∙_, ap, arith, needs, pieces, blockOf}
 use Rattle.recording.proofs.Joins.{join-start, put-none}
 use Rattle.recording.proofs.Turns.{block-turn, calls-few, calls-whole}
 use Rattle.recording.proofs.writer.put_blocks.Statement.{statement}
@@ -8,7 +8,7 @@ use Rattle.recording.proofs.writer.put_blocks.Tie as tie
 
 abbrev Inv-loop : tie.InvT-loop
 Inv-loop calls n out₀ t i₀ out i =
-    (i ≤ n) × (length out ≡ length out₀) × (pasted out₀ 0 (joined (blockFor calls) 0 n) ≡ pasted out (512 * i) (joined (blockFor calls) i (n - i)))
+    (i ≤ n) × (length out ≡ length out₀) × (pasted out₀ 0 (pieces (blockFor calls) 0 n) ≡ pasted out (512 * i) (pieces (blockFor calls) i (n - i)))
 
 abbrev μ-loop : tie.MeasureT-loop
 μ-loop calls n out₀ t i₀ out i = n - i
@@ -73,7 +73,7 @@ returns c =
     let s5 = c .before .before .before .before .before in
     let f = blockFor (s5 .args .calls .now) in
     sym (c .before .loop .inv .2 ∙ put-none f (s5 .args .n) (c .before .loop .i) (512 * c .before .loop .i) (c .before .loop .out) (c .loop-test .left))
-    ∙ ap (λ (k : ℕ). pasted (s5 .args .out .now) 0 (joined f 0 k)) (s5 .pre .all)
+    ∙ ap (λ (k : ℕ). pasted (s5 .args .out .now) 0 (pieces f 0 k)) (s5 .pre .all)
 
 pub put-blocks-spec : {M : Type 1} → statement M
 put-blocks-spec =
