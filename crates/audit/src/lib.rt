@@ -1,3 +1,4 @@
+#![tactic(auto)]
 // Images that were built elsewhere: checked, and listed as the builder's records.
 mod groups;
 mod pages;
@@ -11,7 +12,7 @@ use page::{MEGABYTES, PhysicalAddress};
 use walk::{First, Table};
 
 // What the check of an image answers: good, with the number of its pages, or a refusal, with the address of the first refused word.
-#[derive(Drop)]
+#[derive(Clone, Copy)]
 pub enum Verdict {
     Good(usize),
     BadMemory,
@@ -20,21 +21,21 @@ pub enum Verdict {
 }
 
 // What a look at some words of a table finds: how many pages they say, or the index of the first whose group is not all equal.
-#[derive(Drop)]
+#[derive(Clone, Copy)]
 pub(crate) enum Scan {
     Pages(usize),
     Broken(usize),
 }
 
 // How many pages some words say, where none takes more than a word, and whether one may.
-#[derive(Drop)]
+#[derive(Clone, Copy)]
 pub(crate) struct Tally {
     pub pages: usize,
     pub more: bool,
 }
 
 // What listing an image answers: the length of the records, or a refusal; a list that is too short with the number of pages.
-#[derive(Drop)]
+#[derive(Clone, Copy)]
 pub enum Inventory {
     Length(usize),
     BadMemory,

@@ -1,3 +1,4 @@
+#![tactic(auto)]
 // The slots as two lanes of register words, with the lock base and the victim.
 pub mod slots;
 
@@ -8,7 +9,7 @@ ghost use Rattle.bank.specs.Victim.{next_slot, next_victim};
 use lanes::{CAM_LIMIT, SLOTS};
 use page::Words;
 
-#[derive(Drop)]
+#[derive(Clone, Copy)]
 pub struct Bank {
     pub cam: [u32; SLOTS],
     pub ram: [u32; SLOTS],
@@ -17,7 +18,7 @@ pub struct Bank {
 }
 
 // What a call puts into the slots.
-#[derive(Drop)]
+#[derive(Clone, Copy)]
 pub enum Fill {
     Nothing,
     Slot(Words),

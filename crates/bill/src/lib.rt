@@ -1,3 +1,4 @@
+#![tactic(auto)]
 // The walk bill: a running total and a smoothed miss figure in f64, and what it keeps of each memory.
 mod figures;
 
@@ -8,7 +9,7 @@ use memory::{Place, Source};
 use prices::{Prices, Side};
 
 // The running total in nanoseconds, the smoothed miss figure, and the two sides.
-#[derive(Drop)]
+#[derive(Clone, Copy)]
 pub struct Bill {
     pub total: f64,
     pub misses: f64,
@@ -17,7 +18,7 @@ pub struct Bill {
 }
 
 // What an attempt did with the slots: it looked in none, one matched, or none did.
-#[derive(Drop)]
+#[derive(Clone, Copy)]
 pub enum Seen {
     Nothing,
     Match,

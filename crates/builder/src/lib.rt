@@ -1,3 +1,4 @@
+#![tactic(auto)]
 // The builder: the tables of a list of records, in a lent memory, or why not.
 mod image;
 mod places;
@@ -9,7 +10,7 @@ use page::PhysicalAddress;
 use records::Checked;
 
 // What the builder answers: the image's length, or a refusal with its record's index or the count of the records.
-#[derive(Drop)]
+#[derive(Clone, Copy)]
 pub enum Built {
     Length(usize),
     BadMemory,

@@ -1,3 +1,4 @@
+#![tactic(auto)]
 // A call as a record of 12 bytes.
 pub mod forms;
 
@@ -10,7 +11,7 @@ use page::{Access, VirtualAddress};
 pub const SIZE: usize = 12;
 
 // A call, or a record that is none.
-#[derive(Drop)]
+#[derive(Clone, Copy)]
 pub enum Call {
     Write(u32, u16),
     Read(u32),

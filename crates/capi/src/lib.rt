@@ -1,3 +1,4 @@
+#![tactic(auto)]
 // The byte boundary: the builder, images from elsewhere, two images compared, sessions, recordings and the fetch for callers that speak C, over numbers and bytes alone.
 mod numbers;
 

@@ -1,3 +1,4 @@
+#![tactic(auto)]
 // What a write asks for, by its offset and value alone.
 ghost use Rattle.std.specs.Prelude.{◌≡◌};
 ghost use Rattle.registers.specs.Table.{command_of, control_command, lock_command, load_command, when_bit};

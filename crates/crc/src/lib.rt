@@ -1,3 +1,4 @@
+#![tactic(auto)]
 // CRC-32 of IEEE 802.3, reflected: eight bytes at a time, by a table that is laid once for as many lists as one likes.
 mod words;
 

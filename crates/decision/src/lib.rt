@@ -1,3 +1,4 @@
+#![tactic(auto)]
 // What an access and a matching slot come to, what an answer leaves, and the shift report.
 ghost use Rattle.decision.specs.Names.{◌≡◌};
 ghost use Rattle.decision.specs.Decisions.{by_access, plainly, by_match, settled, metered_once, tally_of};
@@ -12,7 +13,7 @@ use registers::{Answer, Fault, Pending};
 use walk::Found;
 
 // What an attempt comes to: its answer, what it puts into the slots, the words it read and what it did with the slots.
-#[derive(Drop)]
+#[derive(Clone, Copy)]
 pub struct Decision {
     pub answer: Answer,
     pub fill: Fill,
@@ -21,7 +22,7 @@ pub struct Decision {
 }
 
 // Physical minus virtual, or why not.
-#[derive(Drop)]
+#[derive(Clone, Copy)]
 pub enum Shift {
     Distance(i64),
     Fault,
@@ -29,7 +30,7 @@ pub enum Shift {
 }
 
 // What a call says.
-#[derive(Drop)]
+#[derive(Clone, Copy)]
 pub enum Said {
     Answered(Answer),
     Reported(Shift),

@@ -1,3 +1,4 @@
+#![tactic(auto)]
 // One lane of the slots' words: the flushes, and what is in range.
 ghost use Rattle.lanes.specs.Names.{◌≡◌};
 ghost use Rattle.lanes.specs.Lanes.{ram_ok, cams_ok, rams_ok, flushed_all, flushed_entry};
@@ -11,7 +12,7 @@ pub const SLOTS: usize = 32;
 pub const CAM_LIMIT: u32 = 262144;
 
 // The slot that matches an address.
-#[derive(Drop)]
+#[derive(Clone, Copy)]
 pub enum Matched {
     At(usize),
     Nothing,

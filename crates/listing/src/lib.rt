@@ -1,3 +1,4 @@
+#![tactic(auto)]
 // A list of mappings as text: a line for each mapping, read into the builder's records and printed from them.
 ghost use Rattle.listing.specs.Names.{◌≡◌};
 ghost use Rattle.listing.specs.Prints.{printing, print_text};
@@ -16,7 +17,7 @@ mod text;
 mod tokens;
 
 // What a word says as a number in hex: a value of 32 bits, more than that, or none.
-#[derive(Drop)]
+#[derive(Clone, Copy)]
 pub(crate) enum Number {
     Value(u32),
     TooLarge,
@@ -24,7 +25,7 @@ pub(crate) enum Number {
 }
 
 // Bytes that stand together: of one line, outside a comment, blanks, of one word.
-#[derive(Drop)]
+#[derive(Clone, Copy)]
 pub(crate) enum Class {
     Inline,
     Plain,
@@ -33,21 +34,21 @@ pub(crate) enum Class {
 }
 
 // A part of a text, from a byte up to another.
-#[derive(Drop)]
+#[derive(Clone, Copy)]
 pub struct Span {
     pub from: usize,
     pub to: usize,
 }
 
 // The kind that a word names, if it names one.
-#[derive(Drop)]
+#[derive(Clone, Copy)]
 pub(crate) enum Named {
     Known(Kind),
     Unknown,
 }
 
 // What a word says where an address is to stand.
-#[derive(Drop)]
+#[derive(Clone, Copy)]
 pub(crate) enum Address {
     At(u32),
     Missing,
@@ -57,7 +58,7 @@ pub(crate) enum Address {
 }
 
 // What is wrong with a text.
-#[derive(Drop)]
+#[derive(Clone, Copy)]
 pub enum Wrong {
     UnknownKind,
     VirtualNotHex,
@@ -75,7 +76,7 @@ pub enum Wrong {
 }
 
 // What a line says.
-#[derive(Drop)]
+#[derive(Clone, Copy)]
 pub(crate) enum Said {
     Nothing,
     Mapped(Mapping),
@@ -83,7 +84,7 @@ pub(crate) enum Said {
 }
 
 // What a text is read to: how many mappings, or the first bad line, counted from 1 (0: the text as a whole), and what is wrong; or that the memories are too short.
-#[derive(Drop)]
+#[derive(Clone, Copy)]
 pub enum Listed {
     Mappings(usize),
     Bad(u32, Wrong),
@@ -110,7 +111,7 @@ pub fn read(text: &[u8], records: &mut [u8], lines: &mut [u32]) -> Listed
 }
 
 // What printing answers: the text's length, that the records are no list of well-formed ones, or that the memory is too short.
-#[derive(Drop)]
+#[derive(Clone, Copy)]
 pub enum Printed {
     Length(usize),
     NoList,

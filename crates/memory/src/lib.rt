@@ -1,3 +1,4 @@
+#![tactic(auto)]
 // The two lent memories, where a descriptor's four bytes lie, and the part that holds them.
 mod spans;
 
@@ -8,7 +9,7 @@ ghost use Rattle.memory.specs.Memory.{memory_ok, lent, lent_ok, place_of, place_
 use page::PhysicalAddress;
 
 // Where four bytes lie: at an offset of the on-chip memory, of the external one, or in neither.
-#[derive(Drop)]
+#[derive(Clone, Copy)]
 pub enum Place {
     OnChip(usize),
     External(usize),
@@ -16,14 +17,14 @@ pub enum Place {
 }
 
 // A word that was read: its address and the place that holds it.
-#[derive(Drop)]
+#[derive(Clone, Copy)]
 pub struct Source {
     pub at: PhysicalAddress,
     pub place: Place,
 }
 
 // The words that a walk read, in order.
-#[derive(Drop)]
+#[derive(Clone, Copy)]
 pub enum Reads {
     Nothing,
     One(Source),

@@ -1,3 +1,4 @@
+#![tactic(auto)]
 // The meters: three counts, each of which stops at 4,294,967,295, and one posting to them.
 ghost use Rattle.meters.specs.Names.{◌≡◌};
 ghost use Rattle.meters.specs.Posted.{stopped, no_meters, no_tally, posted};
@@ -6,7 +7,7 @@ ghost use Rattle.meters.specs.Posted.{stopped, no_meters, no_tally, posted};
 pub const STOP: u32 = 4294967295;
 
 // Fresh requests and retries that got an address or a fault, and descriptor words read.
-#[derive(Drop)]
+#[derive(Clone, Copy)]
 pub struct Meters {
     pub fresh: u32,
     pub retries: u32,
@@ -14,7 +15,7 @@ pub struct Meters {
 }
 
 // What one call adds to each meter.
-#[derive(Drop)]
+#[derive(Clone, Copy)]
 pub struct Tally {
     pub fresh: u32,
     pub retries: u32,

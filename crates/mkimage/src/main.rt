@@ -1,3 +1,4 @@
+#![tactic(auto)]
 // Records on standard input; on standard output the image built at 20000000 hex, or the refusal.
 mod output;
 

@@ -6,7 +6,7 @@ use libc::STDIN_FILENO;
 const NAME: usize = 4160;
 
 // What reading a file came to: how many bytes, or a failure that has been said.
-#[derive(Drop)]
+#[derive(Clone, Copy)]
 pub enum Got {
     Bytes(usize),
     Failed,
@@ -103,7 +103,7 @@ fn beside(path: &[u8], name: &mut [u8]) -> usize {
 }
 
 // A new file beside a path, whose name it takes once it is whole: its descriptor, negative where there is none, its name and the bytes of that.
-#[derive(Drop)]
+#[derive(Clone, Copy)]
 pub struct Fresh {
     pub fd: i32,
     pub name: [u8; NAME],

@@ -9,7 +9,7 @@ use page::PhysicalAddress;
 pub const ROOM: usize = memory::LONGEST + 1;
 
 // An image that was read: its bytes and its base; or what the program then answers, the error said.
-#[derive(Drop)]
+#[derive(Clone, Copy)]
 pub enum Image {
     Read(usize, u32),
     Failed(u32),

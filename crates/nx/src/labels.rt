@@ -11,7 +11,7 @@ const RIGHT: u64 = 1120;
 const LONGEST: usize = 60;
 
 // A row, and how far the labels under it reach, in its upper and in its lower lane.
-#[derive(Drop)]
+#[derive(Clone, Copy)]
 struct Lanes {
     row: u32,
     upper: u64,
@@ -19,7 +19,7 @@ struct Lanes {
 }
 
 // A label under a row: where its line stands, and from where to where it reaches.
-#[derive(Drop)]
+#[derive(Clone, Copy)]
 struct Label {
     x: u64,
     from: u64,

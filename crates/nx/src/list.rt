@@ -15,7 +15,7 @@ pub const TEXT: usize = 262145;
 pub const RECORDS: usize = records::SIZE * records::MOST;
 
 // A list that was read: the bytes of its text and of its records; or nothing, the error said.
-#[derive(Drop)]
+#[derive(Clone, Copy)]
 pub enum Loaded {
     List(usize, usize),
     Failed,

@@ -1,3 +1,4 @@
+#![tactic(auto)]
 // nx: lists of mappings as text, their tables, sessions on the model, recorded and replayed, images from elsewhere, and two images compared, for people.
 mod args;
 mod boxes;

@@ -17,7 +17,7 @@ const LENT: usize = 3;
 const PRICE: usize = 4;
 
 // A memory: where the word stands that names its file, 0 where none does, its base, its price, and whether that is given.
-#[derive(Drop)]
+#[derive(Clone, Copy)]
 pub struct Lent {
     pub file: usize,
     pub base: u32,
@@ -26,21 +26,21 @@ pub struct Lent {
 }
 
 // Both memories.
-#[derive(Drop)]
+#[derive(Clone, Copy)]
 pub struct Options {
     pub onchip: Lent,
     pub external: Lent,
 }
 
 // What the words say; or nothing, the error said.
-#[derive(Drop)]
+#[derive(Clone, Copy)]
 pub enum Words {
     For(Options),
     Bad,
 }
 
 // What the words say with one group more, and how many words that has; or nothing, the error said.
-#[derive(Drop)]
+#[derive(Clone, Copy)]
 pub enum More {
     With(Options, usize),
     Bad,

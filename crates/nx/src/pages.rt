@@ -12,7 +12,7 @@ pub const RECORDS: usize = records::SIZE * 16384;
 const FULL: usize = 65536 - listing::WIDEST;
 
 // The pages of an image that was read: the bytes of their records; or what the program then answers, the error said.
-#[derive(Drop)]
+#[derive(Clone, Copy)]
 pub enum Pages {
     Records(usize),
     Failed(u32),

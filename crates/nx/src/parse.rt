@@ -5,7 +5,7 @@ ghost use Rattle.std.specs.Prelude.{◌<◌, ◌≤◌, length};
 const MOST_DIGITS: usize = 9;
 
 // What a word says as a hex number of 32 bits.
-#[derive(Drop)]
+#[derive(Clone, Copy)]
 pub enum Number {
     Value(u32),
     TooLarge,
@@ -13,7 +13,7 @@ pub enum Number {
 }
 
 // What a word says as a decimal with at most two places: a whole number and what divides it.
-#[derive(Drop)]
+#[derive(Clone, Copy)]
 pub enum Fixed {
     Over(u64, u64),
     Bad,
@@ -225,7 +225,7 @@ pub(crate) fn hex(w: &[u8]) -> Number {
 }
 
 // The whole number that decimal digits write, and whether all are digits.
-#[derive(Drop)]
+#[derive(Clone, Copy)]
 pub struct Digits {
     pub value: u64,
     pub good: bool,

@@ -12,7 +12,7 @@ use recording::Progress;
 const CALLS: usize = calls::SIZE * recording::FULL;
 
 // What writing a script's calls came to: how many there are, or a failure that has been said.
-#[derive(Drop)]
+#[derive(Clone, Copy)]
 enum Wrote {
     Calls(usize),
     Failed,

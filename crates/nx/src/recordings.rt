@@ -4,7 +4,7 @@ use crate::{files, list, parse, text};
 use recording::{Flaw, Progress, Taken};
 
 // What comes next in a file: one more block and how far it goes, the end, a block that is refused, or a failure that has been said.
-#[derive(Drop)]
+#[derive(Clone, Copy)]
 pub enum Next {
     Block(Progress),
     End,
@@ -13,14 +13,14 @@ pub enum Next {
 }
 
 // What the first time came to: how many blocks and calls there are; or what the program then answers, all said.
-#[derive(Drop)]
+#[derive(Clone, Copy)]
 pub enum Accepted {
     Whole(Progress),
     Failed(u32),
 }
 
 // What the second time has next: a block and how far it goes; or nothing more, why having been said.
-#[derive(Drop)]
+#[derive(Clone, Copy)]
 pub enum Again {
     Block(Progress),
     Stopped,

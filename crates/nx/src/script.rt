@@ -56,7 +56,7 @@ pub const NO_ROOM: usize = 13;
 pub const FINE: usize = 14;
 
 // What a line says.
-#[derive(Drop)]
+#[derive(Clone, Copy)]
 pub enum Step {
     Nothing,
     Make(Call),

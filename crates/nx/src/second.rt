@@ -2,7 +2,7 @@
 use walk::{First, Table};
 
 // A second-level table, by its kind and where it stands; or none.
-#[derive(Drop)]
+#[derive(Clone, Copy)]
 pub enum Second {
     At(Table, u32),
     Nothing,

@@ -1,3 +1,4 @@
+#![tactic(auto)]
 // Addresses, accesses, kinds of page, and the two words of a slot in register layout.
 ghost use Rattle.std.specs.Prelude.{◌≡◌, ◌-◌, ◌^◌};
 ghost use Rattle.page.specs.Low.{upper, joined};
@@ -14,20 +15,20 @@ pub const MEGABYTE: u32 = 1048576;
 pub const LIMIT: u32 = 16777216;
 
 // An address of the DSP.
-#[derive(Drop)]
+#[derive(Clone, Copy)]
 pub struct VirtualAddress(pub u32);
 
 // An address of the memories.
-#[derive(Drop)]
+#[derive(Clone, Copy)]
 pub struct PhysicalAddress(pub u32);
 
-#[derive(Drop)]
+#[derive(Clone, Copy)]
 pub enum Access {
     Read,
     Write,
 }
 
-#[derive(Drop)]
+#[derive(Clone, Copy)]
 pub enum Kind {
     Section,
     Large,
@@ -36,7 +37,7 @@ pub enum Kind {
 }
 
 // A slot's two words.
-#[derive(Drop)]
+#[derive(Clone, Copy)]
 pub struct Words {
     pub cam: u32,
     pub ram: u32,

@@ -1,3 +1,4 @@
+#![tactic(auto)]
 // Where two images part: what remains of one from the first word that differs, and how many words do.
 mod words;
 
@@ -5,14 +6,14 @@ ghost use Rattle.parting.specs.Names.{◌≡◌, ◌/◌, ◌≤◌, drop, lengt
 ghost use Rattle.parting.specs.Parting.{whole_words, owner_at, start_in, part_bytes, part_source, comparison_of};
 
 // The image that a part is of.
-#[derive(Drop)]
+#[derive(Clone, Copy)]
 pub enum Owner {
     New,
     Signed,
 }
 
 // What comparing two images answers: a refusal, or whose the part is, where it begins and how many words differ over the common length.
-#[derive(Drop)]
+#[derive(Clone, Copy)]
 pub enum Comparison {
     BadLength,
     Parted(Owner, usize, usize),

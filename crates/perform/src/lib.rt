@@ -1,3 +1,4 @@
+#![tactic(auto)]
 // A plan performed: on the lanes of the slots in place, on the rest of the parts by value.
 ghost use Rattle.perform.specs.Names.{◌≡◌, lent, setting, bank_of, Spanned, setting_at};
 ghost use Rattle.perform.specs.Performed.{performed, uncharged_performed, quiet_performed, Fit, Performs};
@@ -18,7 +19,7 @@ mod attempt;
 mod charge;
 
 // What a walk finds, how many words it read, where the last one lies, and the bill after them.
-#[derive(Drop)]
+#[derive(Clone, Copy)]
 pub(crate) struct Charged {
     found: Found,
     words: u32,
@@ -27,7 +28,7 @@ pub(crate) struct Charged {
 }
 
 // What an attempt puts into the slots, leaves and says.
-#[derive(Drop)]
+#[derive(Clone, Copy)]
 pub(crate) struct After {
     fill: Fill,
     pending: Pending,
@@ -38,7 +39,7 @@ pub(crate) struct After {
 }
 
 // What a plan leaves of the parts beside the lanes, and says: from is where the last word of a walk lies, nowhere where none was made.
-#[derive(Drop)]
+#[derive(Clone, Copy)]
 pub struct Performed {
     pub registers: Registers,
     pub lock: u8,

@@ -1,3 +1,4 @@
+#![tactic(auto)]
 // What a call is to do, by the registers, the pending fault and what was tested: refused with a number, or one thing to be performed.
 ghost use Rattle.plan.specs.Names.{◌≡◌, ◌and◌};
 ghost use Rattle.bill.specs.Bill.{bill_ok};
@@ -10,7 +11,7 @@ use page::{Access, LIMIT, VirtualAddress};
 use registers::{Command, Fault, Pending, Setting, Tending, offsets};
 
 // Why the unit tries an address.
-#[derive(Drop)]
+#[derive(Clone, Copy)]
 pub enum Reason {
     Request,
     Retry,
@@ -18,7 +19,7 @@ pub enum Reason {
 }
 
 // What is to be done. A setting is the offset of a register and the bits that are kept; a refused shift report reports.
-#[derive(Drop)]
+#[derive(Clone, Copy)]
 pub enum Plan {
     Refused(u8),
     Done,

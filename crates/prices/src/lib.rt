@@ -1,3 +1,4 @@
+#![tactic(auto)]
 // What a word costs: a memory's price, flat or by row, and what is kept of a memory to tell its row.
 ghost use Rattle.prices.specs.Names.{◌≡◌};
 ghost use Rattle.prices.specs.Prices.{figure_ok, price_ok, prices_ok, row_of, row_price, word_price, side_read, fresh_side};
@@ -8,28 +9,28 @@ use page::PhysicalAddress;
 pub const ROW_BYTES: u32 = 1024;
 
 // A memory's price for a word, in nanoseconds: always the same, or by whether the row is the last one read.
-#[derive(Drop)]
+#[derive(Clone, Copy)]
 pub enum Price {
     Flat(f64),
     Row { same: f64, fresh: f64 },
 }
 
 // The prices of the two memories.
-#[derive(Drop)]
+#[derive(Clone, Copy)]
 pub struct Prices {
     pub onchip: Price,
     pub external: Price,
 }
 
 // The row last read.
-#[derive(Drop)]
+#[derive(Clone, Copy)]
 pub enum LastRow {
     Never,
     At(u32),
 }
 
 // What the bill keeps of one memory.
-#[derive(Drop)]
+#[derive(Clone, Copy)]
 pub struct Side {
     pub last: LastRow,
 }

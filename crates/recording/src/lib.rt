@@ -1,3 +1,4 @@
+#![tactic(auto)]
 // Recorded sessions: calls in blocks of 512 bytes, each with its number and its check, written and read back.
 mod reader;
 mod writer;
@@ -19,7 +20,7 @@ const CALL_ROOM: usize = 504;
 pub const MOST: usize = 65536;
 
 // What is wrong with a block, the first thing of several.
-#[derive(Drop)]
+#[derive(Clone, Copy)]
 pub enum Flaw {
     TooMany,
     Short,
@@ -32,28 +33,28 @@ pub enum Flaw {
 }
 
 // What is carried from block to block: how many blocks and calls there were.
-#[derive(Drop)]
+#[derive(Clone, Copy)]
 pub struct Progress {
     pub blocks: usize,
     pub calls: usize,
 }
 
 // What one more block comes to.
-#[derive(Drop)]
+#[derive(Clone, Copy)]
 pub enum Taken {
     Next(Progress),
     Refused(Flaw),
 }
 
 // What all blocks come to: how many and how many calls, or the index of the first bad one.
-#[derive(Drop)]
+#[derive(Clone, Copy)]
 pub enum Heard {
     Whole(Progress),
     Bad(usize),
 }
 
 // What writing or reading a recording answers: the bytes written; the index of the first bad call or block; or the bytes that are needed.
-#[derive(Drop)]
+#[derive(Clone, Copy)]
 pub enum Written {
     Length(usize),
     Bad(usize),

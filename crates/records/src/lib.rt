@@ -1,3 +1,4 @@
+#![tactic(auto)]
 // The builder's input: records of 12 bytes as mappings, what makes one proper, and which addresses it has.
 mod bitmap;
 pub mod lists;
@@ -15,7 +16,7 @@ pub const SIZE: usize = 12;
 pub const MOST: usize = 1024;
 
 // A page of virtual addresses, where it lies, and the access to it.
-#[derive(Drop)]
+#[derive(Clone, Copy)]
 pub struct Mapping {
     pub at: VirtualAddress,
     pub to: PhysicalAddress,
@@ -24,14 +25,14 @@ pub struct Mapping {
 }
 
 // The mapping that holds an address, if one does.
-#[derive(Drop)]
+#[derive(Clone, Copy)]
 pub enum Held {
     By(Mapping),
     Nobody,
 }
 
 // What the check of a list finds: nothing, or the first refusal with its record's index.
-#[derive(Drop)]
+#[derive(Clone, Copy)]
 pub enum Checked {
     Fine,
     BadRecord(usize),
@@ -39,7 +40,7 @@ pub enum Checked {
 }
 
 // What a list means at an address: a physical byte, or which fault.
-#[derive(Drop)]
+#[derive(Clone, Copy)]
 pub enum Meaning {
     Byte(PhysicalAddress),
     Permission,

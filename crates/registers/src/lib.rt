@@ -1,3 +1,4 @@
+#![tactic(auto)]
 // The registers: their types and Table 3, what is in range, and a slot in register form.
 pub mod offsets;
 pub mod values;
@@ -8,7 +9,7 @@ ghost use Rattle.registers.specs.Fields.{is_on, is_walking, fresh_registers, ent
 
 use page::{Access, LIMIT, PhysicalAddress, VirtualAddress, Words};
 
-#[derive(Drop)]
+#[derive(Clone, Copy)]
 pub enum Fault {
     Translation,
     Miss,
@@ -17,14 +18,14 @@ pub enum Fault {
 }
 
 // The pending fault: nothing, or its kind with the address and access of the request.
-#[derive(Drop)]
+#[derive(Clone, Copy)]
 pub enum Pending {
     Nothing,
     Held(Fault, VirtualAddress, Access),
 }
 
 // What a call answers.
-#[derive(Drop)]
+#[derive(Clone, Copy)]
 pub enum Answer {
     Address(PhysicalAddress),
     Fault(Fault),
@@ -34,7 +35,7 @@ pub enum Answer {
 }
 
 // A slot in register form.
-#[derive(Drop)]
+#[derive(Clone, Copy)]
 pub struct Entry {
     pub camhi: u16,
     pub camlo: u16,
@@ -43,7 +44,7 @@ pub struct Entry {
 }
 
 // The registers that keep a value of their own: staged is what load stores, copied what copy read back.
-#[derive(Drop)]
+#[derive(Clone, Copy)]
 pub struct Registers {
     pub control: u16,
     pub base: PhysicalAddress,
@@ -53,7 +54,7 @@ pub struct Registers {
 }
 
 // A register that a write sets, with the bits that are kept.
-#[derive(Drop)]
+#[derive(Clone, Copy)]
 pub enum Setting {
     Control(u16),
     BaseHigh(u16),
@@ -65,7 +66,7 @@ pub enum Setting {
 }
 
 // What a write does to the slots alone.
-#[derive(Drop)]
+#[derive(Clone, Copy)]
 pub enum Tending {
     Lock(u8, u8),
     Flush,
@@ -73,7 +74,7 @@ pub enum Tending {
 }
 
 // What a write asks for.
-#[derive(Drop)]
+#[derive(Clone, Copy)]
 pub enum Command {
     Refused(u8),
     Nothing,

@@ -1,3 +1,4 @@
+#![tactic(auto)]
 // A run: every call of a list in order, its answers and the state after the last one written.
 pub mod answers;
 

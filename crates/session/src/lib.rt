@@ -1,3 +1,4 @@
+#![tactic(auto)]
 // A session on the bench: a device, a bill and meters, and one call after another.
 ghost use Rattle.session.specs.Names.{◌≡◌};
 ghost use Rattle.memory.specs.Memory.{lent};
@@ -15,7 +16,7 @@ use registers::Answer;
 use unit::{Device, Outcome, Told};
 
 // A device with the bill and the meters that its calls are posted to.
-#[derive(Drop)]
+#[derive(Clone, Copy)]
 pub struct Bench {
     pub device: Device,
     pub bill: Bill,
@@ -23,7 +24,7 @@ pub struct Bench {
 }
 
 // The bench after a call, what the call said, and where the last word of its walk lies, nowhere where it made none.
-#[derive(Drop)]
+#[derive(Clone, Copy)]
 pub struct Stepped {
     pub bench: Bench,
     pub said: Said,

@@ -1,3 +1,4 @@
+#![tactic(auto)]
 // The bench sheet, run: list A and the empty list built by the builder and asked through the unit. Its file `stdout` was worked out by
 // hand. A line ends in a number (0 for a length or an address, else the paper's) and a value.
 use bank::Bank;

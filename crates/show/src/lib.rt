@@ -1,3 +1,4 @@
+#![tactic(auto)]
 // Lines of text on standard output, for programs that show what a library answers.
 use libc::STDOUT_FILENO;
 

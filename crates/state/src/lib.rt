@@ -1,3 +1,4 @@
+#![tactic(auto)]
 // The state of a bench as 328 bytes.
 mod layout;
 pub mod read;

@@ -1,3 +1,4 @@
+#![tactic(auto)]
 // Where the tables of a list lie.
 pub mod words;
 
@@ -5,7 +6,7 @@ ghost use Rattle.tables.specs.Names.{◌≡◌};
 ghost use Rattle.tables.specs.Tables.{table_size, start_after};
 
 // The second-level table of a megabyte.
-#[derive(Drop)]
+#[derive(Clone, Copy)]
 pub enum Second {
     Fine,
     Coarse,

@@ -1,3 +1,4 @@
+#![tactic(auto)]
 // The device and its calls.
 ghost use Rattle.unit.specs.Names.{◌≡◌, lent, performed};
 ghost use Rattle.unit.specs.Device.{fresh_device, in_range, reported};
@@ -15,7 +16,7 @@ use prices::{Price, Prices};
 use registers::{Answer, Pending, Registers};
 
 // The registers, the slots, and perhaps one pending fault.
-#[derive(Drop)]
+#[derive(Clone, Copy)]
 pub struct Device {
     pub registers: Registers,
     pub bank: Bank,
@@ -23,7 +24,7 @@ pub struct Device {
 }
 
 // What a call that may walk hands back: from is where the last word of its walk lies, nowhere where it made none.
-#[derive(Drop)]
+#[derive(Clone, Copy)]
 pub struct Outcome {
     pub device: Device,
     pub bill: Bill,
@@ -33,14 +34,14 @@ pub struct Outcome {
 }
 
 // What a call that never walks hands back.
-#[derive(Drop)]
+#[derive(Clone, Copy)]
 pub struct Told {
     pub device: Device,
     pub answer: Answer,
 }
 
 // What a shift report hands back: from is where the last word of its walk lies, nowhere where it is refused.
-#[derive(Drop)]
+#[derive(Clone, Copy)]
 pub struct Reported {
     pub device: Device,
     pub shift: Shift,
@@ -48,7 +49,7 @@ pub struct Reported {
 }
 
 // What a plan leaves and says.
-#[derive(Drop)]
+#[derive(Clone, Copy)]
 struct Acted {
     device: Device,
     bill: Bill,

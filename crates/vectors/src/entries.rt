@@ -6,7 +6,7 @@ use lanes::{Matched, SLOTS};
 use page::{VirtualAddress, Words};
 
 // A bank, and the ends of its slots as they are kept beside it.
-#[derive(Drop)]
+#[derive(Clone, Copy)]
 struct Slots {
     bank: Bank,
     lows: [u16; SLOTS],
@@ -14,7 +14,7 @@ struct Slots {
 }
 
 // What is done to the slots.
-#[derive(Drop)]
+#[derive(Clone, Copy)]
 enum Change {
     Clear,
     Take(Fill),

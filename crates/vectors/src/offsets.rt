@@ -11,7 +11,7 @@ use prices::{Price, Prices};
 use registers::{Answer, Command, Entry, Fault, Pending, Registers, Tending};
 
 // What a write leaves: the registers, the lock base, the victim, and the victim's CAM word.
-#[derive(Drop)]
+#[derive(Clone, Copy)]
 struct Left {
     registers: Registers,
     lock: u8,

@@ -1,3 +1,4 @@
+#![tactic(auto)]
 // The plain walk of two lent memories.
 pub mod descriptors;
 
@@ -9,21 +10,21 @@ use memory::{Place, Reads, Source};
 use page::{Kind, PhysicalAddress, VirtualAddress};
 
 // A descriptor word and the place that holds it, or that neither memory does.
-#[derive(Drop)]
+#[derive(Clone, Copy)]
 pub enum Read {
     Word(u32, Place),
     Missing,
 }
 
 // What a walk finds, and the words that it read: none where a word is missing.
-#[derive(Drop)]
+#[derive(Clone, Copy)]
 pub struct Walked {
     pub found: Found,
     pub reads: Reads,
 }
 
 // A page that a descriptor gives.
-#[derive(Drop)]
+#[derive(Clone, Copy)]
 pub struct Page {
     pub kind: Kind,
     pub frame: PhysicalAddress,
@@ -31,7 +32,7 @@ pub struct Page {
 }
 
 // A first-level word.
-#[derive(Drop)]
+#[derive(Clone, Copy)]
 pub enum First {
     Fault,
     Coarse(PhysicalAddress),
@@ -40,14 +41,14 @@ pub enum First {
 }
 
 // The two kinds of second-level table.
-#[derive(Drop)]
+#[derive(Clone, Copy)]
 pub enum Table {
     Coarse,
     Fine,
 }
 
 // What a walk finds.
-#[derive(Drop)]
+#[derive(Clone, Copy)]
 pub enum Found {
     Page(Page),
     NoPage,

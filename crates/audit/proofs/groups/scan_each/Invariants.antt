@@ -1,0 +1,11 @@
+use Rattle.audit.specs.Names.{Scan, ◌+◌, ◌-◌, ◌<◌, ◌≡◌, ◌≤◌, ℕ}
+use Rattle.audit.proofs.Names.{needs, now, refl, subst, sym, arith, taken, Scanned}
+use Rattle.audit.proofs.Equal.{taken_is}
+use Rattle.audit.proofs.Scans.{scanned_none, scanned_more, scanned_word, count_most}
+use Rattle.audit.proofs.groups.scan_each.Given as goal
+
+abbrev pub invariant-loop-k : goal.invariant-loop-k
+invariant-loop-k l = (l.k ≤ l.n) × Scanned l.table l.memory l.o l.j l.k (Scan.Pages l.pages)
+
+abbrev pub decreases-loop-k : goal.decreases-loop-k
+decreases-loop-k l = l.n - l.k

@@ -1,0 +1,10 @@
+use Rattle.audit.specs.Names.{Scan, ◌%◌, ◌+◌, ◌-◌, ◌≡◌, ◌≤◌, ℕ, Table}
+use Rattle.audit.proofs.Names.{needs, now, refl, subst, arith, taken, Scanned}
+use Rattle.audit.proofs.Scans.{scanned_none, scanned_more, scanned_stop, count_most, small_grouped}
+use Rattle.audit.proofs.groups.scan_smalls.Given as goal
+
+abbrev pub invariant-loop-k : goal.invariant-loop-k
+invariant-loop-k l = (l.k ≤ 64) × (l.k % 4 ≡ 0) × Scanned Table.Fine l.memory l.o l.j l.k (Scan.Pages l.pages)
+
+abbrev pub decreases-loop-k : goal.decreases-loop-k
+decreases-loop-k l = 64 - l.k

@@ -1,0 +1,6 @@
+use Rattle.bank.proofs.Names.{needs}
+use Rattle.bank.proofs.Ranges.{ok_is}
+use Rattle.bank.proofs.Bank.in_range.Goals as goal
+
+pub returns : goal.returns
+returns c = ok_is _ _ _ c.cams_ok-ok.ensures c.rams_ok.ensures

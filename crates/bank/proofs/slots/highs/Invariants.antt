@@ -1,0 +1,9 @@
+use Rattle.bank.proofs.Names.{needs, ◌-◌, arith, high_of}
+use Rattle.bank.proofs.Ends.{Filling, filling_turns, filling_ends}
+use Rattle.bank.proofs.slots.highs.Given as goal
+
+abbrev pub invariant-loop-i : goal.invariant-loop-i
+invariant-loop-i l = Filling high_of l.cam l.i l.out
+
+abbrev pub decreases-loop-i : goal.decreases-loop-i
+decreases-loop-i l = 32 - l.i

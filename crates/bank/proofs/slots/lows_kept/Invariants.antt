@@ -1,0 +1,9 @@
+use Rattle.bank.proofs.Names.{needs, ◌-◌, low_kept}
+use Rattle.bank.proofs.Ends.{Keeping, keeping_starts, keeping_turns, keeping_ends}
+use Rattle.bank.proofs.slots.lows_kept.Given as goal
+
+abbrev pub invariant-loop-i : goal.invariant-loop-i
+invariant-loop-i l = Keeping low_kept l.cam l.initial.out l.i l.out
+
+abbrev pub decreases-loop-i : goal.decreases-loop-i
+decreases-loop-i l = 32 - l.i

@@ -1,0 +1,5 @@
+use Rattle.bill.proofs.Names.{needs}
+use Rattle.bill.proofs.Bill.fresh.Goals as goal
+
+pub returns : goal.returns
+returns c = rw (c.fresh.ensures, c.fresh-2.ensures)

@@ -1,0 +1,6 @@
+use Rattle.bill.proofs.Names.{attempt_posted, needs}
+use Rattle.bill.proofs.Bill.post_attempt.Goals as goal
+
+pub returns : goal.returns
+unfolding attempt_posted
+returns c = rw c.smooth.ensures

@@ -1,0 +1,6 @@
+use Rattle.bill.proofs.Names.{smoothed, needs}
+use Rattle.bill.proofs.figures.smooth.Goals as goal
+
+pub returns : goal.returns
+unfolding smoothed
+returns c = rw c.outcome.ensures

@@ -1,0 +1,10 @@
+use Rattle.builder.proofs.Names.{sym, eq-eqb, ne_eqb, needs, pick_yes, pick_no, based}
+use Rattle.builder.proofs.image.based.Goals as goal
+
+pub returns-then-w-eq0 : goal.returns-then-w-eq0
+unfolding based
+returns-then-w-eq0 c = sym (pick_yes _ _ _ (eq-eqb _ _ c.if-w-eq0.true))
+
+pub returns : goal.returns
+unfolding based
+returns c = sym (pick_no _ _ _ (ne_eqb _ _ c.if-w-eq0.false))

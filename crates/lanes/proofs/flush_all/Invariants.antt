@@ -1,0 +1,9 @@
+use Rattle.lanes.proofs.Names.{word_flushed, flushed_all, needs, ◌-◌}
+use Rattle.lanes.proofs.Loops.{Mapping, mapping_starts, mapping_turns, mapping-ends}
+use Rattle.lanes.proofs.flush_all.Given as goal
+
+abbrev pub invariant-loop-i : goal.invariant-loop-i
+invariant-loop-i l = Mapping word_flushed 32 l.i l.initial.out l.out
+
+abbrev pub decreases-loop-i : goal.decreases-loop-i
+decreases-loop-i l = 32 - l.i

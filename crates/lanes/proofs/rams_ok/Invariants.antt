@@ -1,0 +1,12 @@
+use Rattle.lanes.specs.Names.{◌and◌, Bool, true, ℕ, ◌+◌}
+use Rattle.lanes.proofs.Names.{ram_ok, ◌&&◌, sym, ap, ◌∙◌, needs, ◌-◌}
+use Rattle.lanes.proofs.Loops.{Scanning, scanning_starts, scanning_turns, scanning_ends}
+use Rattle.lanes.proofs.Ranges.{ok_with, ok_turns, ok_ends}
+use Rattle.lanes.specs.Lanes.{rams_ok}
+use Rattle.lanes.proofs.rams_ok.Given as goal
+
+abbrev pub invariant-loop-i : goal.invariant-loop-i
+invariant-loop-i l = Scanning (ok_with ram_ok l.ram l.ok) 32 l.i (rams_ok l.ram)
+
+abbrev pub decreases-loop-i : goal.decreases-loop-i
+decreases-loop-i l = 32 - l.i

@@ -1,0 +1,6 @@
+use Rattle.listing.proofs.Names.{record_of, needs}
+use Rattle.listing.proofs.bytes.record_of.Goals as goal
+
+pub returns : goal.returns
+unfolding record_of
+returns c = rw c.kind_byte.ensures

@@ -1,0 +1,10 @@
+use Rattle.listing.specs.Names.{◌-◌, ◌*◌, ◌<◌, ◌≤◌, length}
+use Rattle.listing.proofs.Names.{end, refl, sym, ◌∙◌, pick_yes, pick_no, lt-ltb, le-ltb, arith, needs}
+use Rattle.listing.proofs.Digits.{On, on-bad, on-more, on-end, on_small}
+use Rattle.listing.proofs.hex.digits.Given as goal
+
+abbrev pub invariant-loop-i : goal.invariant-loop-i
+invariant-loop-i l = (l.i ≤ length l.w) × (l.v < 16 * end) × On l.w l.v l.i
+
+abbrev pub decreases-loop-i : goal.decreases-loop-i
+decreases-loop-i l = length l.w - l.i

@@ -1,0 +1,20 @@
+use Rattle.listing.proofs.Names.{prefixed, sym, ◌∙◌, and_yes, and_no, or_yes, or_no, eq-eqb, ne_eqb, le-leb, lt-leb, needs}
+use Rattle.listing.proofs.hex.prefixed.Goals as goal
+
+pub returns-then-w-lt2 : goal.returns-then-w-lt2
+unfolding prefixed
+returns-then-w-lt2 c = sym (and_no _ _ (lt-leb _ _ c.if-w-lt2.true))
+
+pub returns-then-w-ne48 : goal.returns-then-w-ne48
+unfolding prefixed
+returns-then-w-ne48 c = sym (and_yes _ _ (le-leb _ _ c.if-w-lt2.false) ∙ and_no _ _ (ne_eqb _ _ c.if-w-ne48.true))
+
+pub returns-then-w-eq120 : goal.returns-then-w-eq120
+unfolding prefixed
+returns-then-w-eq120 c =
+    sym (and_yes _ _ (le-leb _ _ c.if-w-lt2.false) ∙ and_yes _ _ (eq-eqb _ _ c.if-w-ne48.false) ∙ or_yes _ _ (eq-eqb _ _ c.if-w-eq120.true))
+
+pub returns : goal.returns
+unfolding prefixed
+returns c =
+    sym (and_yes _ _ (le-leb _ _ c.if-w-lt2.false) ∙ and_yes _ _ (eq-eqb _ _ c.if-w-ne48.false) ∙ or_no _ _ (ne_eqb _ _ c.if-w-eq120.false))

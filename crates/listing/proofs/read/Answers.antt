@@ -1,0 +1,25 @@
+use Rattle.listing.proofs.Names.{read_text, sym, ◌∙◌, pick_yes, pick_no, or_yes, or_no, lt-ltb, le-ltb, needs}
+use Rattle.listing.proofs.read.Goals as goal
+
+pub returns-then-records : goal.returns-then-records
+unfolding read_text
+returns-then-records c = sym (pick_yes _ _ _ (or_yes _ _ (lt-ltb _ _ c.if-records.true)))
+
+pub returns-then-lines-lt-MOST : goal.returns-then-lines-lt-MOST
+unfolding read_text
+returns-then-lines-lt-MOST c =
+    sym (pick_yes _ _ _ (or_no _ _ (le-ltb _ _ c.if-records.false) ∙ lt-ltb _ _ c.if-lines-lt-MOST.true))
+
+pub returns-then-text-gt-LONGEST : goal.returns-then-text-gt-LONGEST
+unfolding read_text
+returns-then-text-gt-LONGEST c =
+    sym (pick_no _ _ _ (or_no _ _ (le-ltb _ _ c.if-records.false) ∙ le-ltb _ _ c.if-lines-lt-MOST.false) ∙ pick_yes _ _ _ (lt-ltb _ _ c.if-text-gt-LONGEST.true))
+
+pub read_lines-requires : goal.read_lines-requires
+read_lines-requires c =
+    record { text = c.if-text-gt-LONGEST.false; records = c.if-records.false; lines = c.if-lines-lt-MOST.false }
+
+pub returns : goal.returns
+unfolding read_text
+returns c =
+    c.read_lines.ensures ∙ sym (pick_no _ _ _ (or_no _ _ (le-ltb _ _ c.if-records.false) ∙ le-ltb _ _ c.if-lines-lt-MOST.false) ∙ pick_no _ _ _ (le-ltb _ _ c.if-text-gt-LONGEST.false))

@@ -1,0 +1,10 @@
+use Rattle.listing.specs.Names.{◌+◌, ◌-◌, length}
+use Rattle.listing.proofs.Names.{now, arith, needs}
+use Rattle.listing.proofs.Turns.{Turn, turn_first, turn_last, line_fits, turn_nothing, turn_mapped, turn_many, turn_bad}
+use Rattle.listing.proofs.text.read_lines.Given as goal
+
+abbrev pub invariant-loop-at : goal.invariant-loop-at
+invariant-loop-at l = Turn l.text l.initial.records l.initial.lines l.records l.lines l.at l.i l.n
+
+abbrev pub decreases-loop-at : goal.decreases-loop-at
+decreases-loop-at l = length l.text + 1 - l.at

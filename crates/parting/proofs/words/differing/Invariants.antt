@@ -1,0 +1,11 @@
+use Rattle.parting.specs.Spans.{block}
+use Rattle.parting.specs.Names.{◌+◌, ◌-◌, ◌≡◌, ◌≤◌}
+use Rattle.parting.proofs.Names.{now, arith, differing}
+use Rattle.parting.proofs.Counting.{count-both, differing-few}
+use Rattle.parting.proofs.words.differing.Given as goal
+
+abbrev pub invariant-loop-j : goal.invariant-loop-j
+invariant-loop-j l = (l.j ≤ l.n) × (differing l.new l.signed l.j ≡ differing l.new l.signed l.k + l.d)
+
+abbrev pub decreases-loop-j : goal.decreases-loop-j
+decreases-loop-j l = l.n - l.j

@@ -1,0 +1,5 @@
+use Rattle.perform.proofs.Names.{needs}
+use Rattle.perform.proofs.uncharged.Goals as goal
+
+pub returns : goal.returns
+returns c = rw c.zero.ensures

@@ -1,0 +1,5 @@
+use Rattle.recording.proofs.Names.{needs}
+use Rattle.recording.proofs.Progress.take.Goals as goal
+
+pub take_by-requires : goal.take_by-requires
+take_by-requires c = c.table-t.ensures

@@ -1,0 +1,11 @@
+use Rattle.recording.specs.Names.{◌≡◌, ◌-◌, ◌≤◌, is_good, min}
+use Rattle.recording.specs.Blocks.{most_calls}
+use Rattle.recording.proofs.Names.{refl, sym, ◌∙◌, ap, arith, not-true, not-false, first_bad}
+use Rattle.recording.proofs.Firsts.{first_on, first_here, first-none, first-start}
+use Rattle.recording.proofs.writer.bad_call.Given as goal
+
+abbrev pub invariant-loop-i : goal.invariant-loop-i
+invariant-loop-i l = (l.i ≤ l.most) × (first_bad l.calls 0 l.most ≡ first_bad l.calls l.i (l.most - l.i))
+
+abbrev pub decreases-loop-i : goal.decreases-loop-i
+decreases-loop-i l = l.most - l.i

@@ -1,0 +1,5 @@
+use Rattle.session.proofs.Names.{needs}
+use Rattle.session.proofs.Bench.fresh.Goals as goal
+
+pub returns : goal.returns
+returns c = rw (c.fresh.ensures, c.fresh-2.ensures, c.zero.ensures)
