@@ -1,7 +1,7 @@
 -- The two lent memories (01, "The unit", third paragraph; "When the unit says no", 4): which are refused,
 -- where a descriptor's four bytes lie, and the part that they are.
 use Rattle.std.specs.Borrow.{Bor}
-use Rattle.memory.specs.Names.{ℕ, ◌+◌, ◌-◌, ◌≤◌, ◌≡◌, Bool, List, [], length, take, drop, pick, RefT, Place, ◌⊎◌}
+use Rattle.memory.specs.Names.{ℕ, ◌+◌, ◌-◌, ◌≤◌, ◌≡◌, Bool, List, [], length, take, drop, pick, Bor, Place, ◌⊎◌}
 pub use Rattle.memory.specs.Spans.{longest}
 unfoldable pub use Rattle.memory.specs.Spans.{memory_ok, apart, memories_ok, lies_in}
 
@@ -62,9 +62,9 @@ fetched_in m a = part_at m (place_in m a)
 
 -- whose part they are: the block of the memory that holds them and the offset there; nowhere is the start of the on-chip one
 abbrev pub source_of : Bor (List ℕ) → Bor (List ℕ) → Place → ℕ × ℕ
-source_of on ext (Place.OnChip k) = (on.ptr.0, k + on.ptr.1)
-source_of on ext (Place.External k) = (ext.ptr.0, k + ext.ptr.1)
-source_of on ext Place.Nowhere = on.ptr
+source_of on ext (Place.OnChip k) = (on.ref_ptr.0, k + on.ref_ptr.1)
+source_of on ext (Place.External k) = (ext.ref_ptr.0, k + ext.ref_ptr.1)
+source_of on ext Place.Nowhere = on.ref_ptr
 
 -- a place lies whole in its memory, where the address says
 abbrev pub Inside : Lent → ℕ → Place → Type 0

@@ -1,15 +1,15 @@
 -- Whose the part is, where it begins, and what the second call says. Assumes nothing.
 use denote.Ref.{Bor}
-use Rattle.parting.specs.Names.{◌≡◌, false, true, List, ℕ, ◌+◌, ◌*◌, ◌≤◌, drop, length, RefT, Owner, Comparison}
-use Rattle.parting.proofs.Names.{sym, ap, ap₂, ◌∙◌, now, arith, pick_yes, pick_no, common, agreed, differing, first_differing, whole_words, owner_at, owner_of, start_of}
+use Rattle.parting.specs.Names.{◌≡◌, false, true, List, ℕ, ◌+◌, ◌*◌, ◌≤◌, drop, length, Bor, Owner, Comparison}
+use Rattle.parting.proofs.Names.{sym, ap, ap₂, ◌∙◌, arith, pick_yes, pick_no, common, agreed, differing, first_differing, whole_words, owner_at, owner_of, start_of}
 use Rattle.parting.proofs.Names.{of_owner, start_in, part_bytes, part_source, comparison_of}
 use Rattle.parting.proofs.Counting.{count_none, first_to, none_before}
 
 -- a part of its image, by its owner and its start
-pub part_is : (new signed : Bor (List ℕ)) (o : Owner) (k : ℕ) → owner_of (now new) (now signed) ≡ o → start_of (now new) (now signed) ≡ k
-    → (drop k (of_owner o (now new) (now signed)) ≡ part_bytes (now new) (now signed)) × (start_in k (of_owner o new signed) ≡ part_source new signed)
+pub part_is : (new signed : Bor (List ℕ)) (o : Owner) (k : ℕ) → owner_of new.now signed.now ≡ o → start_of new.now signed.now ≡ k
+    → (drop k (of_owner o new.now signed.now) ≡ part_bytes new.now signed.now) × (start_in k (of_owner o new signed) ≡ part_source new signed)
 part_is new signed o k e f = (
-  ap₂ (λ (p : Owner) (j : ℕ). drop j (of_owner p (now new) (now signed))) (sym e) (sym f),
+  ap₂ (λ (p : Owner) (j : ℕ). drop j (of_owner p new.now signed.now)) (sym e) (sym f),
   ap₂ (λ (p : Owner) (j : ℕ). start_in j (of_owner p new signed)) (sym e) (sym f),
 )
 
@@ -66,11 +66,11 @@ module _ (a b : List ℕ) where
         ∙ sym (pick_yes _ _ _ h)
 
 -- the part of images of whole words, by its owner
-pub part_good : (new signed : Bor (List ℕ)) (c w : ℕ) → c ≡ common (now new) (now signed) → w ≡ first_differing (now new) (now signed) 0 c
-    → whole_words (length (now new)) (length (now signed)) ≡ true → (o : Owner) → o ≡ owner_at (4 * w) (length (now new)) (length (now signed))
-    → (drop (4 * w) (of_owner o (now new) (now signed)) ≡ part_bytes (now new) (now signed)) × (start_in (4 * w) (of_owner o new signed) ≡ part_source new signed)
+pub part_good : (new signed : Bor (List ℕ)) (c w : ℕ) → c ≡ common new.now signed.now → w ≡ first_differing new.now signed.now 0 c
+    → whole_words (length new.now) (length signed.now) ≡ true → (o : Owner) → o ≡ owner_at (4 * w) (length new.now) (length signed.now)
+    → (drop (4 * w) (of_owner o new.now signed.now) ≡ part_bytes new.now signed.now) × (start_in (4 * w) (of_owner o new signed) ≡ part_source new signed)
 part_good new signed c w e f h o g =
-    let k = agreed-is (now new) (now signed) c w e f in
+    let k = agreed-is new.now signed.now c w e f in
     part_is new signed o (4 * w)
-    (owner_good (now new) (now signed) h ∙ ap (λ (j : ℕ). owner_at j (length (now new)) (length (now signed))) (sym k) ∙ sym g)
-    (start-good (now new) (now signed) h ∙ sym k)
+    (owner_good new.now signed.now h ∙ ap (λ (j : ℕ). owner_at j (length new.now) (length signed.now)) (sym k) ∙ sym g)
+    (start-good new.now signed.now h ∙ sym k)

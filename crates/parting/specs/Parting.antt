@@ -1,6 +1,6 @@
 -- Where two images part (02, P14): the first word that differs, whose the part is that remains, and how many words differ.
 use Rattle.std.specs.Borrow.{Bor}
-use Rattle.parting.specs.Names.{ℕ, zero, suc, ◌+◌, ◌*◌, ◌/◌, ◌%◌, Bool, not, List, eqb, ltb, length, drop, min, ◌and◌, pick, RefT, now, word_at, Owner, Comparison}
+use Rattle.parting.specs.Names.{ℕ, zero, suc, ◌+◌, ◌*◌, ◌/◌, ◌%◌, Bool, not, List, eqb, ltb, length, drop, min, ◌and◌, pick, Bor, word_at, Owner, Comparison}
 
 -- refusal 4 asks of two lengths that they are multiples of 4
 unfoldable pub whole_words : ℕ → ℕ → Bool
@@ -55,10 +55,10 @@ part_bytes new signed = drop (start_of new signed) (of_owner (owner_of new signe
 
 -- whose part that is: the block of its image and the offset there
 abbrev pub start_in : ℕ → Bor (List ℕ) → ℕ × ℕ
-start_in k image = (image.ptr.0, k + image.ptr.1)
+start_in k image = (image.ref_ptr.0, k + image.ref_ptr.1)
 
 abbrev pub part_source : Bor (List ℕ) → Bor (List ℕ) → ℕ × ℕ
-part_source new signed = start_in (start_of (now new) (now signed)) (of_owner (owner_of (now new) (now signed)) new signed)
+part_source new signed = start_in (start_of new.now signed.now) (of_owner (owner_of new.now signed.now) new signed)
 
 -- the second call: a refusal, or whose the part is, where it begins and how many words differ over the common length
 unfoldable pub comparison_of : List ℕ → List ℕ → Comparison

@@ -1,5 +1,5 @@
 use Rattle.audit.specs.Names.{Verdict, ◌*◌, ◌+◌, ◌-◌, ◌≡◌, ◌≤◌, length, megabytes}
-use Rattle.audit.proofs.Names.{needs, now, ◌∙◌, ap, refl, sym, arith, level_checked, taken, level_pages}
+use Rattle.audit.proofs.Names.{rules, ◌∙◌, ap, refl, sym, arith, level_checked, taken, level_pages}
 use Rattle.audit.proofs.Verdicts.{unequal_refuses, outside_refuses, level_turn, level-stop, level-end, pages-end, memory-refuses, first-is}
 use Rattle.audit.proofs.Verdicts.{first_good}
 use Rattle.audit.proofs.check_level.Goals as goal
@@ -22,8 +22,8 @@ check_first-v-requires c = (c.requires.0, omega (arith, c.requires.0, c.requires
 pub overflow_add-pages : goal.overflow_add-pages
 overflow_add-pages c =
     let x = c.args in
-    let e = first-is (now x.memory) x.base c.loop-i.i _ _ _ _ c.word.ensures c.decode_first-d.ensures c.check_first-v.ensures c.in-Good.is in
-    omega (arith, c.loop-i.invariant.1, c.loop-i-test.true, first_good (now x.memory) x.base c.loop-i.i _ e)
+    let e = first-is x.memory.now x.base c.loop-i.i _ _ _ _ c.word.ensures c.decode_first-d.ensures c.check_first-v.ensures c.in-Good.is in
+    omega (arith, c.loop-i.invariant.1, c.loop-i-test.true, first_good x.memory.now x.base c.loop-i.i _ e)
 
 pub overflow_add-i : goal.overflow_add-i
 overflow_add-i c = omega (arith, c.loop-i-test.true)
@@ -34,7 +34,7 @@ loop-i-smaller c = omega (arith, c.loop-i-test.true)
 pub loop-i-preserved : goal.loop-i-preserved
 loop-i-preserved c =
     let x = c.args in
-    let l = now x.memory in
+    let l = x.memory.now in
     let i = c.loop-i.i in
     let v = c.loop-i.invariant in
     let e = first-is l x.base i _ _ _ _ c.word.ensures c.decode_first-d.ensures c.check_first-v.ensures c.in-Good.is in
@@ -48,28 +48,28 @@ loop-i-preserved c =
 pub returns-in-BadMemory : goal.returns-in-BadMemory
 returns-in-BadMemory c =
     let x = c.args in
-    let l = now x.memory in
+    let l = x.memory.now in
     let e = first-is l x.base c.loop-i.i _ _ _ _ c.word.ensures c.decode_first-d.ensures c.check_first-v.ensures c.in-BadMemory.is in
     sym (c.loop-i.invariant.2 _ ∙ level-stop l x.base megabytes c.loop-i.i c.loop-i-test.true Verdict.BadMemory memory-refuses e _)
 
 pub returns-in-Outside : goal.returns-in-Outside
 returns-in-Outside c =
     let x = c.args in
-    let l = now x.memory in
+    let l = x.memory.now in
     let e = first-is l x.base c.loop-i.i _ _ _ _ c.word.ensures c.decode_first-d.ensures c.check_first-v.ensures c.in-Outside.is in
     sym (c.loop-i.invariant.2 _ ∙ level-stop l x.base megabytes c.loop-i.i c.loop-i-test.true (Verdict.Outside _) (outside_refuses _) e _)
 
 pub returns-in-Unequal : goal.returns-in-Unequal
 returns-in-Unequal c =
     let x = c.args in
-    let l = now x.memory in
+    let l = x.memory.now in
     let e = first-is l x.base c.loop-i.i _ _ _ _ c.word.ensures c.decode_first-d.ensures c.check_first-v.ensures c.in-Unequal.is in
     sym (c.loop-i.invariant.2 _ ∙ level-stop l x.base megabytes c.loop-i.i c.loop-i-test.true (Verdict.Unequal _) (unequal_refuses _) e _)
 
 pub returns : goal.returns
 returns c =
     let x = c.args in
-    let l = now x.memory in
+    let l = x.memory.now in
     let v = c.loop-i.invariant in
     let p = ap length (pages-end l x.base megabytes c.loop-i.i c.loop-i-test.false) in
     sym (v.2 _ ∙ level-end l x.base megabytes c.loop-i.i c.loop-i-test.false _ ∙ ap Verdict.Good

@@ -1,12 +1,12 @@
 use Rattle.audit.specs.Names.{◌-◌, index_limit}
-use Rattle.audit.proofs.Names.{needs, not-false, not-true, now, ◌∙◌, subst, sym, arith, taken, Scanned}
+use Rattle.audit.proofs.Names.{rules, not-false, not-true, ◌∙◌, subst, sym, arith, taken, Scanned}
 use Rattle.audit.proofs.Inside.{inside-from, inside_to, limit-most}
 use Rattle.audit.proofs.Verdicts.{table_outside, table_good, table_unequal}
 use Rattle.audit.proofs.check_table.Goals as goal
 
 pub returns-then-not-table_in : goal.returns-then-not-table_in
 returns-then-not-table_in c =
-    let x = c.args in sym (table_outside x.table (now x.memory) x.base x.at x.i _ (sym c.table_in.ensures ∙ not-true _ c.if-not-table_in.true-raw))
+    let x = c.args in sym (table_outside x.table x.memory.now x.base x.at x.i _ (sym c.table_in.ensures ∙ not-true _ c.if-not-table_in.true-raw))
 
 pub overflow_sub-at : goal.overflow_sub-at
 overflow_sub-at c =
@@ -32,11 +32,11 @@ overflow_add-result-in-Broken c =
 pub returns-in-Pages : goal.returns-in-Pages
 returns-in-Pages c =
     let x = c.args in
-    table_good x.table (now x.memory) x.base x.at x.i _ (sym c.table_in.ensures ∙ not-false _ c.if-not-table_in.false-raw)
-    (subst (Scanned x.table (now x.memory) (x.at - x.base) 0 (index_limit x.table)) c.in-Pages.is c.scan_table-s.ensures)
+    table_good x.table x.memory.now x.base x.at x.i _ (sym c.table_in.ensures ∙ not-false _ c.if-not-table_in.false-raw)
+    (subst (Scanned x.table x.memory.now (x.at - x.base) 0 (index_limit x.table)) c.in-Pages.is c.scan_table-s.ensures)
 
 pub returns-in-Broken : goal.returns-in-Broken
 returns-in-Broken c =
     let x = c.args in
-    table_unequal x.table (now x.memory) x.base x.at x.i _ _ (sym c.table_in.ensures ∙ not-false _ c.if-not-table_in.false-raw)
-    (subst (Scanned x.table (now x.memory) (x.at - x.base) 0 (index_limit x.table)) c.in-Broken.is c.scan_table-s.ensures)
+    table_unequal x.table x.memory.now x.base x.at x.i _ _ (sym c.table_in.ensures ∙ not-false _ c.if-not-table_in.false-raw)
+    (subst (Scanned x.table x.memory.now (x.at - x.base) 0 (index_limit x.table)) c.in-Broken.is c.scan_table-s.ensures)

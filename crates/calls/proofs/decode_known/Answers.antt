@@ -1,5 +1,5 @@
 use Rattle.calls.specs.Names.{◌≡◌, length, take, drop, ℕ, ◌+◌, ◌≤◌}
-use Rattle.calls.proofs.Names.{sym, ◌∙◌, ap, pick_yes, pick_no, le-leb, lt-leb, now, arith, ◌<◌, ◌-◌, call_of, call_at, needs}
+use Rattle.calls.proofs.Names.{sym, ◌∙◌, ap, pick_yes, pick_no, le-leb, lt-leb, arith, ◌<◌, ◌-◌, call_of, call_at, rules}
 use Rattle.calls.proofs.Good.{alike}
 use Rattle.calls.proofs.decode_known.Goals as goal
 
@@ -19,5 +19,5 @@ returns c =
     let x = c.args in
     alike _ _ _
     (pick_yes _ _ _ (le-leb _ _ (let e : x.at + 12 ≤ length x.bytes.now = omega arith in e))
-    ∙ sym (ap (λ (n : ℕ). call_of (take n (drop x.at (now x.bytes)))) (let e : x.at + 12 - x.at ≡ 12 = omega arith in e)))
+    ∙ sym (ap (λ (n : ℕ). call_of (take n (drop x.at x.bytes.now))) (let e : x.at + 12 - x.at ≡ 12 = omega arith in e)))
     c.Known-of.ensures

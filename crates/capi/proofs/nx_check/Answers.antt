@@ -1,4 +1,4 @@
-use Rattle.capi.proofs.Names.{needs, ◌∙◌, ap, verdict_word}
+use Rattle.capi.proofs.Names.{rules, ◌∙◌, ap, verdict_word}
 use Rattle.capi.proofs.nx_check.Goals as goal
 
 pub returns : goal.returns

@@ -1,5 +1,5 @@
 use Rattle.capi.specs.Names.{run_with, lent, Prices, prices_of, Ran, ℕ}
-use Rattle.capi.proofs.Names.{ap₂, sym, ◌∙◌, ap, Bench, from_of, now, needs}
+use Rattle.capi.proofs.Names.{ap₂, sym, ◌∙◌, ap, Bench, from_of, rules}
 use Rattle.page.proofs.Picks.{pick_yes, pick_no}
 use borrow.Author.Tests.{not-true, not-false}
 use Rattle.capi.proofs.nx_from.Goals as goal
@@ -12,8 +12,8 @@ pub returns : goal.returns
 unfolding from_of
 returns c =
     let x = c.args in
-    let m = lent (now x.on) x.onbase (now x.ext) x.extbase in
-    let f : Prices → ℕ → Bench → Ran = λ (p : Prices) (h : ℕ) (b : Bench). run_with m p x.onkind x.extkind h b (now x.calls) (now x.out) in
+    let m = lent x.on.now x.onbase x.ext.now x.extbase in
+    let f : Prices → ℕ → Bench → Ran = λ (p : Prices) (h : ℕ) (b : Bench). run_with m p x.onkind x.extkind h b x.calls.now x.out.now in
     c.run_from.ensures
     ∙ ap (λ (p : Prices). f p c.lock_at.result c.bench_at-start.result) c.prices_of-prices.ensures
     ∙ ap₂ (f (prices_of x.onkind x.ona x.onb x.extkind x.exta x.extb)) c.lock_at.ensures c.bench_at-start.ensures

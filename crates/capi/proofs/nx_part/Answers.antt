@@ -1,5 +1,5 @@
 use Rattle.capi.specs.Names.{length, Comparison, ran, words_put}
-use Rattle.capi.proofs.Names.{needs, now, ap, sym, ◌∙◌, comparison_said, part_ran}
+use Rattle.capi.proofs.Names.{rules, ap, sym, ◌∙◌, comparison_said, part_ran}
 use Rattle.page.proofs.Picks.{pick_yes, pick_no}
 use borrow.Author.Tests.{not-true, not-false}
 use Rattle.capi.proofs.nx_part.Goals as goal
@@ -14,6 +14,6 @@ returns c =
     let x = c.args in
     ap (ran 24)
     (c.put.ensures
-    ∙ ap (words_put (now x.out) 0)
-    (c.comparison_words-words.ensures ∙ ap (λ (y : Comparison). comparison_said y (length (now x.new))) c.compare.ensures))
+    ∙ ap (words_put x.out.now 0)
+    (c.comparison_words-words.ensures ∙ ap (λ (y : Comparison). comparison_said y (length x.new.now)) c.compare.ensures))
     ∙ sym (pick_yes _ _ _ (sym c.room.ensures ∙ not-false _ c.if-not-room.false-raw))

@@ -1,4 +1,4 @@
-use Rattle.capi.proofs.Names.{needs}
+use Rattle.capi.proofs.Names.{rules}
 use Rattle.capi.proofs.Recorded.{recorded_ran_lem}
 use Rattle.capi.proofs.nx_record.Goals as goal
 

@@ -1,4 +1,4 @@
-use Rattle.capi.proofs.Names.{needs}
+use Rattle.capi.proofs.Names.{rules}
 use Rattle.capi.proofs.Recorded.{read-ran}
 use Rattle.capi.proofs.nx_recorded.Goals as goal
 

@@ -1,4 +1,4 @@
-use Rattle.commands.proofs.Names.{sym, ◌∙◌, pick_yes, pick_no, needs}
+use Rattle.commands.proofs.Names.{sym, ◌∙◌, pick_yes, pick_no, rules}
 use Rattle.registers.specs.Table.{lock_command}
 use Rattle.page.proofs.Picks.{and_yes, and_no}
 use borrow.Author.Tests.{lt-ltb, le-ltb}

@@ -1,5 +1,5 @@
 use Rattle.crc.specs.Names.{◌-◌, ◌≤◌, ◌≡◌, length, take}
-use Rattle.crc.proofs.Names.{now, arith, ◌∙◌, IsTable, crc_from, ones}
+use Rattle.crc.proofs.Names.{arith, ◌∙◌, IsTable, crc_from, ones}
 use Rattle.crc.proofs.Registers.{begins, goes_on, byte-taken, ends}
 use Rattle.crc.proofs.crc32_by.Goals as goal
 
@@ -7,7 +7,7 @@ pub returns-then-t-lt-SIZE : goal.returns-then-t-lt-SIZE
 returns-then-t-lt-SIZE c = λ h. absurd (omega (arith, h.long, c.if-t-lt-SIZE.true))
 
 pub loop-i-init : goal.loop-i-init
-loop-i-init c = (omega arith, λ _. begins (now c.args.bytes))
+loop-i-init c = (omega arith, λ _. begins c.args.bytes.now)
 
 pub overflow_sub-n : goal.overflow_sub-n
 overflow_sub-n c = omega arith
@@ -24,7 +24,7 @@ loop-i-smaller c = omega arith
 pub loop-i-preserved : goal.loop-i-preserved
 loop-i-preserved c =
     let at = c.loop-i in
-    (omega arith, λ h. goes_on 8 (now c.args.bytes) at.i at.c c.eight-c.result (at.invariant.1 h) (c.eight-c.ensures h))
+    (omega arith, λ h. goes_on 8 c.args.bytes.now at.i at.c c.eight-c.result (at.invariant.1 h) (c.eight-c.ensures h))
 
 pub loop-i-2-init : goal.loop-i-2-init
 loop-i-2-init c = c.loop-i.invariant
@@ -43,11 +43,11 @@ loop-i-2-smaller c = omega arith
 
 pub loop-i-2-preserved : goal.loop-i-2-preserved
 loop-i-2-preserved c =
-    let l = now c.args.bytes in
+    let l = c.args.bytes.now in
     let at = c.loop-i-2 in
     (omega arith, λ h. goes_on 1 l at.i at.c c.one-c.result (at.invariant.1 h) (c.one-c.ensures h ∙ byte-taken at.c l at.i (omega arith)))
 
 pub returns : goal.returns
 returns c =
     let at = c.loop-i-2 in
-    λ h. ends (now c.args.bytes) at.i at.c (omega (arith, c.loop-i-2-test.false)) (at.invariant.1 h)
+    λ h. ends c.args.bytes.now at.i at.c (omega (arith, c.loop-i-2-test.false)) (at.invariant.1 h)

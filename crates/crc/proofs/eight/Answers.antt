@@ -1,5 +1,5 @@
 use Rattle.crc.specs.Names.{ℕ, ◌+◌, ◌-◌, ◌≡◌, bit_xor, take, drop}
-use Rattle.crc.proofs.Names.{needs, arith, now, ap, ap₂, sym, ◌∙◌, behind}
+use Rattle.crc.proofs.Names.{rules, arith, ap, ap₂, sym, ◌∙◌, behind}
 use Rattle.crc.proofs.Registers.{eight_bytes}
 use Rattle.wire.specs.Words.{word_of}
 use Rattle.crc.proofs.eight.Goals as goal
@@ -7,7 +7,7 @@ use Rattle.crc.proofs.eight.Goals as goal
 pub returns : goal.returns
 returns c =
     let i = c.args.i in
-    let l = now c.args.bytes in
+    let l = c.args.bytes.now in
     let at : (k n : ℕ) → n ≡ 4 → word_of (take n (drop k l)) ≡ word_of (take 4 (drop k l)) = λ k n e. ap (λ (m : ℕ). word_of (take m (drop k l))) e in
     λ h.
     ap₂ bit_xor

@@ -1,4 +1,4 @@
-use Rattle.crc.proofs.Names.{needs}
+use Rattle.crc.proofs.Names.{rules}
 use Rattle.crc.proofs.Rows.{four_rows}
 use Rattle.crc.proofs.four.Goals as goal
 

@@ -1,5 +1,5 @@
 use Rattle.decision.specs.Names.{distance_of, Shift, PhysicalAddress}
-use Rattle.decision.proofs.Names.{sym, ◌∙◌, ap, needs}
+use Rattle.decision.proofs.Names.{sym, ◌∙◌, ap, rules}
 use mir.Facts.{to_z-of_z}
 use Rattle.decision.specs.Prefetches.{shift_by}
 use Rattle.decision.proofs.shift_by.Goals as goal

@@ -1,5 +1,5 @@
 use Rattle.lanes.specs.Names.{◌and◌, get_or, true, ℕ}
-use Rattle.lanes.proofs.Names.{cam_ok, ◌&&◌, sym, ◌∙◌, needs, ◌-◌}
+use Rattle.lanes.proofs.Names.{cam_ok, ◌&&◌, sym, ◌∙◌, rules, ◌-◌}
 use Rattle.lanes.proofs.Loops.{Scanning, scanning_starts, scanning_turns, scanning_ends}
 use Rattle.lanes.proofs.Ranges.{ok_with, ok_turns, ok_ends}
 use Rattle.lanes.specs.Lanes.{cams_ok}

@@ -1,4 +1,4 @@
-use Rattle.lanes.proofs.Names.{word_flushed, flushed_all, needs, ◌-◌}
+use Rattle.lanes.proofs.Names.{word_flushed, flushed_all, rules, ◌-◌}
 use Rattle.lanes.proofs.Loops.{Mapping, mapping_starts, mapping_turns, mapping-ends}
 use Rattle.lanes.proofs.flush_all.Given as goal
 

@@ -1,9 +1,9 @@
-use Rattle.lanes.proofs.Names.{word_flushed_at, flushed_entry, needs, ◌-◌}
+use Rattle.lanes.proofs.Names.{word_flushed_at, flushed_entry, rules, ◌-◌}
 use Rattle.lanes.proofs.Loops.{Mapping, mapping_starts, mapping_turns, mapping-ends}
 use Rattle.lanes.proofs.flush_entry.Goals as goal
 
 pub loop-i-init : goal.loop-i-init
-loop-i-init c = mapping_starts (word_flushed_at c.args.va) 32 _ (search needs)
+loop-i-init c = mapping_starts (word_flushed_at c.args.va) 32 _ (search rules)
 
 pub loop-i-preserved : goal.loop-i-preserved
 loop-i-preserved c =

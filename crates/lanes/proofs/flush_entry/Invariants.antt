@@ -1,4 +1,4 @@
-use Rattle.lanes.proofs.Names.{word_flushed_at, flushed_entry, needs, ◌-◌}
+use Rattle.lanes.proofs.Names.{word_flushed_at, flushed_entry, rules, ◌-◌}
 use Rattle.lanes.proofs.Loops.{Mapping, mapping_starts, mapping_turns, mapping-ends}
 use Rattle.lanes.proofs.flush_entry.Given as goal
 

@@ -1,5 +1,5 @@
 use Rattle.lanes.specs.Names.{◌and◌, Bool, true, ℕ, ◌+◌}
-use Rattle.lanes.proofs.Names.{ram_ok, ◌&&◌, sym, ap, ◌∙◌, needs, ◌-◌}
+use Rattle.lanes.proofs.Names.{ram_ok, ◌&&◌, sym, ap, ◌∙◌, rules, ◌-◌}
 use Rattle.lanes.proofs.Loops.{Scanning, scanning_starts, scanning_turns, scanning_ends}
 use Rattle.lanes.proofs.Ranges.{ok_with, ok_turns, ok_ends}
 use Rattle.lanes.specs.Lanes.{rams_ok}

@@ -1,5 +1,5 @@
 use Rattle.listing.specs.Names.{ℕ, ◌<◌, length}
-use Rattle.listing.proofs.Names.{purpose_of, sym, ◌∙◌, subst, pick_yes, pick_no, or_yes, or_no, eq-eqb, ne_eqb, lt-ltb, le-ltb, now, arith, needs}
+use Rattle.listing.proofs.Names.{purpose_of, sym, ◌∙◌, subst, pick_yes, pick_no, or_yes, or_no, eq-eqb, ne_eqb, lt-ltb, le-ltb, arith, rules}
 use Rattle.listing.proofs.Comments.{purpose_from, purpose_to, purpose_is}
 use Rattle.listing.proofs.Turns.{line_fits}
 use Rattle.listing.proofs.purpose.Goals as goal
@@ -17,7 +17,7 @@ pub returns-then-at-text : goal.returns-then-at-text
 unfolding purpose_of
 returns-then-at-text c =
     sym (pick_no _ _ _ (or_no _ _ (le-ltb _ _ c.if-text-gt-LONGEST.false) ∙ ne_eqb _ _ c.if-line-eq0.false)
-    ∙ pick_yes _ _ _ (lt-ltb _ _ (subst (λ (n : ℕ). length (now c.args.text) < n) c.start_of-at.ensures c.if-at-text.true)))
+    ∙ pick_yes _ _ _ (lt-ltb _ _ (subst (λ (n : ℕ). length c.args.text.now < n) c.start_of-at.ensures c.if-at-text.true)))
 
 pub overflow_add-at : goal.overflow_add-at
 overflow_add-at c =

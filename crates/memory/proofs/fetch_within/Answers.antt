@@ -1,4 +1,4 @@
-use Rattle.memory.proofs.Names.{lent, part_at, source_of, Inside, sym, ◌∙◌, ap, subst, now, needs}
+use Rattle.memory.proofs.Names.{lent, part_at, source_of, Inside, sym, ◌∙◌, ap, subst, rules}
 use Rattle.memory.proofs.Places.{inside-within, at_start}
 use Rattle.memory.proofs.fetch_within.Goals as goal
 
@@ -12,7 +12,7 @@ pub returns-in-OnChip : goal.returns-in-OnChip
 returns-in-OnChip c =
     let a = c.args in
     let e = sym c.in-OnChip.is ∙ c.locate_within-p.ensures in (
-      c.four.ensures.bytes ∙ ap (part_at (lent (now a.on) a.onbase.0 (now a.ext) a.extbase.0)) e,
+      c.four.ensures.bytes ∙ ap (part_at (lent a.on.now a.onbase.0 a.ext.now a.extbase.0)) e,
       c.four.ensures.source ∙ ap (source_of a.on a.ext) e,
     )
 
@@ -20,7 +20,7 @@ pub returns-in-External : goal.returns-in-External
 returns-in-External c =
     let a = c.args in
     let e = sym c.in-External.is ∙ c.locate_within-p.ensures in (
-      c.four-in-External.ensures.bytes ∙ ap (part_at (lent (now a.on) a.onbase.0 (now a.ext) a.extbase.0)) e,
+      c.four-in-External.ensures.bytes ∙ ap (part_at (lent a.on.now a.onbase.0 a.ext.now a.extbase.0)) e,
       c.four-in-External.ensures.source ∙ ap (source_of a.on a.ext) e,
     )
 
@@ -28,6 +28,6 @@ pub returns-in-Nowhere : goal.returns-in-Nowhere
 returns-in-Nowhere c =
     let a = c.args in
     let e = sym c.in-Nowhere.is ∙ c.locate_within-p.ensures in (
-      ap (part_at (lent (now a.on) a.onbase.0 (now a.ext) a.extbase.0)) e,
-      at_start a.on.ptr ∙ ap (source_of a.on a.ext) e,
+      ap (part_at (lent a.on.now a.onbase.0 a.ext.now a.extbase.0)) e,
+      at_start a.on.ref_ptr ∙ ap (source_of a.on a.ext) e,
     )

@@ -8,7 +8,7 @@ use Rattle.meters.proofs.Names.{refl, [], ◌∷◌, List, Ura, full_share, name
 use Rattle.meters.proofs.Names.{flft, Memory, Routine, Calls, Loops, WpFn, Tables, sem, Fun, fact, tables, ‵, raw}
 use Rattle.meters.proofs.Names.{◌⊛◌, some, later, ◌$◌, ◌∵◌, !, qed, by, move, keep, use1, use2, split, join, pick, fsplit, fjoin, suffices}
 use Rattle.meters.proofs.Names.{await, done, look, init, forget, stop, from, load, of_opd, and_then, no_more, assigns, land, returns, enter}
-use Rattle.meters.proofs.Names.{alloc1, alloc0, params1, pass1, pass0, free1, free0, Body, FmC, fm_of, WpFn-mono, owns, Is, shows, mem, RefT}
+use Rattle.meters.proofs.Names.{alloc1, alloc0, params1, pass1, pass0, free1, free0, Body, FmC, fm_of, WpFn-mono, owns, Is, shows, mem, Bor}
 use Rattle.meters.proofs.Names.{MutRef, owned, peeks, heard, nothing, spelt, Contract, Triple, calls_at, ensured, lasts, on_entry, Meets}
 use Rattle.meters.proofs.Names.{triple_of, entered, cited, says, Stays, stay_none, walk_of, Goes-none, Walks, ends_at, walked, walk_Meets, yes}
 use Rattle.meters.proofs.Names.{posted, Meters, Tally}

@@ -1,5 +1,5 @@
 use Rattle.parting.specs.Names.{Owner}
-use Rattle.parting.proofs.Names.{sym, ◌∙◌, now, arith, needs, not-true, not-false}
+use Rattle.parting.proofs.Names.{sym, ◌∙◌, arith, rules, not-true, not-false}
 use Rattle.parting.proofs.Owners.{part_is, part_good, owner_refused, start-refused, in_new, in_signed}
 use Rattle.parting.proofs.part.Goals as goal
 
@@ -7,23 +7,23 @@ pub returns-then-not-whole_words : goal.returns-then-not-whole_words
 returns-then-not-whole_words c =
     let x = c.args in
     let h = sym c.whole_words.ensures ∙ not-true _ c.if-not-whole_words.true-raw in
-    let p = part_is x.new x.signed Owner.New _ (owner_refused (now x.new) (now x.signed) h) (start-refused (now x.new) (now x.signed) h) in
+    let p = part_is x.new x.signed Owner.New _ (owner_refused x.new.now x.signed.now h) (start-refused x.new.now x.signed.now h) in
     (c.rest.ensures.bytes ∙ p.0, c.rest.ensures.source ∙ p.1)
 
 pub overflow_mul-k : goal.overflow_mul-k
 overflow_mul-k c =
     let x = c.args in
-    omega (arith, in_new (now x.new) (now x.signed) _ _ c.common.ensures c.parting_word-k.ensures)
+    omega (arith, in_new x.new.now x.signed.now _ _ c.common.ensures c.parting_word-k.ensures)
 
 pub rest-requires-in-New : goal.rest-requires-in-New
 rest-requires-in-New c =
     let x = c.args in
-    in_new (now x.new) (now x.signed) _ _ c.common.ensures c.parting_word-k.ensures
+    in_new x.new.now x.signed.now _ _ c.common.ensures c.parting_word-k.ensures
 
 pub rest-requires-in-Signed : goal.rest-requires-in-Signed
 rest-requires-in-Signed c =
     let x = c.args in
-    in_signed (now x.new) (now x.signed) _ _ c.common.ensures c.parting_word-k.ensures
+    in_signed x.new.now x.signed.now _ _ c.common.ensures c.parting_word-k.ensures
 
 pub returns-in-New : goal.returns-in-New
 returns-in-New c =

@@ -1,5 +1,5 @@
 use Rattle.perform.specs.Names.{setting_at, setting, pick, ◌≡◌, ℕ}
-use Rattle.perform.proofs.Names.{pick_no, sym, ◌∙◌, ap, needs}
+use Rattle.perform.proofs.Names.{pick_no, sym, ◌∙◌, ap, rules}
 use borrow.Author.Tests.{ne_eqb}
 use Rattle.perform.proofs.set.Goals as goal
 

@@ -1,4 +1,4 @@
-use Rattle.perform.proofs.Names.{needs}
+use Rattle.perform.proofs.Names.{rules}
 use Rattle.perform.proofs.uncharged.Goals as goal
 
 pub returns : goal.returns

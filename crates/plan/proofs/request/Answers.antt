@@ -1,5 +1,5 @@
 use Rattle.plan.specs.Names.{Bool, leb}
-use Rattle.plan.proofs.Names.{sym, ◌∙◌, ap, ◌&&◌, le-leb, lt-leb, Plan, needs}
+use Rattle.plan.proofs.Names.{sym, ◌∙◌, ap, ◌&&◌, le-leb, lt-leb, Plan, rules}
 use mathlib.Core.Path.{ap₂}
 use borrow.Author.Tests.{ltb-true, ltb-false}
 use Rattle.plan.proofs.AtOnce.{attempted, refused}

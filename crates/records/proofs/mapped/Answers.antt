@@ -1,7 +1,7 @@
 use Rattle.records.specs.Names.{take, drop, ℕ, ◌+◌, ◌*◌, ◌≡◌}
-use Rattle.records.proofs.Names.{◌-◌, mapping_of, ◌∙◌, ap, now, arith, needs}
+use Rattle.records.proofs.Names.{◌-◌, mapping_of, ◌∙◌, ap, arith, rules}
 use Rattle.records.proofs.mapped.Goals as goal
 
 pub returns : goal.returns
 returns c =
-    c.mapping_of.ensures ∙ ap (λ (n : ℕ). mapping_of (take n (drop (12 * c.args.i) (now c.args.records)))) (let e : 12 * c.args.i + 12 - 12 * c.args.i ≡ 12 = omega arith in e)
+    c.mapping_of.ensures ∙ ap (λ (n : ℕ). mapping_of (take n (drop (12 * c.args.i) c.args.records.now))) (let e : 12 * c.args.i + 12 - 12 * c.args.i ≡ 12 = omega arith in e)

@@ -1,5 +1,5 @@
 use Rattle.replay.specs.Names.{lent}
-use Rattle.replay.proofs.Names.{◌-◌, refl, ◌∙◌, ap, now, arith, needs}
+use Rattle.replay.proofs.Names.{◌-◌, refl, ◌∙◌, ap, arith, rules}
 use Rattle.replay.proofs.Turns.{Going, replay_turn, replay_end, replay_none}
 use Rattle.session.specs.Bench.{stepped}
 use Rattle.replay.proofs.replay.Given as goal

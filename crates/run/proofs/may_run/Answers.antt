@@ -1,5 +1,5 @@
 use Rattle.run.specs.Names.{ℕ, leb}
-use Rattle.run.proofs.Names.{run_size, may_run, ◌-◌, ◌/◌, ◌<◌, sym, ◌∙◌, ap, le-leb, lt-leb, not-true, not-false, now, arith, needs}
+use Rattle.run.proofs.Names.{run_size, may_run, ◌-◌, ◌/◌, ◌<◌, sym, ◌∙◌, ap, le-leb, lt-leb, not-true, not-false, arith, rules}
 use Rattle.run.proofs.Room.{room_for}
 use Rattle.page.proofs.Picks.{and_yes, and_no}
 use Rattle.run.proofs.may_run.Goals as goal
@@ -21,7 +21,7 @@ pub returns-then-room-lt-SIZE : goal.returns-then-room-lt-SIZE
 unfolding may_run
 returns-then-room-lt-SIZE c =
     sym (and_yes _ _ (le-leb _ _ c.if-onkind-gt1.false) ∙ and_yes _ _ (le-leb _ _ c.if-extkind-gt1.false) ∙ and_yes _ _ (sym c.all_good.ensures ∙ not-false _ c.if-not-all_good.false-raw)
-    ∙ lt-leb _ _ (let e : c.args.room < run_size (now c.args.calls) = omega arith in e))
+    ∙ lt-leb _ _ (let e : c.args.room < run_size c.args.calls.now = omega arith in e))
 
 pub returns : goal.returns
 unfolding may_run

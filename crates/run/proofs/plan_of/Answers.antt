@@ -1,5 +1,5 @@
 use Rattle.run.specs.Names.{◌and◌, bill_ok}
-use Rattle.run.proofs.Names.{plan_of, sym, ◌∙◌, ap, needs}
+use Rattle.run.proofs.Names.{plan_of, sym, ◌∙◌, ap, rules}
 use Rattle.run.proofs.plan_of.Goals as goal
 
 pub returns-in-Write : goal.returns-in-Write

@@ -1,5 +1,5 @@
 use Rattle.run.specs.Names.{Call, lent, placed, ℕ, ◌+◌, ◌*◌, ◌≤◌, length, List}
-use Rattle.run.proofs.Names.{bench_of, session_words, is_good, bank_of, ◌-◌, refl, sym, ◌∙◌, ap, ap₂, now, arith, needs}
+use Rattle.run.proofs.Names.{bench_of, session_words, is_good, bank_of, ◌-◌, refl, sym, ◌∙◌, ap, ap₂, arith, rules}
 use Rattle.run.specs.Run.{ran}
 use Rattle.run.proofs.Going.{Going, going_fits, going_on}
 use Rattle.run.proofs.Turns.{run_end}

@@ -1,4 +1,4 @@
-use Rattle.session.proofs.Names.{step_out, Stepped, made, ◌∙◌, ap, needs}
+use Rattle.session.proofs.Names.{step_out, Stepped, made, ◌∙◌, ap, rules}
 use Rattle.memory.specs.declared.Place.{Place}
 use Rattle.meters.specs.declared.Tally.{Tally}
 use Rattle.session.proofs.kept.Goals as goal

@@ -1,4 +1,4 @@
-use Rattle.session.proofs.Names.{Said, Stepped, Meters, ap, needs}
+use Rattle.session.proofs.Names.{Said, Stepped, Meters, ap, rules}
 use Rattle.session.proofs.posted.Goals as goal
 
 pub returns : goal.returns

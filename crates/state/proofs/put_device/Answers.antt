@@ -1,5 +1,5 @@
 use Rattle.state.specs.Names.{List, words_put, ℕ, ◌+◌}
-use Rattle.state.proofs.Names.{slot_words, pending_words, lock_word, refl, ◌∙◌, ap, now, needs}
+use Rattle.state.proofs.Names.{slot_words, pending_words, lock_word, refl, ◌∙◌, ap, rules}
 use Rattle.state.specs.State.{register_words}
 use Rattle.state.proofs.Lengths.{slots_length, pending-length}
 use Rattle.state.proofs.Parts.{three}
@@ -7,7 +7,7 @@ use Rattle.state.proofs.put_device.Goals as goal
 
 pub returns : goal.returns
 returns c =
-    let x = c.args in let d = x.t3 in let l = now x.out in
+    let x = c.args in let d = x.t3 in let l = x.out.now in
     three l c.put.new.0 c.put_slots.new.0 _ (register_words d.registers (lock_word x.handed d.bank.lock d.bank.victim))
     (slot_words d.bank.cam d.bank.ram 0 32) (pending_words d.pending) x.at
     refl (slots_length d.bank.cam d.bank.ram 0 32) (pending-length d.pending) c.requires c.put.auto.0 c.put_slots.auto.0

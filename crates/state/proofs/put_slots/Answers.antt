@@ -1,10 +1,10 @@
 use Rattle.state.specs.Names.{length, ◌+◌, ◌*◌, ◌≤◌, slots, placed, ◌≡◌}
-use Rattle.state.proofs.Names.{needs, ◌-◌, slot_words, refl, sym, ◌∙◌, now, arith}
+use Rattle.state.proofs.Names.{rules, ◌-◌, slot_words, refl, sym, ◌∙◌, arith}
 use Rattle.state.proofs.Turns.{slots_left, slots-first, slots_turn, slots_end}
 use Rattle.state.proofs.put_slots.Goals as goal
 
 pub loop-i-init : goal.loop-i-init
-loop-i-init c = (search needs, refl, slots-first _ _ _ _)
+loop-i-init c = (search rules, refl, slots-first _ _ _ _)
 
 pub offset_bounds-cam-i : goal.offset_bounds-cam-i
 offset_bounds-cam-i c = omega arith
@@ -44,7 +44,7 @@ loop-i-preserved c = (
   omega arith,
   c.put.auto.0 ∙ c.loop-i.invariant.1,
   c.loop-i.invariant.2
-      ∙ slots_turn (now c.args.cam) (now c.args.ram) c.loop-i.out c.put.new.0 c.args.at c.loop-i.i _ _ c.loop-i-test.true
+      ∙ slots_turn c.args.cam.now c.args.ram.now c.loop-i.out c.put.new.0 c.args.at c.loop-i.i _ _ c.loop-i-test.true
       (omega (arith, c.requires, c.loop-i.invariant.1)) c.swapped.ensures c.swapped-in-loop-i.ensures c.put.ensures,
 )
 

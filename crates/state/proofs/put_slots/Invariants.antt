@@ -1,5 +1,5 @@
 use Rattle.state.specs.Names.{length, ◌+◌, ◌*◌, ◌≤◌, slots, placed, ◌≡◌}
-use Rattle.state.proofs.Names.{needs, ◌-◌, slot_words, refl, sym, ◌∙◌, now, arith}
+use Rattle.state.proofs.Names.{rules, ◌-◌, slot_words, refl, sym, ◌∙◌, arith}
 use Rattle.state.proofs.Turns.{slots_left, slots-first, slots_turn, slots_end}
 use Rattle.state.proofs.put_slots.Given as goal
 

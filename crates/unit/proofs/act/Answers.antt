@@ -1,4 +1,4 @@
-use Rattle.unit.proofs.Names.{needs}
+use Rattle.unit.proofs.Names.{rules}
 use Rattle.unit.proofs.act.Goals as goal
 
 pub returns : goal.returns
@@ -7,7 +7,7 @@ returns c =
     (record {
       low_ends = c.lows-lows.ensures;
       high_ends = c.highs-highs.ensures;
-      cam-long = search (needs, c.well-formed.0);
-      lows_long = search needs;
-      highs_long = search needs;
+      cam-long = search (rules, c.well-formed.0);
+      lows_long = search rules;
+      highs_long = search rules;
     }) fit).is

@@ -1,12 +1,12 @@
 use Rattle.wire.specs.Names.{length, get_or, List, ◌-◌, ℕ, ◌+◌, ◌≤◌, ◌≡◌}
-use Rattle.wire.proofs.Names.{needs, add-one, refl, sym, ◌∙◌, ap, now, arith}
+use Rattle.wire.proofs.Names.{rules, add-one, refl, sym, ◌∙◌, ap, arith}
 use lib.ListN.{set, length-set}
 use Rattle.wire.proofs.Pastes.{copied}
 use lib.Seq.{paste, paste-zero, paste-suc}
 use Rattle.wire.proofs.copy.Goals as goal
 
 pub loop-i-init : goal.loop-i-init
-loop-i-init c = (search needs, refl, paste-zero c.args.out.now c.args.at c.args.s.now)
+loop-i-init c = (search rules, refl, paste-zero c.args.out.now c.args.at c.args.s.now)
 
 pub bounds-s-i : goal.bounds-s-i
 bounds-s-i c = omega arith

@@ -1,10 +1,10 @@
 use Rattle.wire.specs.Names.{length, ◌+◌, ◌*◌}
-use Rattle.wire.proofs.Names.{leb-true, words_put, sym, ◌∙◌, pick_yes, pick_no, now, needs}
+use Rattle.wire.proofs.Names.{leb-true, words_put, sym, ◌∙◌, pick_yes, pick_no, rules}
 use Rattle.wire.proofs.put.Goals as goal
 
 pub put_all-requires : goal.put_all-requires
 put_all-requires c =
-    let x = c.args in leb-true (x.at + 4 * length (now x.words)) (length (now x.out)) (sym c.room.ensures ∙ c.if-room.true)
+    let x = c.args in leb-true (x.at + 4 * length x.words.now) (length x.out.now) (sym c.room.ensures ∙ c.if-room.true)
 
 pub returns-then-room : goal.returns-then-room
 unfolding words_put

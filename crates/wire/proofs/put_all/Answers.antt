@@ -1,10 +1,10 @@
 use Rattle.wire.specs.Names.{◌-◌, ◌+◌, ◌*◌, ◌≤◌, length, drop, ◌≡◌}
-use Rattle.wire.proofs.Names.{needs, placed, refl, sym, ◌∙◌, now, arith}
+use Rattle.wire.proofs.Names.{rules, placed, refl, sym, ◌∙◌, arith}
 use Rattle.wire.proofs.Placing.{words_turn, words-first, words-end}
 use Rattle.wire.proofs.put_all.Goals as goal
 
 pub loop-i-init : goal.loop-i-init
-loop-i-init c = (search needs, refl, words-first _ _ _)
+loop-i-init c = (search rules, refl, words-first _ _ _)
 
 pub overflow_mul-i : goal.overflow_mul-i
 overflow_mul-i c = omega arith
@@ -32,7 +32,7 @@ loop-i-preserved c = (
   omega arith,
   c.put_word.auto.0 ∙ c.loop-i.invariant.1,
   c.loop-i.invariant.2
-      ∙ words_turn (now c.args.words) c.loop-i.out c.put_word.new.0 c.args.at c.loop-i.i c.loop-i-test.true (omega (arith, c.requires, c.loop-i.invariant.1))
+      ∙ words_turn c.args.words.now c.loop-i.out c.put_word.new.0 c.args.at c.loop-i.i c.loop-i-test.true (omega (arith, c.requires, c.loop-i.invariant.1))
       c.put_word.ensures,
 )
 

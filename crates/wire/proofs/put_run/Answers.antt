@@ -1,10 +1,10 @@
 use Rattle.wire.specs.Names.{length, ◌+◌, ◌*◌}
-use Rattle.wire.proofs.Names.{leb-true, run_put, sym, ◌∙◌, pick_yes, pick_no, now, needs}
+use Rattle.wire.proofs.Names.{leb-true, run_put, sym, ◌∙◌, pick_yes, pick_no, rules}
 use Rattle.wire.proofs.put_run.Goals as goal
 
 pub put_equal-requires : goal.put_equal-requires
 put_equal-requires c =
-    let x = c.args in leb-true (x.at + 4 * x.n) (length (now x.out)) (sym c.room.ensures ∙ c.if-room.true)
+    let x = c.args in leb-true (x.at + 4 * x.n) (length x.out.now) (sym c.room.ensures ∙ c.if-room.true)
 
 pub returns-then-room : goal.returns-then-room
 unfolding run_put

@@ -1,5 +1,5 @@
 use Rattle.audit.specs.Names.{◌+◌, ◌-◌, ◌≡◌, ◌≤◌}
-use Rattle.audit.proofs.Names.{now, ◌∙◌, ap₂, arith, all_are, taken}
+use Rattle.audit.proofs.Names.{◌∙◌, ap₂, arith, all_are, taken}
 use Rattle.audit.proofs.Equal.{all_turn, all_end}
 use mathlib.Core.Bool.{◌&&◌}
 use Rattle.audit.proofs.groups.all_are.Goals as goal
@@ -34,9 +34,9 @@ loop-k-preserved c =
     let x = c.args in (
       omega arith,
       c.loop-k.invariant.1
-          ∙ all_turn (now x.memory) x.o x.w x.j x.n c.loop-k.k c.loop-k.same c.word.result c.loop-k-test.true c.word.ensures,
+          ∙ all_turn x.memory.now x.o x.w x.j x.n c.loop-k.k c.loop-k.same c.word.result c.loop-k-test.true c.word.ensures,
     )
 
 pub returns : goal.returns
 returns c =
-    let x = c.args in all_end (now x.memory) x.o x.w x.j x.n c.loop-k.k c.loop-k.same c.loop-k-test.false c.loop-k.invariant.1
+    let x = c.args in all_end x.memory.now x.o x.w x.j x.n c.loop-k.k c.loop-k.same c.loop-k-test.false c.loop-k.invariant.1

@@ -1,5 +1,5 @@
 use Rattle.audit.specs.Names.{Scan, ◌%◌, ◌-◌, ◌≡◌, ◌≤◌, ℕ, Table}
-use Rattle.audit.proofs.Names.{needs, now, refl, subst, arith, taken, Scanned}
+use Rattle.audit.proofs.Names.{rules, refl, subst, arith, taken, Scanned}
 use Rattle.audit.proofs.Scans.{scanned_none, scanned_more, scanned_stop, count_most, coarse_grouped}
 use Rattle.audit.proofs.groups.scan_coarse.Goals as goal
 
@@ -10,7 +10,7 @@ pub scan_group-s-requires : goal.scan_group-s-requires
 scan_group-s-requires c =
     let x = c.args in
     let i = c.loop-j.invariant in
-    coarse_grouped (now x.memory) x.o c.loop-j.j (omega (arith, i.1, c.loop-j-test.true)) i.1
+    coarse_grouped x.memory.now x.o c.loop-j.j (omega (arith, i.1, c.loop-j-test.true)) i.1
 
 pub overflow_add-pages : goal.overflow_add-pages
 overflow_add-pages c =
@@ -29,19 +29,19 @@ loop-j-preserved c =
     let i = c.loop-j.invariant in (
       omega (arith, i.1, c.loop-j-test.true),
       omega (arith, i.1),
-      scanned_more Table.Coarse (now x.memory) x.o 0 c.loop-j.j 16 c.loop-j.j _ _ (omega arith) i.2
-          (subst (Scanned Table.Coarse (now x.memory) x.o c.loop-j.j 16) c.in-Pages.is c.scan_group-s.ensures),
+      scanned_more Table.Coarse x.memory.now x.o 0 c.loop-j.j 16 c.loop-j.j _ _ (omega arith) i.2
+          (subst (Scanned Table.Coarse x.memory.now x.o c.loop-j.j 16) c.in-Pages.is c.scan_group-s.ensures),
     )
 
 pub returns-in-Broken : goal.returns-in-Broken
 returns-in-Broken c =
     let x = c.args in
     let i = c.loop-j.invariant in
-    scanned_stop Table.Coarse (now x.memory) x.o 0 c.loop-j.j 16 256 c.loop-j.j _ _ (omega arith) (omega (arith, i.1, c.loop-j-test.true)) i.2
-    (subst (Scanned Table.Coarse (now x.memory) x.o c.loop-j.j 16) c.in-Broken.is c.scan_group-s.ensures)
+    scanned_stop Table.Coarse x.memory.now x.o 0 c.loop-j.j 16 256 c.loop-j.j _ _ (omega arith) (omega (arith, i.1, c.loop-j-test.true)) i.2
+    (subst (Scanned Table.Coarse x.memory.now x.o c.loop-j.j 16) c.in-Broken.is c.scan_group-s.ensures)
 
 pub returns : goal.returns
 returns c =
     let x = c.args in
     let z : c.loop-j.j ≡ 256 = omega (arith, c.loop-j.invariant.0, c.loop-j-test.false) in
-    subst (λ (k : ℕ). Scanned Table.Coarse (now x.memory) x.o 0 k (Scan.Pages c.loop-j.pages)) z c.loop-j.invariant.2
+    subst (λ (k : ℕ). Scanned Table.Coarse x.memory.now x.o 0 k (Scan.Pages c.loop-j.pages)) z c.loop-j.invariant.2

@@ -1,5 +1,5 @@
 use Rattle.audit.specs.Names.{Scan, ◌+◌, ◌-◌, ◌<◌, ◌≡◌, ◌≤◌, ℕ}
-use Rattle.audit.proofs.Names.{needs, now, refl, subst, sym, arith, taken, Scanned}
+use Rattle.audit.proofs.Names.{rules, refl, subst, sym, arith, taken, Scanned}
 use Rattle.audit.proofs.Equal.{taken_is}
 use Rattle.audit.proofs.Scans.{scanned_none, scanned_more, scanned_word, count_most}
 use Rattle.audit.proofs.groups.scan_each.Goals as goal
@@ -30,7 +30,7 @@ returns-then-r-gt1 c =
       omega (arith, c.loop-k-test.true),
       (λ k p q. i.1.0 k p (omega arith)),
       c.requires.1 (x.j + c.loop-k.k) (omega arith) (omega (arith, c.loop-k-test.true))
-          (subst (λ (r : ℕ). 1 < r) (taken_is x.table (now x.memory) x.o _ _ _ c.word.ensures c.taken-r.ensures) c.if-r-gt1.true),
+          (subst (λ (r : ℕ). 1 < r) (taken_is x.table x.memory.now x.o _ _ _ c.word.ensures c.taken-r.ensures) c.if-r-gt1.true),
     )
 
 pub overflow_add-pages : goal.overflow_add-pages
@@ -46,15 +46,15 @@ pub loop-k-preserved : goal.loop-k-preserved
 loop-k-preserved c =
     let x = c.args in
     let i = c.loop-k.invariant in
-    let e = taken_is x.table (now x.memory) x.o (x.j + c.loop-k.k) _ _ c.word.ensures c.taken-r.ensures in (
+    let e = taken_is x.table x.memory.now x.o (x.j + c.loop-k.k) _ _ c.word.ensures c.taken-r.ensures in (
       omega (arith, c.loop-k-test.true),
-      subst (λ (r : ℕ). Scanned x.table (now x.memory) x.o x.j (c.loop-k.k + 1) (Scan.Pages (c.loop-k.pages + r))) (sym e)
-          (scanned_more x.table (now x.memory) x.o x.j c.loop-k.k 1 _ c.loop-k.pages _ refl i.1
-          (scanned_word x.table (now x.memory) x.o (x.j + c.loop-k.k) (omega (arith, e, c.if-r-gt1.false)))),
+      subst (λ (r : ℕ). Scanned x.table x.memory.now x.o x.j (c.loop-k.k + 1) (Scan.Pages (c.loop-k.pages + r))) (sym e)
+          (scanned_more x.table x.memory.now x.o x.j c.loop-k.k 1 _ c.loop-k.pages _ refl i.1
+          (scanned_word x.table x.memory.now x.o (x.j + c.loop-k.k) (omega (arith, e, c.if-r-gt1.false)))),
     )
 
 pub returns : goal.returns
 returns c =
     let x = c.args in
     let z : c.loop-k.k ≡ x.n = omega (arith, c.loop-k.invariant.0, c.loop-k-test.false) in
-    subst (λ (k : ℕ). Scanned x.table (now x.memory) x.o x.j k (Scan.Pages c.loop-k.pages)) z c.loop-k.invariant.1
+    subst (λ (k : ℕ). Scanned x.table x.memory.now x.o x.j k (Scan.Pages c.loop-k.pages)) z c.loop-k.invariant.1

@@ -1,5 +1,5 @@
 use Rattle.audit.specs.Names.{Scan, ◌%◌, ◌-◌, ◌≡◌, ◌≤◌, ℕ, Table}
-use Rattle.audit.proofs.Names.{needs, now, refl, subst, arith, taken, Scanned}
+use Rattle.audit.proofs.Names.{rules, refl, subst, arith, taken, Scanned}
 use Rattle.audit.proofs.Scans.{scanned_none, scanned_more, scanned_stop, count_most}
 use Rattle.audit.proofs.groups.scan_fine.Goals as goal
 
@@ -29,19 +29,19 @@ loop-j-preserved c =
     let i = c.loop-j.invariant in (
       omega (arith, i.1, c.loop-j-test.true),
       omega (arith, i.1),
-      scanned_more Table.Fine (now x.memory) x.o 0 c.loop-j.j 64 c.loop-j.j _ _ (omega arith) i.2
-          (subst (Scanned Table.Fine (now x.memory) x.o c.loop-j.j 64) c.in-Pages.is c.scan_large-s.ensures),
+      scanned_more Table.Fine x.memory.now x.o 0 c.loop-j.j 64 c.loop-j.j _ _ (omega arith) i.2
+          (subst (Scanned Table.Fine x.memory.now x.o c.loop-j.j 64) c.in-Pages.is c.scan_large-s.ensures),
     )
 
 pub returns-in-Broken : goal.returns-in-Broken
 returns-in-Broken c =
     let x = c.args in
     let i = c.loop-j.invariant in
-    scanned_stop Table.Fine (now x.memory) x.o 0 c.loop-j.j 64 1024 c.loop-j.j _ _ (omega arith) (omega (arith, i.1, c.loop-j-test.true)) i.2
-    (subst (Scanned Table.Fine (now x.memory) x.o c.loop-j.j 64) c.in-Broken.is c.scan_large-s.ensures)
+    scanned_stop Table.Fine x.memory.now x.o 0 c.loop-j.j 64 1024 c.loop-j.j _ _ (omega arith) (omega (arith, i.1, c.loop-j-test.true)) i.2
+    (subst (Scanned Table.Fine x.memory.now x.o c.loop-j.j 64) c.in-Broken.is c.scan_large-s.ensures)
 
 pub returns : goal.returns
 returns c =
     let x = c.args in
     let z : c.loop-j.j ≡ 1024 = omega (arith, c.loop-j.invariant.0, c.loop-j-test.false) in
-    subst (λ (k : ℕ). Scanned Table.Fine (now x.memory) x.o 0 k (Scan.Pages c.loop-j.pages)) z c.loop-j.invariant.2
+    subst (λ (k : ℕ). Scanned Table.Fine x.memory.now x.o 0 k (Scan.Pages c.loop-j.pages)) z c.loop-j.invariant.2

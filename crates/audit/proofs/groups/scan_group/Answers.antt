@@ -1,5 +1,5 @@
 use Rattle.audit.specs.Names.{◌≡◌, ℕ}
-use Rattle.audit.proofs.Names.{needs, now, ◌∙◌, ap, sym, arith, all_are, taken, taken_at}
+use Rattle.audit.proofs.Names.{rules, ◌∙◌, ap, sym, arith, all_are, taken, taken_at}
 use Rattle.audit.proofs.Equal.{all_at, all_are_lem, taken_is}
 use Rattle.audit.proofs.Scans.{scanned_singles, scanned_group, broken_head, singles_broken}
 use Rattle.audit.proofs.groups.scan_group.Goals as goal
@@ -19,7 +19,7 @@ all_are-requires c = c.requires.room
 pub returns-then-all_are : goal.returns-then-all_are
 returns-then-all_are c =
     let x = c.args in
-    let l = now x.memory in
+    let l = x.memory.now in
     let e : taken_at x.table l x.o x.j ≡ x.n = sym (taken_is x.table l x.o x.j _ _ c.word-w.ensures c.taken.ensures) ∙ c.if-taken-n.true in
     scanned_group x.table l x.o x.j x.n c.requires.some c.requires.aligned e
     (λ k p q. all_at l x.o _ x.n x.j (sym c.all_are.ensures ∙ c.if-all_are.true) k p q ∙ c.word-w.ensures)
@@ -27,7 +27,7 @@ returns-then-all_are c =
 pub returns-then-taken-n : goal.returns-then-taken-n
 returns-then-taken-n c =
     let x = c.args in
-    let l = now x.memory in
+    let l = x.memory.now in
     let e : taken_at x.table l x.o x.j ≡ x.n = sym (taken_is x.table l x.o x.j _ _ c.word-w.ensures c.taken.ensures) ∙ c.if-taken-n.true in
     broken_head x.table l x.o x.j x.n c.requires.some c.requires.aligned e
     (ap (λ (w : ℕ). all_are l x.o w x.j x.n) (sym c.word-w.ensures) ∙ sym c.all_are.ensures ∙ c.if-all_are.false)
@@ -38,7 +38,7 @@ tally-t-requires c = (c.requires.room, c.requires.few)
 pub scan_each-requires : goal.scan_each-requires
 scan_each-requires c =
     let x = c.args in
-    let l = now x.memory in (
+    let l = x.memory.now in (
       c.requires.room,
       singles_broken x.table l x.o x.j x.n c.requires (λ e. c.if-taken-n.false (taken_is x.table l x.o x.j _ _ c.word-w.ensures c.taken.ensures ∙ e)),
     )
@@ -47,4 +47,4 @@ pub returns : goal.returns
 returns c =
     let x = c.args in
     let f = c.tally-t.ensures c.if-t.false in
-    scanned_singles x.table (now x.memory) x.o x.j x.n _ f.0 f.1
+    scanned_singles x.table x.memory.now x.o x.j x.n _ f.0 f.1

@@ -1,5 +1,5 @@
 use Rattle.audit.specs.Names.{Scan, ◌%◌, ◌+◌, ◌-◌, ◌≡◌, ◌≤◌, ℕ, Table}
-use Rattle.audit.proofs.Names.{needs, now, refl, subst, arith, taken, Scanned}
+use Rattle.audit.proofs.Names.{rules, refl, subst, arith, taken, Scanned}
 use Rattle.audit.proofs.Scans.{scanned_none, scanned_more, scanned_stop, count_most, small_grouped}
 use Rattle.audit.proofs.groups.scan_smalls.Goals as goal
 
@@ -13,7 +13,7 @@ pub scan_group-s-requires : goal.scan_group-s-requires
 scan_group-s-requires c =
     let x = c.args in
     let i = c.loop-k.invariant in
-    small_grouped (now x.memory) x.o (x.j + c.loop-k.k) (omega (arith, c.requires.0, i.1, c.loop-k-test.true)) (omega (arith, c.requires.1, i.1))
+    small_grouped x.memory.now x.o (x.j + c.loop-k.k) (omega (arith, c.requires.0, i.1, c.loop-k-test.true)) (omega (arith, c.requires.1, i.1))
     (λ y p q. c.requires.2 y (omega arith) (omega (arith, i.1, c.loop-k-test.true)))
 
 pub overflow_add-pages : goal.overflow_add-pages
@@ -33,19 +33,19 @@ loop-k-preserved c =
     let i = c.loop-k.invariant in (
       omega (arith, i.1, c.loop-k-test.true),
       omega (arith, i.1),
-      scanned_more Table.Fine (now x.memory) x.o x.j c.loop-k.k 4 _ _ _ refl i.2
-          (subst (Scanned Table.Fine (now x.memory) x.o (x.j + c.loop-k.k) 4) c.in-Pages.is c.scan_group-s.ensures),
+      scanned_more Table.Fine x.memory.now x.o x.j c.loop-k.k 4 _ _ _ refl i.2
+          (subst (Scanned Table.Fine x.memory.now x.o (x.j + c.loop-k.k) 4) c.in-Pages.is c.scan_group-s.ensures),
     )
 
 pub returns-in-Broken : goal.returns-in-Broken
 returns-in-Broken c =
     let x = c.args in
     let i = c.loop-k.invariant in
-    scanned_stop Table.Fine (now x.memory) x.o x.j c.loop-k.k 4 64 _ _ _ refl (omega (arith, i.1, c.loop-k-test.true)) i.2
-    (subst (Scanned Table.Fine (now x.memory) x.o (x.j + c.loop-k.k) 4) c.in-Broken.is c.scan_group-s.ensures)
+    scanned_stop Table.Fine x.memory.now x.o x.j c.loop-k.k 4 64 _ _ _ refl (omega (arith, i.1, c.loop-k-test.true)) i.2
+    (subst (Scanned Table.Fine x.memory.now x.o (x.j + c.loop-k.k) 4) c.in-Broken.is c.scan_group-s.ensures)
 
 pub returns : goal.returns
 returns c =
     let x = c.args in
     let z : c.loop-k.k ≡ 64 = omega (arith, c.loop-k.invariant.0, c.loop-k-test.false) in
-    subst (λ (k : ℕ). Scanned Table.Fine (now x.memory) x.o x.j k (Scan.Pages c.loop-k.pages)) z c.loop-k.invariant.2
+    subst (λ (k : ℕ). Scanned Table.Fine x.memory.now x.o x.j k (Scan.Pages c.loop-k.pages)) z c.loop-k.invariant.2

@@ -1,5 +1,5 @@
 use Rattle.audit.specs.Names.{◌%◌, ◌-◌, ◌≡◌, ◌≤◌, ℕ, second_of, Table}
-use Rattle.audit.proofs.Names.{eqb-false, now, ◌∙◌, ap, subst, sym, arith, taken, taken_at, InRun, PageCount}
+use Rattle.audit.proofs.Names.{eqb-false, ◌∙◌, ap, subst, sym, arith, taken, taken_at, InRun, PageCount}
 use Rattle.audit.proofs.Scans.{tally-none, tally-more}
 use Rattle.audit.proofs.Sizes.{coarse_single, or_clear}
 use Rattle.audit.proofs.groups.tally_coarse.Goals as goal
@@ -36,7 +36,7 @@ loop-k-preserved c =
       omega (arith, i.1),
       (λ e.
           let b = or_clear 0 1 c.loop-k.bits c.word-w.result (omega (arith, e)) in
-          tally-more Table.Coarse (now x.memory) x.o x.j c.loop-k.k c.loop-k.pages _ (i.2 (omega (arith, b.0)))
+          tally-more Table.Coarse x.memory.now x.o x.j c.loop-k.k c.loop-k.pages _ (i.2 (omega (arith, b.0)))
           (ap (λ (w : ℕ). taken Table.Coarse (second_of Table.Coarse w)) (sym c.word-w.ensures) ∙ coarse_single c.word-w.result (omega (arith, b.1))) (omega arith)),
     )
 
@@ -49,5 +49,5 @@ returns c =
     let x = c.args in
     let i = c.loop-k.invariant in
     let z : c.loop-k.k ≡ x.n = omega (arith, i.0, c.loop-k-test.false) in
-    subst (λ (k : ℕ). InRun x.j k (λ (y : ℕ). taken_at Table.Coarse (now x.memory) x.o y ≤ 1) × PageCount Table.Coarse (now x.memory) x.o x.j k c.loop-k.pages) z
+    subst (λ (k : ℕ). InRun x.j k (λ (y : ℕ). taken_at Table.Coarse x.memory.now x.o y ≤ 1) × PageCount Table.Coarse x.memory.now x.o x.j k c.loop-k.pages) z
     (i.2 (omega (arith, eqb-false (c.loop-k.bits % 2) 1 e)))

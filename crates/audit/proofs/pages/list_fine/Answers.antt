@@ -1,5 +1,5 @@
 use Rattle.audit.specs.Names.{◌%◌, ◌-◌, ◌≡◌, ◌≤◌, length, ℕ, Table}
-use Rattle.audit.proofs.Names.{now, ◌∙◌, refl, subst, arith, taken, table_pages, Put}
+use Rattle.audit.proofs.Names.{◌∙◌, refl, subst, arith, taken, table_pages, Put}
 use Rattle.audit.proofs.Putting.{listable_next, put_next, put_first}
 use Rattle.audit.proofs.pages.list_fine.Goals as goal
 
@@ -10,7 +10,7 @@ pub list_large-at-requires : goal.list_large-at-requires
 list_large-at-requires c =
     let x = c.args in
     let v = c.loop-j.invariant in (
-      listable_next Table.Fine (now x.memory) x.o x.i 0 1024 x.from (now x.out) c.requires c.loop-j.j 64 c.loop-j.j _ _ (omega arith)
+      listable_next Table.Fine x.memory.now x.o x.i 0 1024 x.from x.out.now c.requires c.loop-j.j 64 c.loop-j.j _ _ (omega arith)
           (omega (arith, v.1, c.loop-j-test.true)) v.3,
       v.1,
     )
@@ -28,7 +28,7 @@ loop-j-preserved c =
       omega (arith, v.1, c.loop-j-test.true),
       omega (arith, v.1),
       c.list_large-at.auto.1.1.1.1.0 ∙ v.2,
-      put_next Table.Fine (now x.memory) x.o x.i 0 1024 x.from (now x.out) c.requires c.loop-j.j 64 c.loop-j.j _ _ _ _ (omega arith)
+      put_next Table.Fine x.memory.now x.o x.i 0 1024 x.from x.out.now c.requires c.loop-j.j 64 c.loop-j.j _ _ _ _ (omega arith)
           (omega (arith, v.1, c.loop-j-test.true)) v.3 c.list_large-at.ensures,
     )
 
@@ -36,4 +36,4 @@ pub returns : goal.returns
 returns c =
     let x = c.args in
     let z : c.loop-j.j ≡ 1024 = omega (arith, c.loop-j.invariant.0, c.loop-j-test.false) in
-    subst (λ (k : ℕ). Put (table_pages Table.Fine (now x.memory) x.o x.i 0 k) x.from (now x.out) c.loop-j.at c.loop-j.out) z c.loop-j.invariant.3
+    subst (λ (k : ℕ). Put (table_pages Table.Fine x.memory.now x.o x.i 0 k) x.from x.out.now c.loop-j.at c.loop-j.out) z c.loop-j.invariant.3

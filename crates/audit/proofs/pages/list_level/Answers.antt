@@ -1,5 +1,5 @@
 use Rattle.audit.specs.Names.{◌-◌, ◌≡◌, ◌≤◌, length, ℕ, megabytes, records_of, first_of, First, pasted}
-use Rattle.audit.proofs.Names.{needs, now, ◌∙◌, ap, refl, subst, sym, arith, taken, level_pages, first_pages, FirstListable, Put}
+use Rattle.audit.proofs.Names.{rules, ◌∙◌, ap, refl, subst, sym, arith, taken, level_pages, first_pages, FirstListable, Put}
 use Rattle.audit.proofs.Putting.{first_fits, level_put, put_start}
 use Rattle.audit.proofs.pages.list_level.Goals as goal
 
@@ -18,13 +18,13 @@ word-requires c = omega (arith, c.requires.first, c.loop-i-test.true)
 pub list_first-at-requires : goal.list_first-at-requires
 list_first-at-requires c =
     let x = c.args in
-    let l = now x.memory in
+    let l = x.memory.now in
     let d = c.decode_first-d.ensures ∙ ap first_of c.word.ensures in
     subst (λ (y : First). FirstListable l x.base c.loop-i.i y c.loop-i.at (length c.loop-i.out)) (sym d)
     (record {
       sound = c.requires.sound c.loop-i.i c.loop-i-test.true;
       megabyte = c.loop-i-test.true;
-      records = first_fits l x.base megabytes c.loop-i.i c.loop-i.at (now x.out) c.loop-i.out c.loop-i-test.true c.requires.records c.loop-i.invariant.2;
+      records = first_fits l x.base megabytes c.loop-i.i c.loop-i.at x.out.now c.loop-i.out c.loop-i-test.true c.requires.records c.loop-i.invariant.2;
     })
 
 pub overflow_add-i : goal.overflow_add-i
@@ -36,12 +36,12 @@ loop-i-smaller c = omega (arith, c.loop-i-test.true)
 pub loop-i-preserved : goal.loop-i-preserved
 loop-i-preserved c =
     let x = c.args in
-    let l = now x.memory in
+    let l = x.memory.now in
     let v = c.loop-i.invariant in
     let d = c.decode_first-d.ensures ∙ ap first_of c.word.ensures in (
       omega (arith, c.loop-i-test.true),
       c.list_first-at.auto.1.1.1.1.0 ∙ v.1,
-      level_put l x.base megabytes c.loop-i.i c.loop-i.at (now x.out) c.loop-i.out c.loop-i-test.true c.requires.records v.2 _ _
+      level_put l x.base megabytes c.loop-i.i c.loop-i.at x.out.now c.loop-i.out c.loop-i-test.true c.requires.records v.2 _ _
           (subst (λ (y : First). Put (first_pages l x.base c.loop-i.i y) c.loop-i.at c.loop-i.out c.list_first-at.result c.list_first-at.new.1.1.1.1.0) d
           c.list_first-at.ensures),
     )
@@ -50,4 +50,4 @@ pub returns : goal.returns
 returns c =
     let x = c.args in
     let z : c.loop-i.i ≡ megabytes = omega (arith, c.loop-i.invariant.0, c.loop-i-test.false) in
-    subst (λ (k : ℕ). c.loop-i.out ≡ pasted (now x.out) 0 (records_of (level_pages (now x.memory) x.base 0 k))) z c.loop-i.invariant.2.1
+    subst (λ (k : ℕ). c.loop-i.out ≡ pasted x.out.now 0 (records_of (level_pages x.memory.now x.base 0 k))) z c.loop-i.invariant.2.1

@@ -1,5 +1,5 @@
 use Rattle.audit.specs.Names.{◌%◌, ◌+◌, ◌-◌, ◌≡◌, ◌≤◌, length, ℕ, Table}
-use Rattle.audit.proofs.Names.{now, ◌∙◌, refl, subst, arith, taken, table_pages, Put}
+use Rattle.audit.proofs.Names.{◌∙◌, refl, subst, arith, taken, table_pages, Put}
 use Rattle.audit.proofs.Putting.{listable_next, put_next, put_first, small_listable}
 use Rattle.audit.proofs.pages.list_smalls.Goals as goal
 
@@ -12,11 +12,11 @@ overflow_add-j c = omega (arith, c.requires.0.index, c.loop-k-test.true)
 pub list_group-at-requires : goal.list_group-at-requires
 list_group-at-requires c =
     let x = c.args in
-    let l = now x.memory in
+    let l = x.memory.now in
     let k = c.loop-k.k in
     let v = c.loop-k.invariant in
     small_listable l x.o x.i (x.j + k) _ _ (omega (arith, c.requires.1, v.1)) (λ y p q. c.requires.2 y (omega arith) (omega (arith, v.1, c.loop-k-test.true)))
-    (listable_next Table.Fine l x.o x.i x.j 64 x.from (now x.out) c.requires.0 k 4 (x.j + k) _ _ refl (omega (arith, v.1, c.loop-k-test.true)) v.3)
+    (listable_next Table.Fine l x.o x.i x.j 64 x.from x.out.now c.requires.0 k 4 (x.j + k) _ _ refl (omega (arith, v.1, c.loop-k-test.true)) v.3)
 
 pub overflow_add-k : goal.overflow_add-k
 overflow_add-k c = omega (arith, c.loop-k-test.true)
@@ -31,7 +31,7 @@ loop-k-preserved c =
       omega (arith, v.1, c.loop-k-test.true),
       omega (arith, v.1),
       c.list_group-at.auto.1.1.1.1.1.1.0 ∙ v.2,
-      put_next Table.Fine (now x.memory) x.o x.i x.j 64 x.from (now x.out) c.requires.0 c.loop-k.k 4 (x.j + c.loop-k.k) _ _ _ _ refl
+      put_next Table.Fine x.memory.now x.o x.i x.j 64 x.from x.out.now c.requires.0 c.loop-k.k 4 (x.j + c.loop-k.k) _ _ _ _ refl
           (omega (arith, v.1, c.loop-k-test.true)) v.3 c.list_group-at.ensures,
     )
 
@@ -39,4 +39,4 @@ pub returns : goal.returns
 returns c =
     let x = c.args in
     let z : c.loop-k.k ≡ 64 = omega (arith, c.loop-k.invariant.0, c.loop-k-test.false) in
-    subst (λ (k : ℕ). Put (table_pages Table.Fine (now x.memory) x.o x.i x.j k) x.from (now x.out) c.loop-k.at c.loop-k.out) z c.loop-k.invariant.3
+    subst (λ (k : ℕ). Put (table_pages Table.Fine x.memory.now x.o x.i x.j k) x.from x.out.now c.loop-k.at c.loop-k.out) z c.loop-k.invariant.3

@@ -1,5 +1,5 @@
 use Rattle.audit.specs.Names.{List, ◌*◌, ◌+◌, ◌<◌, ◌^◌, length, ℕ, records_of, Mapping, second_of, Found, pasted}
-use Rattle.audit.proofs.Names.{needs, now, ◌∙◌, ap, refl, subst, sym, arith}
+use Rattle.audit.proofs.Names.{rules, ◌∙◌, ap, refl, subst, sym, arith}
 use Rattle.audit.proofs.Inside.{limit-most, word_low}
 use Rattle.audit.proofs.Putting.{put_none, put_same, page-listed, none-listed}
 use Rattle.audit.proofs.pages.list_word.Goals as goal
@@ -30,7 +30,7 @@ overflow_add-i c =
 pub put_page-requires : goal.put_page-requires
 put_page-requires c =
     let x = c.args in
-    let e = page-listed x.table (now x.memory) x.o x.i x.j _ _ (sym (c.decode_second-f.ensures ∙ ap (second_of x.table) c.word-w.ensures) ∙ c.in-Page.is) c.requires.1 refl in
+    let e = page-listed x.table x.memory.now x.o x.i x.j _ _ (sym (c.decode_second-f.ensures ∙ ap (second_of x.table) c.word-w.ensures) ∙ c.in-Page.is) c.requires.1 refl in
     omega (arith, c.requires.0.records, ap length e)
 
 pub overflow_add-result : goal.overflow_add-result
@@ -39,22 +39,22 @@ overflow_add-result c = omega (arith, c.requires.0.records)
 pub returns-in-Page : goal.returns-in-Page
 returns-in-Page c =
     let x = c.args in
-    let e = page-listed x.table (now x.memory) x.o x.i x.j _ (x.i * 2 ^ 20 + x.j * c.span.result)
+    let e = page-listed x.table x.memory.now x.o x.i x.j _ (x.i * 2 ^ 20 + x.j * c.span.result)
     (sym (c.decode_second-f.ensures ∙ ap (second_of x.table) c.word-w.ensures) ∙ c.in-Page.is) c.requires.1 (ap (λ (r : ℕ). x.i * 2 ^ 20 + x.j * r) c.span.ensures) in (
       omega (arith, ap length e),
-      c.put_page.ensures ∙ ap (λ (ms : List Mapping). pasted (now x.out) x.at (records_of ms)) (sym e),
+      c.put_page.ensures ∙ ap (λ (ms : List Mapping). pasted x.out.now x.at (records_of ms)) (sym e),
     )
 
 pub returns-in-NoPage : goal.returns-in-NoPage
 returns-in-NoPage c =
     let x = c.args in
-    put_same _ _ x.at x.at (now x.out) (now x.out)
-    (sym (none-listed x.table (now x.memory) x.o x.i x.j Found.NoPage
-    (sym (c.decode_second-f.ensures ∙ ap (second_of x.table) c.word-w.ensures) ∙ c.in-NoPage.is) refl)) (put_none x.at (now x.out))
+    put_same _ _ x.at x.at x.out.now x.out.now
+    (sym (none-listed x.table x.memory.now x.o x.i x.j Found.NoPage
+    (sym (c.decode_second-f.ensures ∙ ap (second_of x.table) c.word-w.ensures) ∙ c.in-NoPage.is) refl)) (put_none x.at x.out.now)
 
 pub returns-in-Missing : goal.returns-in-Missing
 returns-in-Missing c =
     let x = c.args in
-    put_same _ _ x.at x.at (now x.out) (now x.out)
-    (sym (none-listed x.table (now x.memory) x.o x.i x.j Found.Missing
-    (sym (c.decode_second-f.ensures ∙ ap (second_of x.table) c.word-w.ensures) ∙ c.in-Missing.is) refl)) (put_none x.at (now x.out))
+    put_same _ _ x.at x.at x.out.now x.out.now
+    (sym (none-listed x.table x.memory.now x.o x.i x.j Found.Missing
+    (sym (c.decode_second-f.ensures ∙ ap (second_of x.table) c.word-w.ensures) ∙ c.in-Missing.is) refl)) (put_none x.at x.out.now)

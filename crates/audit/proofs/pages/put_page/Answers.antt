@@ -1,5 +1,5 @@
 use Rattle.audit.specs.Names.{List, [], ◌%◌, ◌*◌, ◌++◌, ◌+◌, ◌-◌, ◌∷◌, ℕ, pasted}
-use Rattle.audit.proofs.Names.{needs, now, ◌∙◌, ap, arith, page_mapping}
+use Rattle.audit.proofs.Names.{rules, ◌∙◌, ap, arith, page_mapping}
 use Rattle.page.proofs.Slot.{type_of-lt}
 use Rattle.wire.proofs.Pastes.{part_filled}
 use Rattle.wire.specs.Words.{bytes_of}
@@ -15,7 +15,7 @@ returns c =
     let x = c.args in
     let ws : List ℕ = x.va ∷ x.p.frame.0 ∷ (c.type_of.result + 256 * (x.p.access % 256)) ∷ [] in
     let k : ℕ = x.at + 12 - x.at in
-    ap (λ (y : List ℕ). take x.at (now x.out) ++ (y ++ drop k (drop x.at (now x.out)))) c.put.ensures
-    ∙ part_filled (now x.out) x.at k ws (omega arith) (omega (arith, c.requires))
-    ∙ ap (λ (r : ℕ). pasted (now x.out) x.at (bytes_of (x.va ∷ x.p.frame.0 ∷ (r + 256 * (x.p.access % 256)) ∷ []))) c.type_of.ensures
-    ∙ ap (pasted (now x.out) x.at) (record_words (page_mapping x.va x.p))
+    ap (λ (y : List ℕ). take x.at x.out.now ++ (y ++ drop k (drop x.at x.out.now))) c.put.ensures
+    ∙ part_filled x.out.now x.at k ws (omega arith) (omega (arith, c.requires))
+    ∙ ap (λ (r : ℕ). pasted x.out.now x.at (bytes_of (x.va ∷ x.p.frame.0 ∷ (r + 256 * (x.p.access % 256)) ∷ []))) c.type_of.ensures
+    ∙ ap (pasted x.out.now x.at) (record_words (page_mapping x.va x.p))

@@ -1,5 +1,5 @@
 use Rattle.audit.specs.Names.{◌%◌, ◌+◌, ◌-◌, ◌≡◌, ◌≤◌, ℕ}
-use Rattle.audit.proofs.Names.{eqb-true, now, ◌∙◌, ap, sym, arith, table_word, InRun}
+use Rattle.audit.proofs.Names.{eqb-true, ◌∙◌, ap, sym, arith, table_word, InRun}
 use Rattle.audit.proofs.Scans.{in_both}
 use Rattle.audit.proofs.Sizes.{or_clear}
 use Rattle.audit.proofs.pages.vacant.Goals as goal
@@ -32,10 +32,10 @@ loop-k-preserved c =
       omega arith,
       (λ e.
           let b = or_clear 0 2 c.loop-k.bits c.word-bits.result (omega (arith, e)) in
-          in_both (λ (y : ℕ). table_word (now x.memory) x.o y % 4 ≡ 0) x.j c.loop-k.k 1 (i.1 (omega (arith, b.0)))
+          in_both (λ (y : ℕ). table_word x.memory.now x.o y % 4 ≡ 0) x.j c.loop-k.k 1 (i.1 (omega (arith, b.0)))
           (λ y p q.
           let z : x.j + c.loop-k.k ≡ y = omega arith in
-          ap (λ (v : ℕ). table_word (now x.memory) x.o v % 4) (sym z) ∙ ap (λ (w : ℕ). w % 4) (sym c.word-bits.ensures) ∙ (let u : c.word-bits.result % 4 ≡ 0 = omega (arith, b.1) in u))),
+          ap (λ (v : ℕ). table_word x.memory.now x.o v % 4) (sym z) ∙ ap (λ (w : ℕ). w % 4) (sym c.word-bits.ensures) ∙ (let u : c.word-bits.result % 4 ≡ 0 = omega (arith, b.1) in u))),
     )
 
 pub returns : goal.returns

@@ -1,4 +1,4 @@
-use Rattle.bank.proofs.Names.{needs, ◌-◌, arith, high_of}
+use Rattle.bank.proofs.Names.{rules, ◌-◌, arith, high_of}
 use Rattle.bank.proofs.Ends.{Filling, filling_turns, filling_ends}
 use Rattle.bank.proofs.slots.highs.Given as goal
 

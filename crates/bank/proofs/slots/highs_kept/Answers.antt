@@ -1,9 +1,9 @@
-use Rattle.bank.proofs.Names.{needs, ◌-◌, high_kept}
+use Rattle.bank.proofs.Names.{rules, ◌-◌, high_kept}
 use Rattle.bank.proofs.Ends.{Keeping, keeping_starts, keeping_turns, keeping_ends}
 use Rattle.bank.proofs.slots.highs_kept.Goals as goal
 
 pub loop-i-init : goal.loop-i-init
-loop-i-init c = keeping_starts high_kept c.args.cam.now c.args.highs (search needs)
+loop-i-init c = keeping_starts high_kept c.args.cam.now c.args.highs (search rules)
 
 pub loop-i-preserved : goal.loop-i-preserved
 loop-i-preserved c =

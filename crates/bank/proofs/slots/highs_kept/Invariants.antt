@@ -1,4 +1,4 @@
-use Rattle.bank.proofs.Names.{needs, ◌-◌, high_kept}
+use Rattle.bank.proofs.Names.{rules, ◌-◌, high_kept}
 use Rattle.bank.proofs.Ends.{Keeping, keeping_starts, keeping_turns, keeping_ends}
 use Rattle.bank.proofs.slots.highs_kept.Given as goal
 

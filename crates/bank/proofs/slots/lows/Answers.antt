@@ -1,9 +1,9 @@
-use Rattle.bank.proofs.Names.{needs, ◌-◌, arith, low_of}
+use Rattle.bank.proofs.Names.{rules, ◌-◌, arith, low_of}
 use Rattle.bank.proofs.Ends.{Filling, filling_turns, filling_ends}
 use Rattle.bank.proofs.slots.lows.Goals as goal
 
 pub loop-i-init : goal.loop-i-init
-loop-i-init c = (omega arith, (search needs, λ j l. absurd (omega arith)))
+loop-i-init c = (omega arith, (search rules, λ j l. absurd (omega arith)))
 
 pub loop-i-preserved : goal.loop-i-preserved
 loop-i-preserved c =

@@ -1,4 +1,4 @@
-use Rattle.bank.proofs.Names.{needs, ◌-◌, arith, low_of}
+use Rattle.bank.proofs.Names.{rules, ◌-◌, arith, low_of}
 use Rattle.bank.proofs.Ends.{Filling, filling_turns, filling_ends}
 use Rattle.bank.proofs.slots.lows.Given as goal
 

@@ -1,9 +1,9 @@
-use Rattle.bank.proofs.Names.{needs, ◌-◌, low_kept}
+use Rattle.bank.proofs.Names.{rules, ◌-◌, low_kept}
 use Rattle.bank.proofs.Ends.{Keeping, keeping_starts, keeping_turns, keeping_ends}
 use Rattle.bank.proofs.slots.lows_kept.Goals as goal
 
 pub loop-i-init : goal.loop-i-init
-loop-i-init c = keeping_starts low_kept c.args.cam.now c.args.lows (search needs)
+loop-i-init c = keeping_starts low_kept c.args.cam.now c.args.lows (search rules)
 
 pub loop-i-preserved : goal.loop-i-preserved
 loop-i-preserved c =

@@ -1,4 +1,4 @@
-use Rattle.bank.proofs.Names.{needs, ◌-◌, low_kept}
+use Rattle.bank.proofs.Names.{rules, ◌-◌, low_kept}
 use Rattle.bank.proofs.Ends.{Keeping, keeping_starts, keeping_turns, keeping_ends}
 use Rattle.bank.proofs.slots.lows_kept.Given as goal
 

@@ -1,4 +1,4 @@
-use Rattle.bank.proofs.Names.{needs, ◌-◌}
+use Rattle.bank.proofs.Names.{rules, ◌-◌}
 use Rattle.bank.proofs.Seeking.{Seeking, seeking_starts, seeking_turns, seeking_finds, seeking_misses}
 use Rattle.bank.proofs.slots.search.Goals as goal
 

@@ -1,14 +1,14 @@
-use Rattle.bank.proofs.Names.{refl, now, needs}
+use Rattle.bank.proofs.Names.{refl, rules}
 use Rattle.bank.proofs.Changed.{filled_none, filled-slot}
 use Rattle.bank.proofs.slots.take.Goals as goal
 
 pub returns-in-Nothing : goal.returns-in-Nothing
 returns-in-Nothing c =
-    λ s _ _. let x = c.args in filled_none (now x.cam) (now x.ram) (now x.lows) (now x.highs) x.lock x.victim x.fill c.in-Nothing.is s
+    λ s _ _. let x = c.args in filled_none x.cam.now x.ram.now x.lows.now x.highs.now x.lock x.victim x.fill c.in-Nothing.is s
 
 pub returns-in-Slot : goal.returns-in-Slot
 returns-in-Slot c =
     let x = c.args in
     let g = c.fill-1.given in
-    filled-slot (now x.cam) (now x.ram) (now x.lows) (now x.highs) x.lock x.victim _ _ g.0.0 x.fill _ _ _ g.1 c.next_slot-at.ensures c.next_victim.ensures
+    filled-slot x.cam.now x.ram.now x.lows.now x.highs.now x.lock x.victim _ _ g.0.0 x.fill _ _ _ g.1 c.next_slot-at.ensures c.next_victim.ensures
     refl c.low_of.ensures c.high_of.ensures

@@ -1,4 +1,4 @@
-use Rattle.bill.proofs.Names.{needs}
+use Rattle.bill.proofs.Names.{rules}
 use Rattle.bill.proofs.Bill.fresh.Goals as goal
 
 pub returns : goal.returns

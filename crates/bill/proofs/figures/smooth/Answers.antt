@@ -1,4 +1,4 @@
-use Rattle.bill.proofs.Names.{smoothed, needs}
+use Rattle.bill.proofs.Names.{smoothed, rules}
 use Rattle.bill.proofs.figures.smooth.Goals as goal
 
 pub returns : goal.returns

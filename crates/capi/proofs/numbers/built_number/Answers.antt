@@ -1,5 +1,5 @@
 use Rattle.capi.specs.Names.{Built}
-use Rattle.capi.proofs.Names.{built_word, cut_built, sym, ◌∙◌, ap, needs}
+use Rattle.capi.proofs.Names.{built_word, cut_built, sym, ◌∙◌, ap, rules}
 use Rattle.capi.proofs.numbers.built_number.Goals as goal
 
 pub returns-in-BadRecord : goal.returns-in-BadRecord

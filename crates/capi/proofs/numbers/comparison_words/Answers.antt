@@ -1,5 +1,5 @@
 use Rattle.capi.specs.Names.{Comparison}
-use Rattle.capi.proofs.Names.{needs, ◌∙◌, ap, sym, comparison_said}
+use Rattle.capi.proofs.Names.{rules, ◌∙◌, ap, sym, comparison_said}
 use Rattle.capi.proofs.numbers.comparison_words.Goals as goal
 
 pub returns-in-BadLength : goal.returns-in-BadLength

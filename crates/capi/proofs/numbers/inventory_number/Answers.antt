@@ -1,5 +1,5 @@
 use Rattle.capi.specs.Names.{Inventory}
-use Rattle.capi.proofs.Names.{needs, ◌∙◌, ap, sym, cut_inventory, inventory_word}
+use Rattle.capi.proofs.Names.{rules, ◌∙◌, ap, sym, cut_inventory, inventory_word}
 use Rattle.capi.proofs.numbers.inventory_number.Goals as goal
 
 pub returns-in-Outside : goal.returns-in-Outside

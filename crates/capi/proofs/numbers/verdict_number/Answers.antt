@@ -1,4 +1,4 @@
-use Rattle.capi.proofs.Names.{needs, ◌∙◌, ap, sym, verdict_word}
+use Rattle.capi.proofs.Names.{rules, ◌∙◌, ap, sym, verdict_word}
 use Rattle.capi.proofs.numbers.verdict_number.Goals as goal
 
 pub returns-in-Outside : goal.returns-in-Outside

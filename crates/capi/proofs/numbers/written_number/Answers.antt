@@ -1,5 +1,5 @@
 use Rattle.capi.specs.Names.{Written}
-use Rattle.capi.proofs.Names.{needs, ◌∙◌, ap, sym, cut_written, written_word}
+use Rattle.capi.proofs.Names.{rules, ◌∙◌, ap, sym, cut_written, written_word}
 use Rattle.capi.proofs.numbers.written_number.Goals as goal
 
 pub returns-in-Bad : goal.returns-in-Bad

@@ -1,5 +1,5 @@
 use Rattle.listing.specs.Names.{◌-◌, ◌*◌, ◌<◌, ◌≤◌, length}
-use Rattle.listing.proofs.Names.{end, refl, sym, ◌∙◌, pick_yes, pick_no, lt-ltb, le-ltb, arith, needs}
+use Rattle.listing.proofs.Names.{end, refl, sym, ◌∙◌, pick_yes, pick_no, lt-ltb, le-ltb, arith, rules}
 use Rattle.listing.proofs.Digits.{On, on-bad, on-more, on-end, on_small}
 use Rattle.listing.proofs.hex.digits.Goals as goal
 

@@ -1,5 +1,5 @@
 use Rattle.listing.specs.Names.{◌≡◌, ℕ, ◌-◌, take}
-use Rattle.listing.proofs.Names.{comment_of, ◌∙◌, ap, now, arith, needs}
+use Rattle.listing.proofs.Names.{comment_of, ◌∙◌, ap, arith, rules}
 use Rattle.listing.proofs.Says.{body_fits}
 use Rattle.listing.proofs.notes.comment.Goals as goal
 
@@ -8,4 +8,4 @@ slice_bounds-words_of-end c = omega (arith, body_fits c.args.line.now, c.body_le
 
 pub returns : goal.returns
 returns c =
-    c.words_of.ensures ∙ ap (λ (n : ℕ). comment_of (take n (now c.args.line))) (let z : c.body_length-n.result - 0 ≡ c.body_length-n.result = omega arith in z ∙ c.body_length-n.ensures)
+    c.words_of.ensures ∙ ap (λ (n : ℕ). comment_of (take n c.args.line.now)) (let z : c.body_length-n.result - 0 ≡ c.body_length-n.result = omega arith in z ∙ c.body_length-n.ensures)

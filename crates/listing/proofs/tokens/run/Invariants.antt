@@ -1,5 +1,5 @@
 use Rattle.listing.specs.Names.{◌≡◌, ◌+◌, ◌-◌, ◌≤◌, length}
-use Rattle.listing.proofs.Names.{belongs, run_length, sym, ◌∙◌, not-true, not-false, now, arith, needs}
+use Rattle.listing.proofs.Names.{belongs, run_length, sym, ◌∙◌, not-true, not-false, arith, rules}
 use Rattle.listing.proofs.Runs.{Passed, passed_stop, passed_more, passed_all}
 use Rattle.listing.proofs.tokens.run.Given as goal
 

@@ -1,5 +1,5 @@
 use Rattle.mkimage.specs.Names.{take}
-use Rattle.mkimage.proofs.Names.{decimal, ◌∙◌, now, arith, needs}
+use Rattle.mkimage.proofs.Names.{decimal, ◌∙◌, arith, rules}
 use Rattle.mkimage.proofs.Texts.{pasted-taken, digits_are, fewest_twenty}
 use Rattle.mkimage.proofs.output.put_decimal.Goals as goal
 
@@ -9,5 +9,5 @@ put-requires c =
 
 pub returns : goal.returns
 returns c =
-    pasted-taken (now c.args.out) c.args.at (take c.decimal-k.result c.decimal-k.new.1.0) (decimal c.args.n) _ _
+    pasted-taken c.args.out.now c.args.at (take c.decimal-k.result c.decimal-k.new.1.0) (decimal c.args.n) _ _
     (c.decimal-k.ensures.len.1 ∙ digits_are 20 c.decimal-k.result c.args.n c.decimal-k.ensures.len.0 (fewest_twenty _ _ c.decimal-k.ensures.len.0 (omega arith))) c.put.ensures

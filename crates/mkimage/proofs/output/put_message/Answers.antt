@@ -1,4 +1,4 @@
-use Rattle.mkimage.proofs.Names.{now, arith, needs}
+use Rattle.mkimage.proofs.Names.{arith, rules}
 use Rattle.mkimage.proofs.Texts.{count_of, decimal-length, message-is}
 use Rattle.mkimage.proofs.output.put_message.Goals as goal
 
@@ -42,5 +42,5 @@ put-requires c =
 
 pub returns : goal.returns
 returns c =
-    message-is (now c.args.out) _ _ _ _ _ c.args.number c.args.value _ _ _ _ _ c.put-a.ensures c.put_decimal-b.ensures c.put-c.ensures
+    message-is c.args.out.now _ _ _ _ _ c.args.number c.args.value _ _ _ _ _ c.put-a.ensures c.put_decimal-b.ensures c.put-c.ensures
     c.put_decimal-d.ensures c.put.ensures

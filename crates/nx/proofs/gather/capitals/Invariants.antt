@@ -1,4 +1,4 @@
-use Rattle.nx.proofs.Names.{◌-◌, needs}
+use Rattle.nx.proofs.Names.{◌-◌, rules}
 use Rattle.std.proofs.Common.{◌≤◌}
 use Rattle.nx.proofs.gather.capitals.Given as goal
 

@@ -1,4 +1,4 @@
-use Rattle.nx.proofs.Names.{needs}
+use Rattle.nx.proofs.Names.{rules}
 use Rattle.nx.proofs.parse.kept.Given as goal
 
 abbrev pub invariant-loop-n : goal.invariant-loop-n

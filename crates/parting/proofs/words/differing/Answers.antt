@@ -1,6 +1,6 @@
 use Rattle.parting.specs.Spans.{block}
 use Rattle.parting.specs.Names.{◌+◌, ◌-◌, ◌≡◌, ◌≤◌}
-use Rattle.parting.proofs.Names.{now, arith, differing}
+use Rattle.parting.proofs.Names.{arith, differing}
 use Rattle.parting.proofs.Counting.{count-both, differing-few}
 use Rattle.parting.proofs.words.differing.Goals as goal
 
@@ -16,12 +16,12 @@ differing_in-requires c = let p = c.requires.0 in ((omega (arith, p.0), omega (a
 pub overflow_cast-d : goal.overflow_cast-d
 overflow_cast-d c =
     let x = c.args in
-    omega (arith, c.differing_in.ensures, differing-few (now x.new) (now x.signed) (c.loop-j.j + block))
+    omega (arith, c.differing_in.ensures, differing-few x.new.now x.signed.now (c.loop-j.j + block))
 
 pub overflow_add-d : goal.overflow_add-d
 overflow_add-d c =
     let x = c.args in
-    omega (arith, c.differing_in.ensures, differing-few (now x.new) (now x.signed) (c.loop-j.j + block), c.loop-j.invariant.1)
+    omega (arith, c.differing_in.ensures, differing-few x.new.now x.signed.now (c.loop-j.j + block), c.loop-j.invariant.1)
 
 pub overflow_add-j : goal.overflow_add-j
 overflow_add-j c = omega arith
@@ -44,8 +44,8 @@ overflow_cast-result c =
     let l = c.loop-j in
     omega (
       arith,
-      count-both (now x.new) (now x.signed) x.k l.j x.n l.d _ l.invariant.0 l.invariant.1 c.differing_in-2.ensures,
-      differing-few (now x.new) (now x.signed) x.n,
+      count-both x.new.now x.signed.now x.k l.j x.n l.d _ l.invariant.0 l.invariant.1 c.differing_in-2.ensures,
+      differing-few x.new.now x.signed.now x.n,
     )
 
 pub overflow_add-result : goal.overflow_add-result
@@ -54,12 +54,12 @@ overflow_add-result c =
     let l = c.loop-j in
     omega (
       arith,
-      count-both (now x.new) (now x.signed) x.k l.j x.n l.d _ l.invariant.0 l.invariant.1 c.differing_in-2.ensures,
-      differing-few (now x.new) (now x.signed) x.n,
+      count-both x.new.now x.signed.now x.k l.j x.n l.d _ l.invariant.0 l.invariant.1 c.differing_in-2.ensures,
+      differing-few x.new.now x.signed.now x.n,
     )
 
 pub returns : goal.returns
 returns c =
     let x = c.args in
     let l = c.loop-j in
-    count-both (now x.new) (now x.signed) x.k l.j x.n l.d _ l.invariant.0 l.invariant.1 c.differing_in-2.ensures
+    count-both x.new.now x.signed.now x.k l.j x.n l.d _ l.invariant.0 l.invariant.1 c.differing_in-2.ensures

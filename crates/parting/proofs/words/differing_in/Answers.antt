@@ -1,11 +1,11 @@
 use Rattle.parting.specs.Names.{◌+◌, ◌-◌, ◌≡◌, ◌≤◌}
-use Rattle.parting.proofs.Names.{ap, sym, ◌∙◌, now, arith, differing}
+use Rattle.parting.proofs.Names.{ap, sym, ◌∙◌, arith, differing}
 use Rattle.parting.proofs.Counting.{byte-few, count_next}
 use Rattle.parting.proofs.words.differing_in.Goals as goal
 
 pub loop-i-init : goal.loop-i-init
 loop-i-init c =
-    let x = c.args in (omega arith, omega arith, ap (differing (now x.new) (now x.signed)) (let z : x.k + 0 ≡ x.k = omega arith in z) ∙ omega arith)
+    let x = c.args in (omega arith, omega arith, ap (differing x.new.now x.signed.now) (let z : x.k + 0 ≡ x.k = omega arith in z) ∙ omega arith)
 
 pub overflow_add-k : goal.overflow_add-k
 overflow_add-k c = omega arith
@@ -31,11 +31,11 @@ loop-i-preserved c =
     let i = c.loop-i.invariant in (
       omega arith,
       omega (arith, byte-few c.differs_at.result, i.1),
-      count_next (now x.new) (now x.signed) x.k c.loop-i.i c.loop-i.d _ i.2 c.differs_at.ensures,
+      count_next x.new.now x.signed.now x.k c.loop-i.i c.loop-i.d _ i.2 c.differs_at.ensures,
     )
 
 pub returns : goal.returns
 returns c =
     let x = c.args in
     let z : c.loop-i.i ≡ x.n = omega (arith, c.loop-i.invariant.0, c.loop-i-test.false) in
-    ap (λ m. differing (now x.new) (now x.signed) (x.k + m)) (sym z) ∙ c.loop-i.invariant.2
+    ap (λ m. differing x.new.now x.signed.now (x.k + m)) (sym z) ∙ c.loop-i.invariant.2

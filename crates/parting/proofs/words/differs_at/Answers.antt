@@ -1,5 +1,5 @@
 use Rattle.parting.specs.Names.{ℕ, List, ◌+◌, ◌-◌, ◌*◌, ◌≡◌, not, eqb, take, drop}
-use Rattle.parting.proofs.Names.{◌∙◌, ap, ap₂, now, arith, needs}
+use Rattle.parting.proofs.Names.{◌∙◌, ap, ap₂, arith, rules}
 use Rattle.wire.specs.Words.{word_of}
 use Rattle.parting.proofs.words.differs_at.Goals as goal
 
@@ -9,4 +9,4 @@ returns c =
     let z : 4 * x.k + 4 - 4 * x.k ≡ 4 = omega arith in
     let four : (l : List ℕ) → word_of (take (4 * x.k + 4 - 4 * x.k) (drop (4 * x.k) l)) ≡ word_of (take 4 (drop (4 * x.k) l)) =
     λ (l : List ℕ). ap (λ (n : ℕ). word_of (take n (drop (4 * x.k) l))) z in
-    ap₂ (λ (v w : ℕ). not (eqb v w)) (c.word_of.ensures ∙ four (now x.new)) (c.word_of-2.ensures ∙ four (now x.signed))
+    ap₂ (λ (v w : ℕ). not (eqb v w)) (c.word_of.ensures ∙ four x.new.now) (c.word_of-2.ensures ∙ four x.signed.now)

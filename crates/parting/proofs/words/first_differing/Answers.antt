@@ -1,5 +1,5 @@
 use Rattle.parting.specs.Names.{◌-◌, ◌≡◌, ◌≤◌}
-use Rattle.parting.proofs.Names.{ap, sym, ◌∙◌, refl, now, arith, first_differing}
+use Rattle.parting.proofs.Names.{ap, sym, ◌∙◌, refl, arith, first_differing}
 use Rattle.parting.proofs.Counting.{first_here, first_next, first-none}
 use Rattle.parting.proofs.words.first_differing.Goals as goal
 
@@ -13,7 +13,7 @@ pub returns-then-differs_at : goal.returns-then-differs_at
 returns-then-differs_at c =
     let x = c.args in
     let j = c.loop-j.j in
-    sym (c.loop-j.invariant.1 ∙ first_here (now x.new) (now x.signed) j (x.n - j) (omega arith) (sym c.differs_at.ensures ∙ c.if-differs_at.true))
+    sym (c.loop-j.invariant.1 ∙ first_here x.new.now x.signed.now j (x.n - j) (omega arith) (sym c.differs_at.ensures ∙ c.if-differs_at.true))
 
 pub overflow_add-j : goal.overflow_add-j
 overflow_add-j c = omega arith
@@ -27,7 +27,7 @@ loop-j-preserved c =
     let j = c.loop-j.j in (
       omega arith,
       c.loop-j.invariant.1
-          ∙ first_next (now x.new) (now x.signed) j x.n (omega arith) (sym c.differs_at.ensures ∙ c.if-differs_at.false),
+          ∙ first_next x.new.now x.signed.now j x.n (omega arith) (sym c.differs_at.ensures ∙ c.if-differs_at.false),
     )
 
 pub returns : goal.returns
@@ -36,4 +36,4 @@ returns c =
     let j = c.loop-j.j in
     let e : x.n ≡ j = omega (arith, c.loop-j.invariant.0) in
     let z : x.n - j ≡ 0 = omega arith in
-    sym (c.loop-j.invariant.1 ∙ ap (first_differing (now x.new) (now x.signed) j) z ∙ first-none (now x.new) (now x.signed) j ∙ sym e)
+    sym (c.loop-j.invariant.1 ∙ ap (first_differing x.new.now x.signed.now j) z ∙ first-none x.new.now x.signed.now j ∙ sym e)

@@ -1,12 +1,12 @@
 use Rattle.parting.specs.Spans.{block}
 use Rattle.parting.specs.Names.{◌-◌, ◌≡◌, ◌≤◌}
-use Rattle.parting.proofs.Names.{ap, sym, ◌∙◌, now, arith, first_differing}
+use Rattle.parting.proofs.Names.{ap, sym, ◌∙◌, arith, first_differing}
 use Rattle.parting.proofs.Counting.{first-behind}
 use Rattle.parting.proofs.words.parting_word.Goals as goal
 
 pub loop-k-init : goal.loop-k-init
 loop-k-init c =
-    let x = c.args in (omega arith, ap (first_differing (now x.new) (now x.signed) 0) (let z : x.n ≡ x.n - 0 = omega arith in z))
+    let x = c.args in (omega arith, ap (first_differing x.new.now x.signed.now 0) (let z : x.n ≡ x.n - 0 = omega arith in z))
 
 pub overflow_sub-n : goal.overflow_sub-n
 overflow_sub-n c = omega arith
@@ -25,7 +25,7 @@ loop-k-preserved c =
     let x = c.args in
     let l = c.loop-k in (
       omega arith,
-      l.invariant.1 ∙ first-behind (now x.new) (now x.signed) l.k block x.n _ (omega arith) c.differing_in.ensures c.if-differing_in-ne0.false,
+      l.invariant.1 ∙ first-behind x.new.now x.signed.now l.k block x.n _ (omega arith) c.differing_in.ensures c.if-differing_in-ne0.false,
     )
 
 pub first_differing-requires : goal.first_differing-requires

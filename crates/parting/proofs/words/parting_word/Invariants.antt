@@ -1,6 +1,6 @@
 use Rattle.parting.specs.Spans.{block}
 use Rattle.parting.specs.Names.{◌-◌, ◌≡◌, ◌≤◌}
-use Rattle.parting.proofs.Names.{ap, sym, ◌∙◌, now, arith, first_differing}
+use Rattle.parting.proofs.Names.{ap, sym, ◌∙◌, arith, first_differing}
 use Rattle.parting.proofs.Counting.{first-behind}
 use Rattle.parting.proofs.words.parting_word.Given as goal
 

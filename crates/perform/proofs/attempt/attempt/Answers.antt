@@ -1,5 +1,5 @@
 use Rattle.perform.specs.Names.{lent, walk_within, Charged}
-use Rattle.perform.proofs.Names.{wordless_of, walked_of, sym, ◌∙◌, ap, now, arith, needs}
+use Rattle.perform.proofs.Names.{wordless_of, walked_of, sym, ◌∙◌, ap, arith, rules}
 use Rattle.perform.proofs.Joins.{off-after, match-after, miss-after, walk_after}
 use borrow.Author.Tests.{not-true, not-false}
 use Rattle.perform.proofs.attempt.attempt.Goals as goal
@@ -41,15 +41,15 @@ returns-in-At c =
     let on = sym c.is_on.ensures ∙ not-false _ c.if-not-is_on.false-raw in
     let some = sym (c.find-m.ensures.lowest s.cams s.spanned s.virtual) ∙ c.in-At.is in
     c.wordless-in-At.ensures ∙ ap (wordless_of x.bill x.reason x.p x.va x.a) c.matched.ensures ∙ match-after x.prices x.bill x.p x.va x.a _ _
-    _ (now x.ram) x.reason _ on some
+    _ x.ram.now x.reason _ on some
 
 pub returns-else-not-is_walking : goal.returns-else-not-is_walking
 returns-else-not-is_walking c =
     λ s. let x = c.args in
-    let w = walk_within (lent (now x.on) x.onbase.0 (now x.ext) x.extbase.0) x.base.0 x.va.0 in
+    let w = walk_within (lent x.on.now x.onbase.0 x.ext.now x.extbase.0) x.base.0 x.va.0 in
     let on = sym c.is_on.ensures ∙ not-false _ c.if-not-is_on.false-raw in
     let none = sym (c.find-m.ensures.lowest s.cams s.spanned s.virtual) ∙ c.in-Nothing.is in
     let walks = sym c.is_walking.ensures ∙ not-false _ c.if-not-is_walking.false-raw in
     c.walked.ensures
     ∙ ap (λ (y : Charged). walked_of x.bill x.reason x.p x.va x.a y.words y.from y.bill y.found) c.walk-w.ensures
-    ∙ walk_after x.prices x.bill x.p x.va x.a w _ _ (now x.ram) x.reason on none walks
+    ∙ walk_after x.prices x.bill x.p x.va x.a w _ _ x.ram.now x.reason on none walks

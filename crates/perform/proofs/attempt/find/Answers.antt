@@ -1,4 +1,4 @@
-use Rattle.perform.proofs.Names.{sym, ◌∙◌, now, needs}
+use Rattle.perform.proofs.Names.{sym, ◌∙◌, rules}
 use Rattle.bank.proofs.Seeking.{sought-lt}
 use Rattle.bank.proofs.Matching.{sought_looked}
 use Rattle.perform.proofs.attempt.find.Goals as goal
@@ -7,6 +7,6 @@ pub returns : goal.returns
 returns c =
     let x = c.args in
     record {
-      slot = λ i e. sought-lt (now x.lows) (now x.highs) _ i (sym c.search.ensures ∙ e);
-      lowest = λ k s v. c.search.ensures ∙ sought_looked (now x.cam) (now x.lows) (now x.highs) x.va v k s.low-ends s.high-ends;
+      slot = λ i e. sought-lt x.lows.now x.highs.now _ i (sym c.search.ensures ∙ e);
+      lowest = λ k s v. c.search.ensures ∙ sought_looked x.cam.now x.lows.now x.highs.now x.va v k s.low-ends s.high-ends;
     }

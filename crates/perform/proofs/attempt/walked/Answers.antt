@@ -1,4 +1,4 @@
-use Rattle.perform.proofs.Names.{needs}
+use Rattle.perform.proofs.Names.{rules}
 use Rattle.perform.proofs.attempt.walked.Goals as goal
 
 pub returns-in-Missing : goal.returns-in-Missing

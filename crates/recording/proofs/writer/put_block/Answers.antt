@@ -1,4 +1,4 @@
-use Rattle.recording.proofs.Names.{refl, ◌∙◌, needs}
+use Rattle.recording.proofs.Names.{refl, ◌∙◌, rules}
 use Rattle.recording.proofs.Puts.{block_put}
 use Rattle.recording.proofs.writer.put_block.Goals as goal
 

@@ -1,5 +1,5 @@
 use Rattle.records.specs.Names.{◌≡◌, ◌≤◌, List, length, Mapping}
-use Rattle.records.proofs.Names.{sym, ◌∙◌, pick_yes, pick_no, arith, ◌-◌, mappings, holder, needs}
+use Rattle.records.proofs.Names.{sym, ◌∙◌, pick_yes, pick_no, arith, ◌-◌, mappings, holder, rules}
 use Rattle.records.proofs.Scan.{Rest, rest-none, rest_at, rest_end}
 use Rattle.records.proofs.lists.holder.Goals as goal
 
@@ -7,7 +7,7 @@ pub count-n-requires : goal.count-n-requires
 count-n-requires c = tt
 
 pub loop-j-init : goal.loop-j-init
-loop-j-init c = (c.count-n.ensures, search needs, rest-none (λ (l : List Mapping). holder l c.args.va) _)
+loop-j-init c = (c.count-n.ensures, search rules, rest-none (λ (l : List Mapping). holder l c.args.va) _)
 
 pub mapping_at-m-requires : goal.mapping_at-m-requires
 mapping_at-m-requires c = tt

@@ -1,17 +1,17 @@
 use Rattle.records.specs.Names.{take, drop, ℕ, ◌+◌, ◌*◌, megabytes, ◌≡◌, false}
-use Rattle.records.proofs.Names.{◌-◌, well_formed, sym, ◌∙◌, ap, now, arith, needs}
+use Rattle.records.proofs.Names.{◌-◌, well_formed, sym, ◌∙◌, ap, arith, rules}
 use Rattle.records.proofs.Refusals.{bad_past, bad-rest, short}
 use Rattle.records.proofs.lists.is_bad.Goals as goal
 
 pub returns-then-i-ge-MOST : goal.returns-then-i-ge-MOST
-returns-then-i-ge-MOST c = sym (bad_past megabytes (now c.args.records) c.args.i c.if-i-ge-MOST.true)
+returns-then-i-ge-MOST c = sym (bad_past megabytes c.args.records.now c.args.i c.if-i-ge-MOST.true)
 
 pub returns-then-records-at-lt-SIZE : goal.returns-then-records-at-lt-SIZE
 returns-then-records-at-lt-SIZE c =
-    bad-rest megabytes (now c.args.records) c.args.i false c.if-i-ge-MOST.false (sym (short megabytes (now c.args.records) c.args.i (omega arith)))
+    bad-rest megabytes c.args.records.now c.args.i false c.if-i-ge-MOST.false (sym (short megabytes c.args.records.now c.args.i (omega arith)))
 
 pub returns : goal.returns
 returns c =
-    bad-rest megabytes (now c.args.records) c.args.i _ c.if-i-ge-MOST.false
-    (c.well-formed-2.ensures ∙ ap (λ (n : ℕ). well_formed megabytes (take n (drop (12 * c.args.i) (now c.args.records))))
+    bad-rest megabytes c.args.records.now c.args.i _ c.if-i-ge-MOST.false
+    (c.well-formed-2.ensures ∙ ap (λ (n : ℕ). well_formed megabytes (take n (drop (12 * c.args.i) c.args.records.now)))
     (let e : 12 * c.args.i + 12 - 12 * c.args.i ≡ 12 = omega arith in e))

@@ -1,5 +1,5 @@
 use Rattle.records.specs.Names.{true, ℕ, ◌*◌, ◌+◌, ◌/◌, set}
-use Rattle.records.proofs.Names.{ap, now, arith, needs}
+use Rattle.records.proofs.Names.{ap, arith, rules}
 use Rattle.records.proofs.Notes.{type_lt}
 use Rattle.records.proofs.lists.note.Goals as goal
 
@@ -15,4 +15,4 @@ bounds-seen-x c = omega (arith, c.type_of.ensures, type_lt c.args.m.kind)
 pub returns : goal.returns
 returns c =
     let a = c.args in
-    ap (λ (t : ℕ). set (now a.seen) (16 * t + a.m.at.0 / 1048576) true) c.type_of.ensures
+    ap (λ (t : ℕ). set a.seen.now (16 * t + a.m.at.0 / 1048576) true) c.type_of.ensures

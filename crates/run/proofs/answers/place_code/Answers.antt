@@ -1,5 +1,5 @@
 use Rattle.run.specs.Names.{Place}
-use Rattle.run.proofs.Names.{sym, ap, needs}
+use Rattle.run.proofs.Names.{sym, ap, rules}
 use Rattle.run.specs.Answers.{place_code, cut_place}
 use Rattle.run.proofs.answers.place_code.Goals as goal
 

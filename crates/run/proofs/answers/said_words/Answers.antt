@@ -1,5 +1,5 @@
 use Rattle.run.specs.Names.{ℕ, Said}
-use Rattle.run.proofs.Names.{ap₂, sym, ◌∙◌, ap, said_words, needs}
+use Rattle.run.proofs.Names.{ap₂, sym, ◌∙◌, ap, said_words, rules}
 use Rattle.run.specs.Answers.{answer_words, cut_place}
 use Rattle.run.proofs.answers.said_words.Goals as goal
 

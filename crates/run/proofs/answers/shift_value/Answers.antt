@@ -1,5 +1,5 @@
 use Rattle.run.specs.Names.{twos}
-use Rattle.run.proofs.Names.{sym, ◌∙◌, ap, needs}
+use Rattle.run.proofs.Names.{sym, ◌∙◌, ap, rules}
 use Rattle.run.specs.Answers.{shift_word}
 use mir.ValLaws.{to_z-of_z}
 use mir.Syntax.{w64}

@@ -1,4 +1,4 @@
-use Rattle.session.proofs.Names.{needs}
+use Rattle.session.proofs.Names.{rules}
 use Rattle.session.proofs.Bench.fresh.Goals as goal
 
 pub returns : goal.returns

@@ -1,4 +1,4 @@
-use Rattle.session.proofs.Names.{Said, Stepped, step_out, Meters, made, ◌∙◌, ap, needs}
+use Rattle.session.proofs.Names.{Said, Stepped, step_out, Meters, made, ◌∙◌, ap, rules}
 use Rattle.unit.specs.declared.Reported.{Reported}
 use Rattle.meters.specs.Posted.{no_tally, posted}
 use Rattle.unit.specs.Machine.{step_told}

@@ -1,11 +1,11 @@
 use Rattle.state.specs.Names.{swapped, slots, length, ◌≤◌, ◌++◌, ◌≡◌}
-use Rattle.state.proofs.Names.{lane_from, take, ◌-◌, sym, ap, refl, ◌∙◌, now, arith, needs}
+use Rattle.state.proofs.Names.{lane_from, take, ◌-◌, sym, ap, refl, ◌∙◌, arith, rules}
 use Rattle.state.proofs.Lanes.{lane_turn, lane_end}
 use lib.ListN.{length-set}
 use Rattle.state.proofs.read.lane_at.Goals as goal
 
 pub loop-i-init : goal.loop-i-init
-loop-i-init c = (search needs, refl, refl)
+loop-i-init c = (search rules, refl, refl)
 
 pub overflow_mul-i : goal.overflow_mul-i
 overflow_mul-i c = omega arith
@@ -36,10 +36,10 @@ loop-i-preserved c = (
   omega arith,
   length-set c.loop-i.lane c.loop-i.i _ ∙ c.loop-i.invariant.1,
   c.loop-i.invariant.2
-      ∙ lane_turn (now c.args.state) c.loop-i.lane c.args.at c.loop-i.i _ c.loop-i-test.true c.loop-i.invariant.1
+      ∙ lane_turn c.args.state.now c.loop-i.lane c.args.at c.loop-i.i _ c.loop-i-test.true c.loop-i.invariant.1
       (c.swapped.ensures ∙ ap swapped c.word_at.ensures),
 )
 
 pub returns : goal.returns
 returns c =
-    lane_end (now c.args.state) c.loop-i.lane c.args.at c.loop-i.i c.loop-i-test.false c.loop-i.invariant.1 ∙ sym c.loop-i.invariant.2
+    lane_end c.args.state.now c.loop-i.lane c.args.at c.loop-i.i c.loop-i-test.false c.loop-i.invariant.1 ∙ sym c.loop-i.invariant.2
