@@ -20,11 +20,11 @@ at_is i at e h = omega (arith, e)
 module _ (cam lows highs : List ℕ) (i at w lo hi : ℕ) (e : i ≡ at % 32) (s : Spanned cam lows highs) (h : at < 32) (q : lo ≡ low_of w) (r : hi ≡ high_of w) where
   spanned-set : Spanned (set cam i w) (set lows i lo) (set highs i hi)
   spanned-set = record {
-    low_ends = ends-both low_of 32 i w lo cam lows (omega (arith, e, h, s.cam-long)) (omega (arith, e, h, s.lows-long)) s.low-ends q;
-    high_ends = ends-both high_of 32 i w hi cam highs (omega (arith, e, h, s.cam-long)) (omega (arith, e, h, s.highs-long)) s.high-ends r;
+    low_ends = ends-both low_of 32 i w lo cam lows (omega (arith, e, h, s.cam-long)) (omega (arith, e, h, s.lows_long)) s.low_ends q;
+    high_ends = ends-both high_of 32 i w hi cam highs (omega (arith, e, h, s.cam-long)) (omega (arith, e, h, s.highs_long)) s.high_ends r;
     cam-long = length-set cam i w ∙ s.cam-long;
-    lows_long = length-set lows i lo ∙ s.lows-long;
-    highs_long = length-set highs i hi ∙ s.highs-long;
+    lows_long = length-set lows i lo ∙ s.lows_long;
+    highs_long = length-set highs i hi ∙ s.highs_long;
   }
 
 pub stored : (cam ram lows highs : List ℕ) (lock victim at : ℕ) (w : Words) (i lo hi : ℕ) → i ≡ at % 32 → lo ≡ low_of w.cam → hi ≡ high_of w.cam → Spanned cam lows highs → at < 32
@@ -105,8 +105,8 @@ module _ (cam after lows highs lows' highs' : List ℕ) (s : Spanned cam lows hi
     (a : length lows' ≡ 32) (b : length highs' ≡ 32) where
   renewed : (f : ℕ → ℕ) → Drops f → ((j : ℕ) → get_or after j 0 ≡ f (get_or cam j 0)) → length after ≡ 32 → Spanned after lows' highs'
   renewed f d each h = record {
-    low_ends = ends-kept 16384 low_of low_stays f d cam after lows lows' each s.low-ends o;
-    high_ends = ends-kept 0 high_of high_stays f d cam after highs highs' each s.high-ends p;
+    low_ends = ends-kept 16384 low_of low_stays f d cam after lows lows' each s.low_ends o;
+    high_ends = ends-kept 0 high_of high_stays f d cam after highs highs' each s.high_ends p;
     cam-long = h;
     lows_long = a;
     highs_long = b;

@@ -23,7 +23,7 @@ both {t} {x} h k = and_yes t x h ∙ k
 charged_finite : (b : Bill) (p : Price) (side : Side) (row : ℕ) → Good b → price_ok p ≡ true → finite (add binary64 b.total (word_price p side row)) ≡ true
 charged_finite b p side row g ok =
     is_true _
-    (word_finite b.total (word_price p side row) (holds g.total-fits) (holds (and_left _ _ g.finite-both))
+    (word_finite b.total (word_price p side row) (holds g.total_fits) (holds (and_left _ _ g.finite_both))
     (in_range_lem (word_price p side row) (charged_figure figure_ok p side row ok)))
 
 charged_fits : (b : Bill) (p : Price) (side : Side) (row : ℕ) → fits binary64 (add binary64 b.total (word_price p side row)) ≡ true
@@ -33,13 +33,13 @@ stays_place : (p : Prices) (b : Bill) (place : Place) (row : ℕ) → Good b →
 unfolding place_posted
 stays_place p b (Place.OnChip k) row g ok = record {
   total_fits = charged_fits b p.onchip b.onchip row;
-  misses_fits = g.misses-fits;
-  finite_both = both (charged_finite b p.onchip b.onchip row g (and_left _ _ ok)) (and_right _ _ g.finite-both);
+  misses_fits = g.misses_fits;
+  finite_both = both (charged_finite b p.onchip b.onchip row g (and_left _ _ ok)) (and_right _ _ g.finite_both);
 }
 stays_place p b (Place.External k) row g ok = record {
   total_fits = charged_fits b p.external b.external row;
-  misses_fits = g.misses-fits;
-  finite_both = both (charged_finite b p.external b.external row g (and_right _ _ ok)) (and_right _ _ g.finite-both);
+  misses_fits = g.misses_fits;
+  finite_both = both (charged_finite b p.external b.external row g (and_right _ _ ok)) (and_right _ _ g.finite_both);
 }
 stays_place p b Place.Nowhere row g ok = g
 
@@ -56,9 +56,9 @@ stays_reads p b r = stays_words p b (sources r)
 pub stays_attempt : (b : Bill) (missed : Bool) → Good b → Good (attempt_posted b missed)
 unfolding attempt_posted
 stays_attempt b missed g = record {
-  total_fits = g.total-fits;
+  total_fits = g.total_fits;
   misses_fits = is_true _ (smoothed_fits b.misses missed);
-  finite_both = both (and_left _ _ g.finite-both) (is_true _ (smoothed_finite b.misses missed (holds g.misses-fits) (holds (and_right _ _ g.finite-both))));
+  finite_both = both (and_left _ _ g.finite_both) (is_true _ (smoothed_finite b.misses missed (holds g.misses_fits) (holds (and_right _ _ g.finite_both))));
 }
 
 pub stays_seen : (b : Bill) (seen : Seen) → Good b → Good (seen_posted b seen)
@@ -77,7 +77,7 @@ fresh_good = record {
 -- good prices and a good bill are not refused
 pub good-money : (p : Prices) (b : Bill) → prices_ok p ≡ true → Good b → money_ok p b ≡ true
 unfolding money_ok
-good-money p b ok g = both ok g.finite-both
+good-money p b ok g = both ok g.finite_both
 
 -- and what is not refused has good prices and finite figures
 pub money-prices : (p : Prices) (b : Bill) → money_ok p b ≡ true → prices_ok p ≡ true

@@ -80,7 +80,7 @@ module _ (m : Lent) (p : Prices) (b : Bill) (base v : ℕ) (l : base < 2 ^ 32) (
   -- each of the three writes leaves such a device
   module _ {d : Device} {control x : ℕ} (s : Stands d control x) where
     ranged : in_range (started control x) ≡ true
-    ranged = started-in_range control x s.control-low s.control-bits s.base-low s.base-bits
+    ranged = started-in_range control x s.control_low s.control_bits s.base_low s.base_bits_lem
 
     turned : (o w : ℕ) (to : Device) → write_of m p b (started control x) o w ≡ done_with b to → (step m d b (write o w p)).device ≡ to
     turned o w to q = ap (λ (y : Device). (step m y b (write o w p)).device) s.is ∙ ap (λ (y : Outcome). y.device) q
@@ -88,18 +88,18 @@ module _ (m : Lent) (p : Prices) (b : Bill) (base v : ℕ) (l : base < 2 ^ 32) (
     high : Stands (step m d b (write base_high_at (base / 65536) p)).device control (base / 65536 * 65536 + x % 65536)
     high = record {
       is = turned base_high_at (base / 65536) _ (high_set m p b (started control x) ranged (base / 65536));
-      control_low = s.control-low;
-      control_bits = s.control-bits;
+      control_low = s.control_low;
+      control_bits = s.control_bits;
       base_low = omega (arith, l);
-      base_bits_lem = omega (arith, s.base-bits);
+      base_bits_lem = omega (arith, s.base_bits_lem);
     }
 
     low : Stands (step m d b (write base_low_at (base % 65536) p)).device control (x / 65536 * 65536 + base % 65536 / 128 * 128)
     low = record {
       is = turned base_low_at (base % 65536) _ (low_set m p b (started control x) ranged (base % 65536));
-      control_low = s.control-low;
-      control_bits = s.control-bits;
-      base_low = omega (arith, s.base-low);
+      control_low = s.control_low;
+      control_bits = s.control_bits;
+      base_low = omega (arith, s.base_low);
       base_bits_lem = omega arith;
     }
 
@@ -108,8 +108,8 @@ module _ (m : Lent) (p : Prices) (b : Bill) (base v : ℕ) (l : base < 2 ^ 32) (
       is = turned control_at v _ (control-set m p b (started control x) ranged v ∙ ap (carried m p b (started control x)) (control-is v bits));
       control_low = omega arith;
       control_bits = omega arith;
-      base_low = s.base-low;
-      base_bits_lem = s.base-bits;
+      base_low = s.base_low;
+      base_bits_lem = s.base_bits_lem;
     }
 
     -- and is started where these are the control and the base

@@ -32,12 +32,12 @@ posted-within m t = record {
 -- a zero tally changes nothing
 pub posted-zero : (m : Meters) → BelowStop m → posted m no_tally ≡ m
 unfolding posted
-posted-zero m w = rw (stopped-zero m.fresh w.fresh-le, stopped-zero m.retries w.retries-le, stopped-zero m.words w.words-le)
+posted-zero m w = rw (stopped-zero m.fresh w.fresh_le, stopped-zero m.retries w.retries-le, stopped-zero m.words w.words-le)
 
 -- no meter falls
 pub posted-ge : (m : Meters) (t : Tally) → BelowStop m → (m.fresh ≤ (posted m t).fresh) × ((m.retries ≤ (posted m t).retries) × (m.words ≤ (posted m t).words))
 unfolding posted
-posted-ge m t w = (stopped-ge m.fresh t.fresh w.fresh-le, (stopped-ge m.retries t.retries w.retries-le, stopped-ge m.words t.words w.words-le))
+posted-ge m t w = (stopped-ge m.fresh t.fresh w.fresh_le, (stopped-ge m.retries t.retries w.retries-le, stopped-ge m.words t.words w.words-le))
 
 -- while no sum is past the stop, each meter is the sum
 pub posted_sum : (m : Meters) (t : Tally) → m.fresh + t.fresh ≤ stop → m.retries + t.retries ≤ stop → m.words + t.words ≤ stop

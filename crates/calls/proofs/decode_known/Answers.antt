@@ -20,4 +20,4 @@ returns c =
     alike _ _ _
     (pick_yes _ _ _ (le-leb _ _ (let e : x.at + 12 ≤ length x.bytes.now = omega arith in e))
     ∙ sym (ap (λ (n : ℕ). call_of (take n (drop x.at x.bytes.now))) (let e : x.at + 12 - x.at ≡ 12 = omega arith in e)))
-    c.Known-of.ensures
+    c.known_of.ensures

@@ -89,4 +89,4 @@ unfolding command_of listed pick
 returns-in-80 c = command_at _ _ _ c.in-80.is
 
 pub returns-in_default : goal.returns-in_default
-returns-in_default c = sym (command_elsewhere _ _ (none-is-no_register _ c.match.rest))
+returns-in_default c = sym (command_elsewhere _ _ (none-is-no_register _ c.in_default.in_default-own.rest))

@@ -6,5 +6,5 @@ use Rattle.decision.proofs.shift_by.Goals as goal
 
 pub returns-in-Page : goal.returns-in-Page
 returns-in-Page c =
-    ap Shift.Distance (to_z-of_z (record { sfits = c.distance.type-inv }) ∙ c.distance.ensures ∙ ap (λ (p : PhysicalAddress). distance_of p c.args.va) c.physical.ensures) ∙
+    ap Shift.Distance (to_z-of_z (record { sfits = c.distance.type_inv }) ∙ c.distance.ensures ∙ ap (λ (p : PhysicalAddress). distance_of p c.args.va) c.physical.ensures) ∙
     sym (ap (shift_by c.args.va) c.in-Page.is)

@@ -16,4 +16,4 @@ returns-in-2 c = sym (kind_of_type _ Kind.Small c.in-2.is)
 
 pub returns-in_default : goal.returns-in_default
 unfolding kind_of
-returns-in_default c = bits_11 _ _ _ _ _ c.match.rest.0.0.1 c.match.rest.0.1 c.match.rest.1
+returns-in_default c = bits_11 _ _ _ _ _ c.in_default.in_default-own.rest.0.0.1 c.in_default.in_default-own.rest.0.1 c.in_default.in_default-own.rest.1

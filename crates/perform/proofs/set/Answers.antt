@@ -34,7 +34,7 @@ returns-in-52 c = set_at c c.in-52.is
 pub returns-in_default : goal.returns-in_default
 unfolding setting_at
 returns-in_default c =
-    let e = c.match.rest in
+    let e = c.in_default.in_default-own.rest in
     sym (ap (setting c.args.r)
     (pick_no _ _ _ (ne_eqb _ _ e.0.0.0.0.0.1) ∙ pick_no _ _ _ (ne_eqb _ _ e.0.0.0.0.1) ∙ pick_no _ _ _ (ne_eqb _ _ e.0.0.0.1)
     ∙ pick_no _ _ _ (ne_eqb _ _ e.0.0.1) ∙ pick_no _ _ _ (ne_eqb _ _ e.0.1) ∙ pick_no _ _ _ (ne_eqb _ _ e.1)))

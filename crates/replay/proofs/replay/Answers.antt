@@ -14,7 +14,7 @@ pub loop-i-init : goal.loop-i-init
 loop-i-init c = record { below = omega arith; long = refl; same = refl }
 
 pub overflow_mul-i-in-loop-i : goal.overflow_mul-i-in-loop-i
-overflow_mul-i-in-loop-i c = omega (arith, c.well-formed.1.1.1.1.1.1.1.0.0, c.if-out-n.false, c.loop-i-test.true)
+overflow_mul-i-in-loop-i c = omega (arith, c.well_formed.1.1.1.1.1.1.1.0.0, c.if-out-n.false, c.loop-i-test.true)
 
 pub loop-i-preserved : goal.loop-i-preserved
 loop-i-preserved c =

@@ -16,7 +16,7 @@ loop-i-init c =
       spanned = record {
         low_ends = c.lows-lows.ensures;
         high_ends = c.highs-highs.ensures;
-        cam-long = search (rules, c.well-formed.0);
+        cam-long = search (rules, c.well_formed.0);
         lows_long = search rules;
         highs_long = search rules;
       };
@@ -24,11 +24,11 @@ loop-i-init c =
 
 pub overflow_mul-i-in-loop-i : goal.overflow_mul-i-in-loop-i
 overflow_mul-i-in-loop-i c =
-    omega (arith, c.well-formed.1.1.1.1.1.1.1.1.0.0, c.requires.room, c.count-n.ensures, c.loop-i.invariant.below, c.loop-i-test.true)
+    omega (arith, c.well_formed.1.1.1.1.1.1.1.1.0.0, c.requires.room, c.count-n.ensures, c.loop-i.invariant.below, c.loop-i-test.true)
 
 pub overflow_add-i : goal.overflow_add-i
 overflow_add-i c =
-    omega (arith, c.well-formed.1.1.1.1.1.1.1.1.0.0, c.requires.room, c.count-n.ensures, c.loop-i.invariant.below, c.loop-i-test.true)
+    omega (arith, c.well_formed.1.1.1.1.1.1.1.1.0.0, c.requires.room, c.count-n.ensures, c.loop-i.invariant.below, c.loop-i-test.true)
 
 pub loop-i-preserved : goal.loop-i-preserved
 loop-i-preserved c =
@@ -50,11 +50,11 @@ loop-i-preserved c =
 
 pub overflow_mul-result : goal.overflow_mul-result
 overflow_mul-result c =
-    omega (arith, c.well-formed.1.1.1.1.1.1.1.1.0.0, c.requires.room, c.count-n.ensures, c.loop-i.invariant.below, c.loop-i-test.false)
+    omega (arith, c.well_formed.1.1.1.1.1.1.1.1.0.0, c.requires.room, c.count-n.ensures, c.loop-i.invariant.below, c.loop-i-test.false)
 
 pub overflow_add-result : goal.overflow_add-result
 overflow_add-result c =
-    omega (arith, c.well-formed.1.1.1.1.1.1.1.1.0.0, c.requires.room, c.count-n.ensures, c.loop-i.invariant.below, c.loop-i-test.false)
+    omega (arith, c.well_formed.1.1.1.1.1.1.1.1.0.0, c.requires.room, c.count-n.ensures, c.loop-i.invariant.below, c.loop-i-test.false)
 
 pub returns : goal.returns
 returns c =

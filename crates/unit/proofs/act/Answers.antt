@@ -7,7 +7,7 @@ returns c =
     (record {
       low_ends = c.lows-lows.ensures;
       high_ends = c.highs-highs.ensures;
-      cam-long = search (rules, c.well-formed.0);
+      cam-long = search (rules, c.well_formed.0);
       lows_long = search rules;
       highs_long = search rules;
     }) fit).is

@@ -21,5 +21,5 @@ returns-in-2 c = sym (pick_no _ _ _ (ne_eqb _ _ c.if-w-eq0.false) ∙ by_2 _ _ _
 pub returns-in_default : goal.returns-in_default
 unfolding high_of
 returns-in_default c =
-    sym (pick_no _ _ _ (ne_eqb _ _ c.if-w-eq0.false) ∙ pick_no _ _ _ (ne_eqb _ _ c.match.rest.0.0.1) ∙ pick_no _ _ _ (ne_eqb _ _ c.match.rest.0.1) ∙ pick_no _ _
-    _ (ne_eqb _ _ c.match.rest.1))
+    sym (pick_no _ _ _ (ne_eqb _ _ c.if-w-eq0.false) ∙ pick_no _ _ _ (ne_eqb _ _ c.in_default.in_default-own.rest.0.0.1) ∙ pick_no _ _ _ (ne_eqb _ _ c.in_default.in_default-own.rest.0.1) ∙ pick_no _ _
+    _ (ne_eqb _ _ c.in_default.in_default-own.rest.1))

@@ -30,5 +30,5 @@ returns-in-5 c =
 pub returns-in_default : goal.returns-in_default
 unfolding call_by
 returns-in_default c =
-    sym (pick_no _ _ _ (ne_eqb _ _ c.match.rest.0.0.0.0.1) ∙ pick_no _ _ _ (ne_eqb _ _ c.match.rest.0.0.0.1) ∙ pick_no _ _ _ (ne_eqb _ _ c.match.rest.0.0.1)
-    ∙ pick_no _ _ _ (ne_eqb _ _ c.match.rest.0.1) ∙ pick_no _ _ _ (ne_eqb _ _ c.match.rest.1))
+    sym (pick_no _ _ _ (ne_eqb _ _ c.in_default.in_default-own.rest.0.0.0.0.1) ∙ pick_no _ _ _ (ne_eqb _ _ c.in_default.in_default-own.rest.0.0.0.1) ∙ pick_no _ _ _ (ne_eqb _ _ c.in_default.in_default-own.rest.0.0.1)
+    ∙ pick_no _ _ _ (ne_eqb _ _ c.in_default.in_default-own.rest.0.1) ∙ pick_no _ _ _ (ne_eqb _ _ c.in_default.in_default-own.rest.1))

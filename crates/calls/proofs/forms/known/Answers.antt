@@ -16,7 +16,7 @@ returns-in-2 c =
 pub returns-in-3 : goal.returns-in-3
 unfolding call_by pick
 returns-in-3 c =
-    let x = c.args in λ g. ap (Call.Request (virtual x.address)) c.Access-of.ensures ∙ alike _ (request_by x.byte x.address x.value) _
+    let x = c.args in λ g. ap (Call.Request (virtual x.address)) c.access_of.ensures ∙ alike _ (request_by x.byte x.address x.value) _
     (ap (λ (k : ℕ). call_by k x.byte x.address x.value) c.in-3.is) (request_known _ _ _) g
 
 pub returns-in-4 : goal.returns-in-4
@@ -28,5 +28,5 @@ pub returns-in_default : goal.returns-in_default
 unfolding call_by
 returns-in_default c =
     let x = c.args in
-    alike _ _ _ (pick_no _ _ _ (ne_eqb _ _ c.match.rest.0.0.0.1) ∙ pick_no _ _ _ (ne_eqb _ _ c.match.rest.0.0.1) ∙ pick_no _ _ _ (ne_eqb _ _ c.match.rest.0.1)
-    ∙ pick_no _ _ _ (ne_eqb _ _ c.match.rest.1)) (last_known x.kind x.byte x.address x.value)
+    alike _ _ _ (pick_no _ _ _ (ne_eqb _ _ c.in_default.in_default-own.rest.0.0.0.1) ∙ pick_no _ _ _ (ne_eqb _ _ c.in_default.in_default-own.rest.0.0.1) ∙ pick_no _ _ _ (ne_eqb _ _ c.in_default.in_default-own.rest.0.1)
+    ∙ pick_no _ _ _ (ne_eqb _ _ c.in_default.in_default-own.rest.1)) (last_known x.kind x.byte x.address x.value)

@@ -13,4 +13,4 @@ returns-then-value-ne0 c = sym (pick_no _ _ _ (and_yes _ _ (lt-ltb _ _ c.if-byte
 pub returns : goal.returns
 unfolding request_by
 returns c =
-    ap (Call.Request (virtual c.args.address)) c.Access-of.ensures ∙ sym (pick_yes _ _ _ (and_yes _ _ (lt-ltb _ _ c.if-byte-ge2.false) ∙ eq-eqb _ _ c.if-value-ne0.false))
+    ap (Call.Request (virtual c.args.address)) c.access_of.ensures ∙ sym (pick_yes _ _ _ (and_yes _ _ (lt-ltb _ _ c.if-byte-ge2.false) ∙ eq-eqb _ _ c.if-value-ne0.false))

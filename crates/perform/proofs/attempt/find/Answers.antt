@@ -8,5 +8,5 @@ returns c =
     let x = c.args in
     record {
       slot = λ i e. sought-lt x.lows.now x.highs.now _ i (sym c.search.ensures ∙ e);
-      lowest = λ k s v. c.search.ensures ∙ sought_looked x.cam.now x.lows.now x.highs.now x.va v k s.low-ends s.high-ends;
+      lowest = λ k s v. c.search.ensures ∙ sought_looked x.cam.now x.lows.now x.highs.now x.va v k s.low_ends s.high_ends;
     }

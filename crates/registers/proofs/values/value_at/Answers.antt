@@ -94,4 +94,4 @@ unfolding value_at listed pick
 returns-in-80 c = shown c c.in-80.is
 
 pub returns-in_default : goal.returns-in_default
-returns-in_default c = sym (value_elsewhere _ _ _ _ _ (none-is-no_register _ c.match.rest))
+returns-in_default c = sym (value_elsewhere _ _ _ _ _ (none-is-no_register _ c.in_default.in_default-own.rest))

@@ -25,5 +25,5 @@ returns-in-8 c = sym (ap is_status c.in-8.is)
 
 pub returns-in_default : goal.returns-in_default
 returns-in_default c =
-    sym (or_no _ _ (ne_eqb _ _ c.match.rest.0.0.0.0.1) ∙ or_no _ _ (ne_eqb _ _ c.match.rest.0.0.0.1) ∙ or_no _ _ (ne_eqb _ _ c.match.rest.0.0.1)
-    ∙ or_no _ _ (ne_eqb _ _ c.match.rest.0.1) ∙ ne_eqb _ _ c.match.rest.1)
+    sym (or_no _ _ (ne_eqb _ _ c.in_default.in_default-own.rest.0.0.0.0.1) ∙ or_no _ _ (ne_eqb _ _ c.in_default.in_default-own.rest.0.0.0.1) ∙ or_no _ _ (ne_eqb _ _ c.in_default.in_default-own.rest.0.0.1)
+    ∙ or_no _ _ (ne_eqb _ _ c.in_default.in_default-own.rest.0.1) ∙ ne_eqb _ _ c.in_default.in_default-own.rest.1)

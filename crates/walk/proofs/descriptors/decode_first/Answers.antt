@@ -17,4 +17,4 @@ returns-in-2 c = ap First.Whole c.section_of.ensures ∙ bits_10 _ _ _ _ _ c.in-
 
 pub returns-in_default : goal.returns-in_default
 unfolding first_of upper
-returns-in_default c = bits_11 _ _ _ _ _ c.match.rest.0.0.1 c.match.rest.0.1 c.match.rest.1
+returns-in_default c = bits_11 _ _ _ _ _ c.in_default.in_default-own.rest.0.0.1 c.in_default.in_default-own.rest.0.1 c.in_default.in_default-own.rest.1
