@@ -2,7 +2,10 @@
 // Records on standard input; on standard output the image built at 20000000 hex, or the refusal.
 mod output;
 
-use libc::{STDIN_FILENO, STDOUT_FILENO};
+// The descriptors of standard input and standard output.
+const STDIN_FILENO: i32 = 0;
+
+const STDOUT_FILENO: i32 = 1;
 
 // The bytes of the most records, and one more.
 const INPUT: usize = records::SIZE * records::MOST + 1;

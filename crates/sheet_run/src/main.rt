@@ -5,11 +5,13 @@ use bank::Bank;
 use builder::Built;
 use calls::Call;
 use decision::Said;
-use libc::STDOUT_FILENO;
 use memory::Place;
 use page::{Access, PhysicalAddress, VirtualAddress};
 use prices::{Price, Prices};
 use session::{Bench, Stepped};
+
+// The descriptor of standard output.
+const STDOUT_FILENO: i32 = 1;
 
 // The sheet's base.
 const BASE: u32 = 0x20000000;

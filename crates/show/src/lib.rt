@@ -1,6 +1,8 @@
 #![tactic(auto)]
 // Lines of text on standard output, for programs that show what a library answers.
-use libc::STDOUT_FILENO;
+
+// The descriptor of standard output.
+const STDOUT_FILENO: i32 = 1;
 
 // A label, a number in hexadecimal, and a line end.
 pub fn line(label: &[u8], n: u64) {
