@@ -5,10 +5,9 @@ use Rattle.records.proofs.bitmap.cover.Goals as goal
 pub returns-in-Section : goal.returns-in-Section
 returns-in-Section c =
     let sixteen-full = c.sixteen_full in
-    let enum_told = c.enum_told-1 in
     let args = c.args in
     let pre = c.requires in
-    cover_section args.c.now args.m pre.1 _ enum_told.given.1 sixteen-full.ensures
+    cover_section args.c.now args.m pre.1 _ c.in-Section.is sixteen-full.ensures
 
 pub returns-in-Large : goal.returns-in-Large
 returns-in-Large c =

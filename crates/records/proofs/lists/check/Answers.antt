@@ -82,10 +82,10 @@ loop-i-preserved c =
       omega (arith, whole megabytes rs i good),
       left_more megabytes _ i c.loop-i-test.true c.loop-i.invariant.1 good
           (overlap_says rs i m.result good m.ensures c.loop-i.taken free.result c.loop-i.invariant.3 free.ensures ∙ c.if-not-is_free.false-raw),
-      v.auto.0 ∙ c.loop-i.invariant.2,
-      marks_turn rs i m.result good m.ensures c.loop-i.taken v.new.0 c.loop-i.invariant.3 v.ensures,
+      v.auto.c ∙ c.loop-i.invariant.2,
+      marks_turn rs i m.result good m.ensures c.loop-i.taken v.new.c c.loop-i.invariant.3 v.ensures,
       λ e.
-          notes_more rs i m.result c.loop-i.seen c.note.new.0 (read_is rs i m.result good m.ensures)
+          notes_more rs i m.result c.loop-i.seen c.note.new.seen (read_is rs i m.result good m.ensures)
           (read_below rs i m.result good m.ensures) c.note.ensures (c.loop-i.invariant.4 e),
     )
 

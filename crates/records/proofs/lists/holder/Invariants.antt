@@ -4,7 +4,7 @@ use Rattle.records.proofs.Scan.{Rest, rest-none, rest_at, rest_end}
 use Rattle.records.proofs.lists.holder.Given as goal
 
 abbrev pub invariant-loop-j : goal.invariant-loop-j
-invariant-loop-j l = (l.n ≡ length (mappings l.records)) × (l.j ≤ l.n) × Rest (λ (l : List Mapping). holder l l.va) (mappings l.records) l.j
+invariant-loop-j l = (l.n ≡ length (mappings l.records)) × (l.j ≤ l.n) × Rest (λ (ms : List Mapping). holder ms l.va) (mappings l.records) l.j
 
 abbrev pub decreases-loop-j : goal.decreases-loop-j
 decreases-loop-j l = l.n - l.j

@@ -13,5 +13,5 @@ returns-then-records-at-lt-SIZE c =
 pub returns : goal.returns
 returns c =
     bad-rest megabytes c.args.records.now c.args.i _ c.if-i-ge-MOST.false
-    (c.well-formed-2.ensures ∙ ap (λ (n : ℕ). well_formed megabytes (take n (drop (12 * c.args.i) c.args.records.now)))
+    (c.well_formed-2.ensures ∙ ap (λ (n : ℕ). well_formed megabytes (take n (drop (12 * c.args.i) c.args.records.now)))
     (let e : 12 * c.args.i + 12 - 12 * c.args.i ≡ 12 = omega arith in e))
