@@ -30,9 +30,9 @@ loop-i-smaller c = omega arith
 pub loop-i-preserved : goal.loop-i-preserved
 loop-i-preserved c = (
   omega arith,
-  c.put_word.auto.0 ∙ c.loop-i.invariant.1,
+  c.put_word.auto.out ∙ c.loop-i.invariant.1,
   c.loop-i.invariant.2
-      ∙ words_turn c.args.words.now c.loop-i.out c.put_word.new.0 c.args.at c.loop-i.i c.loop-i-test.true (omega (arith, c.requires, c.loop-i.invariant.1))
+      ∙ words_turn c.args.words.now c.loop-i.out c.put_word.new.out c.args.at c.loop-i.i c.loop-i-test.true (omega (arith, c.requires, c.loop-i.invariant.1))
       c.put_word.ensures,
 )
 

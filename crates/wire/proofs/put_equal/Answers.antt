@@ -28,8 +28,8 @@ loop-y-preserved c =
     let args = c.args in
     let pre = c.requires in (
       omega arith,
-      put_word.auto.0 ∙ loop.invariant.1,
-      one_more args.out.now loop.out put_word.new.0 args.at loop.y _ (λ (_ : ℕ). args.w) (omega (arith, pre)) refl loop.invariant.2 put_word.ensures,
+      put_word.auto.out ∙ loop.invariant.1,
+      one_more args.out.now loop.out put_word.new.out args.at loop.y _ (λ (_ : ℕ). args.w) (omega (arith, pre)) refl loop.invariant.2 put_word.ensures,
     )
 
 pub returns : goal.returns
