@@ -5,7 +5,4 @@ use Rattle.memory.proofs.four.Goals as goal
 
 pub returns : goal.returns
 returns c =
-    let a = c.args in (
-      ap (λ (j : ℕ). take j (drop a.k a.memory.now)) (add-sub_cancel_left a.k 4),
-      refl,
-    )
+    let a = c.args in record { bytes = ap (λ (j : ℕ). take j (drop a.k a.memory.now)) (add-sub_cancel_left a.k 4); source = refl }
