@@ -23,7 +23,7 @@ slice_bounds-well_formed-end c = omega arith
 
 pub returns-then-not-well_formed : goal.returns-then-not-well_formed
 returns-then-not-well_formed c =
-    formed-bad _ _ c.loop-i.i c.loop-i-test.true c.loop-i.invariant.1 (sym c.well-formed-2.ensures ∙ not-true _ c.if-not-well_formed.true-raw)
+    formed-bad _ _ c.loop-i.i c.loop-i-test.true c.loop-i.invariant.1 (sym c.well_formed-in-loop-i.ensures ∙ not-true _ c.if-not-well_formed.true-raw)
 
 pub overflow_add-i : goal.overflow_add-i
 overflow_add-i c = omega arith
@@ -33,7 +33,7 @@ loop-i-smaller c = omega arith
 
 pub loop-i-preserved : goal.loop-i-preserved
 loop-i-preserved c =
-    (omega arith, formed-more _ _ c.loop-i.i c.loop-i-test.true c.loop-i.invariant.1 (sym c.well-formed-2.ensures ∙ not-false _ c.if-not-well_formed.false-raw))
+    (omega arith, formed-more _ _ c.loop-i.i c.loop-i-test.true c.loop-i.invariant.1 (sym c.well_formed-in-loop-i.ensures ∙ not-false _ c.if-not-well_formed.false-raw))
 
 pub returns : goal.returns
 returns c = formed_last _ _ c.loop-i.i c.loop-i-test.false c.loop-i.invariant.1

@@ -18,7 +18,7 @@ loop-i-smaller c = omega (arith, c.count-n.ensures)
 
 pub loop-i-preserved : goal.loop-i-preserved
 loop-i-preserved c =
-    printing_turn _ _ _ _ _ c.loop-i.invariant _ _ _ (subst (λ (n : ℕ). c.loop-i.i < n) c.count-n.ensures c.loop-i-test.true) c.mapping_at.ensures c.put_line-at.auto.0
+    printing_turn _ _ _ _ _ c.loop-i.invariant _ _ _ (subst (λ (n : ℕ). c.loop-i.i < n) c.count-n.ensures c.loop-i-test.true) c.mapping_at.ensures c.put_line-at.auto.out
     c.put_line-at.ensures
 
 pub returns : goal.returns

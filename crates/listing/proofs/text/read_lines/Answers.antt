@@ -68,7 +68,7 @@ loop-at-smaller c = omega arith
 pub loop-at-preserved : goal.loop-at-preserved
 loop-at-preserved c =
     turn_mapped _ _ _ _ _ _ _ _ c.loop-at.invariant c.loop-at-test.true _ c.run.ensures _ c.said-s.ensures _ _ _ c.in-Mapped.is c.if-n-ge-MOST.false
-    c.record_of-r.ensures c.put.auto.0 c.put.ensures
+    c.record_of-r.ensures c.put.auto.out c.put.ensures
 
 pub returns-in-Bad : goal.returns-in-Bad
 returns-in-Bad c =

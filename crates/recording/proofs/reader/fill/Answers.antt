@@ -36,7 +36,7 @@ loop-i-preserved c =
     let h = c.loop-i-test.true in
     let fits = let z : c.loop-i.at + length (pieces f i (n - i)) ≤ length c.loop-i.out = omega (arith, c.loop-i.invariant.1, c.loop-i.invariant.2) in z in (
       omega arith,
-      c.put_bytes.auto.0 ∙ c.loop-i.invariant.1,
+      c.put_bytes.auto.out ∙ c.loop-i.invariant.1,
       omega (arith, piece_fits f n i c.loop-i.at c.loop-i.out _ h fits e, c.loop-i.invariant.1),
       c.loop-i.invariant.3 ∙ piece_turn f n i c.loop-i.at c.loop-i.out _ h fits e _ c.put_bytes.ensures,
     )

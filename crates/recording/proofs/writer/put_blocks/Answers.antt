@@ -37,7 +37,7 @@ pub loop-i-preserved : goal.loop-i-preserved
 loop-i-preserved c =
     let l = c.args.calls.now in (
       omega arith,
-      c.put_block.auto.1.1.1.0 ∙ c.loop-i.invariant.1,
+      c.put_block.auto.out ∙ c.loop-i.invariant.1,
       c.loop-i.invariant.2
           ∙ block_turn l c.loop-i.out _ c.args.n c.loop-i.i c.loop-i-test.true
           (omega (arith, c.requires.held, c.loop-i.invariant.1))
