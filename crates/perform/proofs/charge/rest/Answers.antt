@@ -8,14 +8,14 @@ returns-in-Fault c =
     let a = c.args in
     let rd = read_within (lent a.on.now a.onbase.0 a.ext.now a.extbase.0) in
     ap (λ (b : Bill). record { found = Found.NoPage; words = 1; from = a.first.place; bill = b }) c.requires.1
-    ∙ ap (λ (x : First). charged_of a.prices a (by_first rd a.va.0 a.first x)) (sym c.in-Fault.is)
+    ∙ ap (λ (x : First). charged_of a.prices a.before (by_first rd a.va.0 a.first x)) (sym c.in-Fault.is)
 
 pub returns-in-Whole : goal.returns-in-Whole
 returns-in-Whole c =
     let a = c.args in
     let rd = read_within (lent a.on.now a.onbase.0 a.ext.now a.extbase.0) in
     ap (λ (b : Bill). record { found = Found.Page c.in-Whole.p; words = 1; from = a.first.place; bill = b }) c.requires.1
-    ∙ ap (λ (x : First). charged_of a.prices a (by_first rd a.va.0 a.first x)) (sym c.in-Whole.is)
+    ∙ ap (λ (x : First). charged_of a.prices a.before (by_first rd a.va.0 a.first x)) (sym c.in-Whole.is)
 
 pub overflow_add-at : goal.overflow_add-at
 overflow_add-at c = omega (arith, subst Room c.in-Coarse.is c.requires.0)
@@ -29,7 +29,7 @@ returns-in-Coarse c =
     let a = c.args in
     let rd = read_within (lent a.on.now a.onbase.0 a.ext.now a.extbase.0) in
     c.second.ensures
-    ∙ ap (λ (x : First). charged_of a.prices a (by_first rd a.va.0 a.first x)) (sym c.in-Coarse.is)
+    ∙ ap (λ (x : First). charged_of a.prices a.before (by_first rd a.va.0 a.first x)) (sym c.in-Coarse.is)
 
 pub overflow_add-at-in-Fine : goal.overflow_add-at-in-Fine
 overflow_add-at-in-Fine c = omega (arith, subst Room c.in-Fine.is c.requires.0)
@@ -43,4 +43,4 @@ returns-in-Fine c =
     let a = c.args in
     let rd = read_within (lent a.on.now a.onbase.0 a.ext.now a.extbase.0) in
     c.second-in-Fine.ensures
-    ∙ ap (λ (x : First). charged_of a.prices a (by_first rd a.va.0 a.first x)) (sym c.in-Fine.is)
+    ∙ ap (λ (x : First). charged_of a.prices a.before (by_first rd a.va.0 a.first x)) (sym c.in-Fine.is)
