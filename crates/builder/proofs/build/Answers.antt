@@ -14,7 +14,7 @@ returns-then-room-len c =
     let k = c.check-found.ensures in
     let fine = c.in-Fine.is in
     let w = c.write-len.ensures (k.1 fine refl) in
-    ap (λ (n : ℕ). outcome (Built.TooLong n) c.write-len.new.1.1.1.0) c.count.ensures
+    ap (λ (n : ℕ). outcome (Built.TooLong n) c.write-len.new.out) c.count.ensures
     ∙ outcome-is a.records.now a.base.0 a.memory.now _ _
     (answer-long a.records.now a.base.0 _ (sym c.room_ok.ensures ∙ not-false _ c.if-not-room_ok.false-raw) (sym k.0 ∙ fine) (omega (arith, w.0)))
     (w.1 ∙ written_short _ _ _ (omega (arith, w.0)))
@@ -35,7 +35,7 @@ returns-else-room-len c =
     let k = c.check-found.ensures in
     let fine = c.in-Fine.is in
     let w = c.write-len.ensures (k.1 fine refl) in
-    ap (λ (n : ℕ). outcome (Built.Length n) c.write-len.new.1.1.1.0) w.0
+    ap (λ (n : ℕ). outcome (Built.Length n) c.write-len.new.out) w.0
     ∙ outcome-is a.records.now a.base.0 a.memory.now _ _
     (answer-length a.records.now a.base.0 _ (sym c.room_ok.ensures ∙ not-false _ c.if-not-room_ok.false-raw) (sym k.0 ∙ fine) (omega (arith, w.0)))
     (w.1 ∙ written-image _ _ _ (omega (arith, w.0)))

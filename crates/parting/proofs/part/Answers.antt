@@ -8,7 +8,7 @@ returns-then-not-whole_words c =
     let x = c.args in
     let h = sym c.whole_words.ensures ∙ not-true _ c.if-not-whole_words.true-raw in
     let p = part_is x.new x.signed Owner.New _ (owner_refused x.new.now x.signed.now h) (start-refused x.new.now x.signed.now h) in
-    (c.rest.ensures.bytes ∙ p.0, c.rest.ensures.source ∙ p.1)
+    record { bytes = c.rest.ensures.bytes ∙ p.0; source = c.rest.ensures.source ∙ p.1 }
 
 pub overflow_mul-k : goal.overflow_mul-k
 overflow_mul-k c =
@@ -30,11 +30,11 @@ returns-in-New c =
     let x = c.args in
     let p = part_good x.new x.signed _ _ c.common.ensures c.parting_word-k.ensures
     (sym c.whole_words.ensures ∙ not-false _ c.if-not-whole_words.false-raw) Owner.New (sym c.in-New.is ∙ c.owner_at-owner.ensures) in
-    (c.rest-in-New.ensures.bytes ∙ p.0, c.rest-in-New.ensures.source ∙ p.1)
+    record { bytes = c.rest-in-New.ensures.bytes ∙ p.0; source = c.rest-in-New.ensures.source ∙ p.1 }
 
 pub returns-in-Signed : goal.returns-in-Signed
 returns-in-Signed c =
     let x = c.args in
     let p = part_good x.new x.signed _ _ c.common.ensures c.parting_word-k.ensures
     (sym c.whole_words.ensures ∙ not-false _ c.if-not-whole_words.false-raw) Owner.Signed (sym c.in-Signed.is ∙ c.owner_at-owner.ensures) in
-    (c.rest-in-Signed.ensures.bytes ∙ p.0, c.rest-in-Signed.ensures.source ∙ p.1)
+    record { bytes = c.rest-in-Signed.ensures.bytes ∙ p.0; source = c.rest-in-Signed.ensures.source ∙ p.1 }

@@ -8,4 +8,7 @@ pub returns : goal.returns
 returns c =
     let x = c.args in
     let l = x.image.now in
-    (take_all _ (drop x.k l) (let z : length (drop x.k l) ≤ length l - x.k = omega (arith, length-drop x.k l) in z), refl)
+    record {
+      bytes = take_all _ (drop x.k l) (let z : length (drop x.k l) ≤ length l - x.k = omega (arith, length-drop x.k l) in z);
+      source = refl;
+    }

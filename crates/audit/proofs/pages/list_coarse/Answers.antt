@@ -27,7 +27,7 @@ loop-j-preserved c =
     let v = c.loop-j.invariant in (
       omega (arith, v.1, c.loop-j-test.true),
       omega (arith, v.1),
-      c.list_wide-at.auto.1.1.1.1.0 ∙ v.2,
+      c.list_wide-at.auto.out ∙ v.2,
       put_next Table.Coarse x.memory.now x.o x.i 0 256 x.from x.out.now c.requires c.loop-j.j 16 c.loop-j.j _ _ _ _ (omega arith)
           (omega (arith, v.1, c.loop-j-test.true)) v.3 c.list_wide-at.ensures,
     )

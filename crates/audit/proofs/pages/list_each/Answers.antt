@@ -32,7 +32,7 @@ loop-k-preserved c =
     let x = c.args in
     let v = c.loop-k.invariant in (
       omega (arith, c.loop-k-test.true),
-      c.list_word-at.auto.1.1.1.1.1.0 ∙ v.1,
+      c.list_word-at.auto.out ∙ v.1,
       put_next x.table x.memory.now x.o x.i x.j x.n x.from x.out.now c.requires.0 c.loop-k.k 1 (x.j + c.loop-k.k) _ _ _ _ refl
           (omega (arith, c.loop-k-test.true)) v.2 c.list_word-at.ensures,
     )

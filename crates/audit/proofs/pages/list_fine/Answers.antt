@@ -27,7 +27,7 @@ loop-j-preserved c =
     let v = c.loop-j.invariant in (
       omega (arith, v.1, c.loop-j-test.true),
       omega (arith, v.1),
-      c.list_large-at.auto.1.1.1.1.0 ∙ v.2,
+      c.list_large-at.auto.out ∙ v.2,
       put_next Table.Fine x.memory.now x.o x.i 0 1024 x.from x.out.now c.requires c.loop-j.j 64 c.loop-j.j _ _ _ _ (omega arith)
           (omega (arith, v.1, c.loop-j-test.true)) v.3 c.list_large-at.ensures,
     )

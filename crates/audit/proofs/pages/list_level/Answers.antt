@@ -40,9 +40,9 @@ loop-i-preserved c =
     let v = c.loop-i.invariant in
     let d = c.decode_first-d.ensures ∙ ap first_of c.word.ensures in (
       omega (arith, c.loop-i-test.true),
-      c.list_first-at.auto.1.1.1.1.0 ∙ v.1,
+      c.list_first-at.auto.out ∙ v.1,
       level_put l x.base megabytes c.loop-i.i c.loop-i.at x.out.now c.loop-i.out c.loop-i-test.true c.requires.records v.2 _ _
-          (subst (λ (y : First). Put (first_pages l x.base c.loop-i.i y) c.loop-i.at c.loop-i.out c.list_first-at.result c.list_first-at.new.1.1.1.1.0) d
+          (subst (λ (y : First). Put (first_pages l x.base c.loop-i.i y) c.loop-i.at c.loop-i.out c.list_first-at.result c.list_first-at.new.out) d
           c.list_first-at.ensures),
     )
 

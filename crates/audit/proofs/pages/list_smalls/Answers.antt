@@ -30,7 +30,7 @@ loop-k-preserved c =
     let v = c.loop-k.invariant in (
       omega (arith, v.1, c.loop-k-test.true),
       omega (arith, v.1),
-      c.list_group-at.auto.1.1.1.1.1.1.0 ∙ v.2,
+      c.list_group-at.auto.out ∙ v.2,
       put_next Table.Fine x.memory.now x.o x.i x.j 64 x.from x.out.now c.requires.0 c.loop-k.k 4 (x.j + c.loop-k.k) _ _ _ _ refl
           (omega (arith, v.1, c.loop-k-test.true)) v.3 c.list_group-at.ensures,
     )

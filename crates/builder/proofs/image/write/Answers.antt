@@ -24,14 +24,14 @@ pub write_first-requires : goal.write_first-requires
 write_first-requires c =
     let zeros = c.write_run in
     let room = c.if-out-len.false in
-    level-more _ _ _ (omega (arith, zeros.auto.0)) c.place-len.ensures.level
+    level-more _ _ _ (omega (arith, zeros.auto.out)) c.place-len.ensures.level
 
 pub write_mappings-requires : goal.write_mappings-requires
 write_mappings-requires c =
     let first = c.write_first in
     let zeros = c.write_run in
     let room = c.if-out-len.false in
-    level-more _ _ _ (omega (arith, zeros.auto.0, first.auto.1.1.0)) c.place-len.ensures.level
+    level-more _ _ _ (omega (arith, zeros.auto.out, first.auto.out)) c.place-len.ensures.level
 
 pub returns : goal.returns
 returns c known =
@@ -44,9 +44,9 @@ returns c known =
     let e = p.ends ms known in
     let fits = c.if-out-len.false in
     let room : image_length megabytes ms ≤ length a.out.now = omega arith in
-    let same = f.auto.1.1.0 ∙ z.auto.0 in
+    let same = f.auto.out ∙ z.auto.out in
     let first =
-    spliced_same z.new.0 0 megabytes _ _ (omega (arith, z.auto.0, p.level.room)) (λ k h. first-none ms q.new.1.0 a.base k h (p.begins ms known)) in (
+    spliced_same z.new.out 0 megabytes _ _ (omega (arith, z.auto.out, p.level.room)) (λ k h. first-none ms q.new.firsts a.base k h (p.begins ms known)) in (
       e,
       image-done megabytes ms a.base a.out.now _ room
           (c.write_mappings.ensures (p.begins ms known) (omega (arith, same)) a.base a.out.now (sym same)

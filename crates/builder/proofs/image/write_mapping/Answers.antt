@@ -23,7 +23,7 @@ returns-then-f-eq3 c known room =
     let lt = c.if-mb-ge-MEGABYTES.false in
     let mb = m.result.at.0 / 2 ^ 20 in
     let n = names_fine (table_of ms mb) (table_start megabytes ms mb) _ (start_even ms mb) (known mb lt) c.if-f-eq3.true in
-    mapping-page ms c.args.j m.result m.ensures c.requires.1 c.args.out.now room mb lt refl Second.Fine n.0 _ c.write_fine.new.0 n.1 (λ z. omega arith)
+    mapping-page ms c.args.j m.result m.ensures c.requires.1 c.args.out.now room mb lt refl Second.Fine n.0 _ c.write_fine.new.out n.1 (λ z. omega arith)
     c.write_fine.ensures
 
 pub write_coarse-requires : goal.write_coarse-requires
@@ -37,7 +37,7 @@ returns-then-f-eq1 c known room =
     let lt = c.if-mb-ge-MEGABYTES.false in
     let mb = m.result.at.0 / 2 ^ 20 in
     let n = names_coarse (table_of ms mb) (table_start megabytes ms mb) _ (start_even ms mb) (known mb lt) c.if-f-eq1.true in
-    mapping-page ms c.args.j m.result m.ensures c.requires.1 c.args.out.now room mb lt refl Second.Coarse n.0 _ c.write_coarse.new.0 n.1 (λ z. omega arith)
+    mapping-page ms c.args.j m.result m.ensures c.requires.1 c.args.out.now room mb lt refl Second.Coarse n.0 _ c.write_coarse.new.out n.1 (λ z. omega arith)
     c.write_coarse.ensures
 
 pub returns : goal.returns
@@ -48,5 +48,5 @@ returns c known room =
     let mb = m.result.at.0 / 2 ^ 20 in
     mapping_section ms c.args.j m.result m.ensures c.requires.1 c.args.out.now room mb lt refl Second.Absent
     (names_none (table_of ms mb) (table_start megabytes ms mb) _ (start_even ms mb) (known mb lt) c.if-f-eq3.false c.if-f-eq1.false)
-    c.section_word.result c.write_run.new.0 c.section_word.ensures refl
+    c.section_word.result c.write_run.new.out c.section_word.ensures refl
     c.write_run.ensures

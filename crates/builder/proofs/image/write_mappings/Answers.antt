@@ -29,7 +29,7 @@ loop-j-preserved c =
     let l = c.loop-j in
     let ms = mappings c.args.records.now in (
       omega arith,
-      w.auto.1.1.0 ∙ l.invariant.1,
+      w.auto.out ∙ l.invariant.1,
       λ known room base a h e.
           w.ensures known (omega (arith, l.invariant.1)) base a (h ∙ sym l.invariant.1)
           (l.invariant.2 known room base a h e
