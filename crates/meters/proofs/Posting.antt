@@ -19,12 +19,12 @@ stopped_sum a b h = omega arith
 
 -- meters that counted nothing are within their stops, and a posting keeps them there
 pub none_within : BelowStop no_meters
-none_within = record { fresh_le = omega arith; retries-le = omega arith; words-le = omega arith }
+none_within = record { fresh-le = omega arith; retries-le = omega arith; words-le = omega arith }
 
 pub posted-within : (m : Meters) (t : Tally) → BelowStop (posted m t)
 unfolding posted
 posted-within m t = record {
-  fresh_le = stopped-le m.fresh t.fresh;
+  fresh-le = stopped-le m.fresh t.fresh;
   retries-le = stopped-le m.retries t.retries;
   words-le = stopped-le m.words t.words;
 }
@@ -32,12 +32,12 @@ posted-within m t = record {
 -- a zero tally changes nothing
 pub posted-zero : (m : Meters) → BelowStop m → posted m no_tally ≡ m
 unfolding posted
-posted-zero m w = rw (stopped-zero m.fresh w.fresh_le, stopped-zero m.retries w.retries-le, stopped-zero m.words w.words-le)
+posted-zero m w = rw (stopped-zero m.fresh w.fresh-le, stopped-zero m.retries w.retries-le, stopped-zero m.words w.words-le)
 
 -- no meter falls
 pub posted-ge : (m : Meters) (t : Tally) → BelowStop m → (m.fresh ≤ (posted m t).fresh) × ((m.retries ≤ (posted m t).retries) × (m.words ≤ (posted m t).words))
 unfolding posted
-posted-ge m t w = (stopped-ge m.fresh t.fresh w.fresh_le, (stopped-ge m.retries t.retries w.retries-le, stopped-ge m.words t.words w.words-le))
+posted-ge m t w = (stopped-ge m.fresh t.fresh w.fresh-le, (stopped-ge m.retries t.retries w.retries-le, stopped-ge m.words t.words w.words-le))
 
 -- while no sum is past the stop, each meter is the sum
 pub posted_sum : (m : Meters) (t : Tally) → m.fresh + t.fresh ≤ stop → m.retries + t.retries ≤ stop → m.words + t.words ≤ stop

@@ -29,6 +29,6 @@ posted m t = record {
 
 -- no meter is past its stop
 pub record BelowStop (m : Meters) : Type 0 where
-  pub fresh_le : m.fresh ≤ stop
+  pub fresh-le : m.fresh ≤ stop
   pub retries-le : m.retries ≤ stop
   pub words-le : m.words ≤ stop

@@ -14,7 +14,7 @@ returns-in-2 c = ap Found.Page c.page_of-in-2.ensures ∙ bits_10 _ _ _ _ _ c.in
 
 pub returns-in_default : goal.returns-in_default
 returns-in_default c =
-    coarse-none _ c.in-1.rest.0.1 c.in-1.rest.1
+    coarse-none _ c.in_default.in_default-own.rest.0.1 c.in_default.in_default-own.rest.1
     ∙ ap (λ (t : Table). second_of t c.args.w) (sym c.in-Coarse.is)
 
 pub returns-in-0 : goal.returns-in-0
@@ -33,5 +33,5 @@ pub returns-in_default-2 : goal.returns-in_default-2
 unfolding second_of
 returns-in_default-2 c =
     ap Found.Page c.page_of-in_default-2.ensures
-    ∙ bits_11 _ _ _ _ _ c.in-0.rest.0.0.1 c.in-0.rest.0.1 c.in-0.rest.1
+    ∙ bits_11 _ _ _ _ _ c.in_default-2.in_default-2-own.rest.0.0.1 c.in_default-2.in_default-2-own.rest.0.1 c.in_default-2.in_default-2-own.rest.1
     ∙ ap (λ (t : Table). second_of t c.args.w) (sym c.in-Fine.is)
