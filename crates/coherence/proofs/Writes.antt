@@ -88,6 +88,9 @@ module _ (m : Lent) (base : ℕ) (u : Uniform limit (look_in m base)) (d : Devic
   cleared_keeps = record { on = h.on; walking = h.walking; base-is = h.base-is; lanes = h.lanes; below = tt }
 
   setting_keeps : (s : Setting) → Leaves s → Keeps (set_registers d (setting d.registers s))
+  setting_keeps (Setting.Control _) e = elim e [ ]
+  setting_keeps (Setting.BaseHigh _) e = elim e [ ]
+  setting_keeps (Setting.BaseLow _) e = elim e [ ]
   setting_keeps (Setting.CamHigh v) e = h
   setting_keeps (Setting.CamLow v) e = h
   setting_keeps (Setting.RamHigh v) e = h
@@ -112,6 +115,8 @@ module _ (m : Lent) (base : ℕ) (u : Uniform limit (look_in m base)) (d : Devic
     pub carried_keeps : (c : Command) → Tame c → Ends (carried m p b d c)
     carried_keeps (Command.Refused k) e = h
     carried_keeps Command.Nothing e = h
+    carried_keeps Command.Reset e = elim e [ ]
+    carried_keeps Command.Load e = elim e [ ]
     carried_keeps (Command.Set s) e = setting_keeps s e
     carried_keeps (Command.Tend t) e = tended_keeps t
     carried_keeps Command.Copy e = h
