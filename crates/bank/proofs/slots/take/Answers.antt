@@ -9,6 +9,5 @@ returns-in-Nothing c =
 pub returns-in-Slot : goal.returns-in-Slot
 returns-in-Slot c =
     let x = c.args in
-    let g = c.fill-1.given in
-    filled-slot x.cam.now x.ram.now x.lows.now x.highs.now x.lock x.victim _ _ g.0.0 x.fill _ _ _ g.1 c.next_slot-at.ensures c.next_victim.ensures
+    filled-slot x.cam.now x.ram.now x.lows.now x.highs.now x.lock x.victim _ _ c.in-Slot.w x.fill _ _ _ c.in-Slot.is c.next_slot-at.ensures c.next_victim.ensures
     refl c.low_of.ensures c.high_of.ensures
