@@ -1,5 +1,4 @@
-use Rattle.calls.specs.Names.{◌≡◌, ◌≤◌}
-use Rattle.calls.proofs.Names.{refl, sym, ◌∙◌, ap, and_yes, and_no, eq-eqb, ne_eqb, arith, ◌-◌, calls_from, is_good, good_calls, all_good}
+use Rattle.calls.proofs.Names.{refl, sym, ◌∙◌, ap, and_yes, and_no, eq-eqb, ne_eqb, arith, is_good, good_calls, all_good}
 use borrow.Author.Tests.{not-true, not-false}
 use Rattle.calls.proofs.Rest.{calls-none, calls-all, good_next, bad_next}
 use Rattle.calls.proofs.all_good.Goals as goal

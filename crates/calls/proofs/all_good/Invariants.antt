@@ -1,7 +1,5 @@
 use Rattle.calls.specs.Names.{◌≡◌, ◌≤◌}
-use Rattle.calls.proofs.Names.{refl, sym, ◌∙◌, ap, and_yes, and_no, eq-eqb, ne_eqb, arith, ◌-◌, calls_from, is_good, good_calls, all_good}
-use borrow.Author.Tests.{not-true, not-false}
-use Rattle.calls.proofs.Rest.{calls-none, calls-all, good_next, bad_next}
+use Rattle.calls.proofs.Names.{◌-◌, calls_from, good_calls}
 use Rattle.calls.proofs.all_good.Given as goal
 
 abbrev pub invariant-loop-i : goal.invariant-loop-i

@@ -1,4 +1,4 @@
-use Rattle.calls.proofs.Names.{call_of, call_from, ap₂, ◌∙◌, rules}
+use Rattle.calls.proofs.Names.{call_of, call_from, ap₂, ◌∙◌}
 use Rattle.calls.proofs.call_of.Goals as goal
 
 pub returns : goal.returns

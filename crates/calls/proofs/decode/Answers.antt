@@ -1,5 +1,5 @@
 use Rattle.calls.specs.Names.{ℕ, ◌+◌, ◌≤◌, length, take, drop, ◌≡◌}
-use Rattle.calls.proofs.Names.{call_of, call_at, ◌-◌, ◌<◌, sym, ◌∙◌, ap, pick_yes, pick_no, le-leb, lt-leb, arith, rules}
+use Rattle.calls.proofs.Names.{call_of, call_at, ◌-◌, ◌<◌, sym, ◌∙◌, ap, pick_yes, pick_no, le-leb, lt-leb, arith}
 use Rattle.calls.proofs.decode.Goals as goal
 
 pub returns-then-len-lt-SIZE : goal.returns-then-len-lt-SIZE

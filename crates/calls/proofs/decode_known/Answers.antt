@@ -1,5 +1,5 @@
 use Rattle.calls.specs.Names.{◌≡◌, length, take, drop, ℕ, ◌+◌, ◌≤◌}
-use Rattle.calls.proofs.Names.{sym, ◌∙◌, ap, pick_yes, pick_no, le-leb, lt-leb, arith, ◌<◌, ◌-◌, call_of, call_at, rules}
+use Rattle.calls.proofs.Names.{sym, ◌∙◌, ap, pick_yes, pick_no, le-leb, lt-leb, arith, ◌<◌, ◌-◌, call_of, call_at}
 use Rattle.calls.proofs.Good.{alike}
 use Rattle.calls.proofs.decode_known.Goals as goal
 

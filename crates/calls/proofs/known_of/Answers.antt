@@ -1,5 +1,5 @@
 use Rattle.calls.specs.Names.{get_or}
-use Rattle.calls.proofs.Names.{sym, ◌∙◌, ap₂, call_of, call_by, rules}
+use Rattle.calls.proofs.Names.{sym, ◌∙◌, ap₂, call_of, call_by}
 use Rattle.calls.proofs.Good.{alike, from_known}
 use Rattle.calls.proofs.known_of.Goals as goal
 

@@ -1,4 +1,3 @@
-use Rattle.crc.proofs.Names.{rules}
 use Rattle.crc.proofs.crc32.Goals as goal
 
 pub returns : goal.returns

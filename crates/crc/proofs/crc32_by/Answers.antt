@@ -1,5 +1,4 @@
-use Rattle.crc.specs.Names.{◌-◌, ◌≤◌, ◌≡◌, length, take}
-use Rattle.crc.proofs.Names.{arith, ◌∙◌, IsTable, crc_from, ones}
+use Rattle.crc.proofs.Names.{arith, ◌∙◌}
 use Rattle.crc.proofs.Registers.{begins, goes_on, byte-taken, ends}
 use Rattle.crc.proofs.crc32_by.Goals as goal
 

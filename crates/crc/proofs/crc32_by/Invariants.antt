@@ -1,6 +1,5 @@
 use Rattle.crc.specs.Names.{◌-◌, ◌≤◌, ◌≡◌, length, take}
-use Rattle.crc.proofs.Names.{arith, ◌∙◌, IsTable, crc_from, ones}
-use Rattle.crc.proofs.Registers.{begins, goes_on, byte-taken, ends}
+use Rattle.crc.proofs.Names.{IsTable, crc_from, ones}
 use Rattle.crc.proofs.crc32_by.Given as goal
 
 abbrev pub invariant-loop-i : goal.invariant-loop-i

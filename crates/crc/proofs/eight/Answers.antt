@@ -1,5 +1,5 @@
 use Rattle.crc.specs.Names.{ℕ, ◌+◌, ◌-◌, ◌≡◌, bit_xor, take, drop}
-use Rattle.crc.proofs.Names.{rules, arith, ap, ap₂, sym, ◌∙◌, behind}
+use Rattle.crc.proofs.Names.{arith, ap, ap₂, sym, ◌∙◌, behind}
 use Rattle.crc.proofs.Registers.{eight_bytes}
 use Rattle.wire.specs.Words.{word_of}
 use Rattle.crc.proofs.eight.Goals as goal

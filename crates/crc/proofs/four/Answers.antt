@@ -1,4 +1,3 @@
-use Rattle.crc.proofs.Names.{rules}
 use Rattle.crc.proofs.Rows.{four_rows}
 use Rattle.crc.proofs.four.Goals as goal
 

@@ -1,5 +1,5 @@
 use Rattle.crc.specs.Names.{ℕ, ◌/◌, bit_xor}
-use Rattle.crc.proofs.Names.{rules, ap, sym, ◌∙◌}
+use Rattle.crc.proofs.Names.{ap, sym, ◌∙◌}
 use Rattle.crc.proofs.Rows.{one_byte}
 use Rattle.crc.proofs.one.Goals as goal
 

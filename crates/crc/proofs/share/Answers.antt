@@ -1,5 +1,5 @@
 use Rattle.crc.specs.Names.{◌/◌, ◌%◌}
-use Rattle.crc.proofs.Names.{rules, arith}
+use Rattle.crc.proofs.Names.{arith}
 use Rattle.crc.proofs.share.Goals as goal
 
 pub returns : goal.returns

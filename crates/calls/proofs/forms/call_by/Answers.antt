@@ -1,5 +1,5 @@
 use Rattle.calls.specs.Names.{pick, ℕ}
-use Rattle.calls.proofs.Names.{call_by, pick_no, ne_eqb, sym, ◌∙◌, ap, rules}
+use Rattle.calls.proofs.Names.{call_by, pick_no, ne_eqb, sym, ◌∙◌, ap}
 use Rattle.calls.proofs.forms.call_by.Goals as goal
 
 pub returns-in-1 : goal.returns-in-1

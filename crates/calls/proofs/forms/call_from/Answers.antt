@@ -1,4 +1,4 @@
-use Rattle.calls.proofs.Names.{call_from, pick_yes, pick_no, and_yes, and_no, eq-eqb, ne_eqb, sym, ◌∙◌, rules}
+use Rattle.calls.proofs.Names.{call_from, pick_yes, pick_no, and_yes, and_no, eq-eqb, ne_eqb, sym, ◌∙◌}
 use Rattle.calls.proofs.forms.call_from.Goals as goal
 
 pub returns-then-third-ne0 : goal.returns-then-third-ne0

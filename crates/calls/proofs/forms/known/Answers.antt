@@ -1,5 +1,5 @@
 use Rattle.calls.specs.Names.{pick, ℕ, virtual, Call}
-use Rattle.calls.proofs.Names.{◌∙◌, ap, pick_no, ne_eqb, call_by, write_by, read_by, request_by, drop_by, rules}
+use Rattle.calls.proofs.Names.{◌∙◌, ap, pick_no, ne_eqb, call_by, write_by, read_by, request_by, drop_by}
 use Rattle.calls.proofs.Good.{write_known, read_known, request_known, drop_known, last_known, alike}
 use Rattle.calls.proofs.forms.known.Goals as goal
 

@@ -1,5 +1,5 @@
 use Rattle.calls.specs.Names.{virtual, Call}
-use Rattle.calls.proofs.Names.{request_by, sym, ◌∙◌, ap, pick_yes, pick_no, and_yes, and_no, eq-eqb, ne_eqb, lt-ltb, le-ltb, rules}
+use Rattle.calls.proofs.Names.{request_by, sym, ◌∙◌, ap, pick_yes, pick_no, and_yes, and_no, eq-eqb, ne_eqb, lt-ltb, le-ltb}
 use Rattle.calls.proofs.forms.request_by.Goals as goal
 
 pub returns-then-byte-ge2 : goal.returns-then-byte-ge2

@@ -1,4 +1,4 @@
-use Rattle.calls.proofs.Names.{write_by, sym, ◌∙◌, pick_yes, pick_no, and_yes, and_no, eq-eqb, ne_eqb, lt-ltb, le-ltb, rules}
+use Rattle.calls.proofs.Names.{write_by, sym, ◌∙◌, pick_yes, pick_no, and_yes, and_no, eq-eqb, ne_eqb, lt-ltb, le-ltb}
 use Rattle.calls.proofs.forms.write_by.Goals as goal
 
 pub returns-then-address-ne0 : goal.returns-then-address-ne0
