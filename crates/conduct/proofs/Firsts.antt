@@ -19,6 +19,7 @@ first-or_clear {K} (r ∷ rs) = by r.0 refl (first-or_clear rs)
 
 -- no two refusals come first
 pub one-first : {K : Type 0} (rs : Refusing K) (j k : K) → First rs j → First rs k → j ≡ k
+one-first [] j k x _ = elim x [ ]
 one-first (r ∷ rs) j k (inl f) (inl g) = sym f.1 ∙ g.1
 one-first (r ∷ rs) j k (inl f) (inr g) = absurd (true≢false (sym f.0 ∙ g.0))
 one-first (r ∷ rs) j k (inr f) (inl g) = absurd (true≢false (sym g.0 ∙ f.0))
@@ -27,6 +28,7 @@ one-first (r ∷ rs) j k (inr f) (inr g) = one-first rs j k f.1 g.1
 module _ {K A : Type 0} (say : K → A) (else : A) where
   pub first-refuses : (rs : Refusing K) (k : K) → First rs k → refuses rs say else ≡ say k
   unfolding refuses
+  first-refuses [] k x = elim x [ ]
   first-refuses (r ∷ rs) k (inl f) = pick_yes _ _ _ f.0 ∙ ap say f.1
   first-refuses (r ∷ rs) k (inr f) = pick_no _ _ _ f.0 ∙ first-refuses rs k f.1
 

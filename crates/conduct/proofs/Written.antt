@@ -2,7 +2,8 @@
 use Rattle.conduct.specs.Names.{◌≡◌, true, false, not, ◌≢◌, ℕ, ◌+◌, ◌*◌, ◌/◌, ◌%◌, ◌^◌, ◌<◌, eqb, pick, ◌and◌, slots, slot_at, is_refusal}
 use Rattle.conduct.specs.Names.{words_of, entry_of, listed, Setting, page_at, Clear, look, in_range, fresh_device, control_at, acknowledge_at, lock_at}
 use Rattle.conduct.specs.Names.{load_at, write_refusals, read_refusals, write, Said, step_out, step, Lent, Bill, Prices, Answer, Command, Device}
-use Rattle.conduct.specs.Names.{Outcome, Told}
+use Rattle.conduct.specs.Names.{Outcome, Told, Tending}
+use lib.Dec.{ltb}
 use Rattle.conduct.proofs.Names.{refl, sym, ◌∙◌, ap, subst, true≢false, arith, leb, eq-eqb, ne_eqb, lt-ltb, leb-false, not-false, ◌or◌}
 use Rattle.conduct.proofs.Names.{pick_yes, pick_no, and_yes, and_left, and_right, in_range_lem, registers_ok, pending_ok, no_register, control_command}
 use Rattle.conduct.proofs.Names.{lock_command, load_command, command_of, value_at, by_offset, registers_in-range, prefetch_decided, prefetch_kept}
@@ -58,14 +59,26 @@ module _ (m : Lent) (p : Prices) (b : Bill) (d : Device) (v : ℕ) where
   control_shows =
       pick-both (λ (c : Command) (n : ℕ). shown (carried m p b d c).device control_at ≡ Answer.Value n) _ _ _ _ _ (λ _. set_shows (v / 32 % 2 * 32 + v % 8)) (λ _. fresh_shows)
 
-  lock_shows : v < 2 ^ 16 → is_malformed lock_at v ≡ false → shown (carried m p b d (lock_command v)).device lock_at ≡ Answer.Value (v / 16 * 16)
-  unfolding is_malformed lock_command value_at listed pick ◌and◌ ◌or◌
-  lock_shows fit h =
+  lock_set : (l w : ℕ) → shown (carried m p b d (Command.Tend (Tending.Lock l w))).device lock_at ≡ Answer.Value (l % 64 * 1024 + w % 64 * 16)
+  unfolding value_at listed pick
+  lock_set l w = refl
+
+  lock_legal : is_malformed lock_at v ≡ false → (ltb (v / 1024) slots and ltb (v / 16 % 64) slots) ≡ true
+  unfolding is_malformed ◌and◌ ◌or◌
+  lock_legal h =
       let e = either_left (leb slots (v / 1024) or leb slots (v / 16 % 64)) false h in
       let l = lt-ltb (v / 1024) slots (leb-false slots (v / 1024) (either_left _ _ e)) in
       let r = lt-ltb (v / 16 % 64) slots (leb-false slots (v / 16 % 64) (either_right (leb slots (v / 1024)) _ e)) in
-      subst (λ (c : Command). shown (carried m p b d c).device lock_at ≡ Answer.Value (v / 16 * 16)) (sym (pick_yes _ _ _ (and_yes _ _ l ∙ r)))
-      (ap Answer.Value (lock_bits v fit))
+      and_yes _ _ l ∙ r
+
+  lock_tends : is_malformed lock_at v ≡ false → lock_command v ≡ Command.Tend (Tending.Lock (v / 1024) (v / 16 % 64))
+  unfolding lock_command
+  lock_tends h = pick_yes _ _ _ (lock_legal h)
+
+  lock_shows : v < 2 ^ 16 → is_malformed lock_at v ≡ false → shown (carried m p b d (lock_command v)).device lock_at ≡ Answer.Value (v / 16 * 16)
+  lock_shows fit h =
+      subst (λ (c : Command). shown (carried m p b d c).device lock_at ≡ Answer.Value (v / 16 * 16)) (sym (lock_tends h))
+      (lock_set (v / 1024) (v / 16 % 64) ∙ ap Answer.Value (lock_bits v fit))
 
   shows : v < 2 ^ 16 → (o : ℕ) → Shows o
   unfolding command_of kept_bits value_at listed pick ◌or◌
