@@ -22,6 +22,7 @@ Each P [] = Unit {0}
 Each P (r ∷ rs) = P r.1 × Each P rs
 
 pub first_each : {K : Type 0} (P : K → Type 0) (rs : Refusing K) (k : K) → Each P rs → First rs k → P k
+first_each P [] k e x = elim x [ ]
 first_each P (r ∷ rs) k e (inl f) = subst P f.1 e.0
 first_each P (r ∷ rs) k e (inr f) = first_each P rs k e.1 f.1
 
