@@ -3,23 +3,23 @@ use Rattle.mkimage.proofs.Texts.{count_of, decimal-length, message-is}
 use Rattle.mkimage.proofs.output.put_message.Goals as goal
 
 pub put_decimal-b-requires : goal.put_decimal-b-requires
-put_decimal-b-requires c = omega (arith, count_of _ _ _ _ c.put-a.ensures, c.put-a.auto.0)
+put_decimal-b-requires c = omega (arith, count_of _ _ _ _ c.put-a.ensures, c.put-a.auto.out)
 
 pub put-c-requires : goal.put-c-requires
 put-c-requires c =
-    omega (arith, count_of _ _ _ _ c.put_decimal-b.ensures, c.put_decimal-b.auto.0, count_of _ _ _ _ c.put-a.ensures, c.put-a.auto.0, decimal-length 20 c.args.number)
+    omega (arith, count_of _ _ _ _ c.put_decimal-b.ensures, c.put_decimal-b.auto.out, count_of _ _ _ _ c.put-a.ensures, c.put-a.auto.out, decimal-length 20 c.args.number)
 
 pub put_decimal-d-requires : goal.put_decimal-d-requires
 put_decimal-d-requires c =
     omega (
       arith,
       count_of _ _ _ _ c.put-c.ensures,
-      c.put-c.auto.0,
+      c.put-c.auto.out,
       count_of _ _ _ _ c.put_decimal-b.ensures,
-      c.put_decimal-b.auto.0,
+      c.put_decimal-b.auto.out,
       count_of _ _ _ _
           c.put-a.ensures,
-      c.put-a.auto.0,
+      c.put-a.auto.out,
       decimal-length 20 c.args.number,
     )
 
@@ -28,14 +28,14 @@ put-requires c =
     omega (
       arith,
       count_of _ _ _ _ c.put_decimal-d.ensures,
-      c.put_decimal-d.auto.0,
+      c.put_decimal-d.auto.out,
       count_of _ _ _ _ c.put-c.ensures,
-      c.put-c.auto.0,
+      c.put-c.auto.out,
       count_of _ _ _ _
           c.put_decimal-b.ensures,
-      c.put_decimal-b.auto.0,
+      c.put_decimal-b.auto.out,
       count_of _ _ _ _ c.put-a.ensures,
-      c.put-a.auto.0,
+      c.put-a.auto.out,
       decimal-length 20 c.args.number,
       decimal-length 20 c.args.value,
     )
