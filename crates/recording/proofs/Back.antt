@@ -1,10 +1,10 @@
 -- What is written is read back. Assumes nothing.
-use Rattle.recording.specs.Names.{◌≡◌, List, true, ℕ, zero, suc, ◌+◌, ◌-◌, ◌*◌, ◌/◌, ◌%◌, ◌<◌, ◌≤◌, length, take, drop, min, Bytes, is_good, call_at, call_count, all_good, Progress, Heard}
+use Rattle.recording.specs.Names.{◌≡◌, List, true, ℕ, zero, suc, ◌+◌, ◌-◌, ◌*◌, ◌/◌, ◌<◌, ◌≤◌, length, take, drop, min, Bytes, is_good, call_at, call_count, all_good, Progress, Heard}
 use Rattle.recording.specs.Blocks.{call_room, full_block, most_blocks, count_in}
-use Rattle.recording.specs.Writing.{records_in, bad_call, calls_for, block_for, blocks_for, recording_of}
+use Rattle.recording.specs.Writing.{calls_for, block_for, blocks_for, recording_of}
 use Rattle.recording.specs.Reading.{progress, block_at, blocks_in, calls_at, call_bytes, heard}
-use Rattle.recording.specs.Statements.{RecordedBack, RoundTrip}
-use Rattle.recording.proofs.Names.{refl, sym, ◌∙◌, ap, ap₂, subst, arith, length-take, length-drop, length-take-le, drop_at, drop-drop, pick_yes, le-leb}
+use Rattle.recording.specs.Statements.{RoundTrip}
+use Rattle.recording.proofs.Names.{sym, ◌∙◌, ap, ap₂, subst, arith, length-take, length-drop, length-take-le, drop_at, drop-drop, pick_yes, le-leb}
 use Rattle.recording.proofs.Names.{calls_of, pieces, filled_with, heard_from}
 use Rattle.recording.proofs.Firsts.{CallsAccepted, accepted_by}
 use Rattle.recording.proofs.Joins.{join_same}
@@ -12,7 +12,7 @@ use Rattle.recording.proofs.Chunks.{cut_whole, join_at}
 use Rattle.recording.proofs.Puts.{block-length}
 use Rattle.recording.proofs.Turns.{calls-few, calls-whole}
 use Rattle.recording.proofs.Fields.{count-is, calls_are, block_passes}
-use Rattle.recording.proofs.Passed.{BlockPasses, carried_on}
+use Rattle.recording.proofs.Passed.{BlockPasses}
 use Rattle.recording.proofs.Runs.{Runs, runs_heard}
 use Rattle.recording.proofs.Writes.{recording_length, blocks_few, read-good}
 use Rattle.calls.specs.Records.{call_of}

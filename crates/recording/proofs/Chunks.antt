@@ -1,6 +1,6 @@
 -- A list cut into pieces of one size, and pieces put together. Assumes nothing.
-use Rattle.recording.specs.Names.{◌≡◌, List, [], ◌++◌, ℕ, zero, suc, ◌+◌, ◌-◌, ◌*◌, ◌≤◌, ◌<◌, length, take, drop}
-use Rattle.recording.proofs.Names.{refl, sym, ◌∙◌, ap, ap₂, arith, append_assoc, take_at, drop_at, drop-drop, pieces}
+use Rattle.recording.specs.Names.{◌≡◌, List, ◌++◌, ℕ, zero, suc, ◌+◌, ◌-◌, ◌*◌, ◌≤◌, ◌<◌, length, take, drop}
+use Rattle.recording.proofs.Names.{sym, ◌∙◌, ap, ap₂, arith, append_assoc, take_at, drop_at, drop-drop, pieces}
 use Rattle.recording.proofs.Joins.{join_length}
 use native.Mathlib.Nat.{mul-suc, add_comm, mul-zero}
 use native.Mathlib.Decide.{dec_le}

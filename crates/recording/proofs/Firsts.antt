@@ -1,10 +1,8 @@
 -- The first call that is not as said. Assumes nothing.
-use Rattle.recording.specs.Names.{◌≡◌, List, Bool, true, false, ℕ, zero, suc, ◌+◌, ◌-◌, ◌*◌, ◌/◌, ◌%◌, ◌<◌, ◌≤◌, length, min, take, drop, is_good, call_at}
+use Rattle.recording.specs.Names.{◌≡◌, List, Bool, true, false, ℕ, zero, suc, ◌+◌, ◌-◌, ◌*◌, ◌%◌, ◌<◌, ◌≤◌, length, min, is_good, call_at}
 use Rattle.recording.specs.Blocks.{most_calls}
 use Rattle.recording.specs.Writing.{records_in, bad_call}
 use Rattle.recording.proofs.Names.{refl, sym, ◌∙◌, ap, arith, subst, pick_yes, pick_no, pick_by, lt-leb, first_bad}
-use Rattle.calls.specs.declared.Call.{Call}
-use Rattle.calls.specs.Records.{call_of}
 use mathlib.Core.Bool.{false≢true}
 use native.Mathlib.Decide.{dec_le}
 

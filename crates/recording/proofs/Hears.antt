@@ -1,7 +1,7 @@
 -- All blocks, one after another. Assumes nothing.
-use Rattle.recording.specs.Names.{◌≡◌, List, ℕ, suc, ◌+◌, ◌-◌, ◌*◌, ◌<◌, ◌≤◌, Progress, Taken, Heard, Flaw}
+use Rattle.recording.specs.Names.{◌≡◌, List, ℕ, suc, ◌+◌, ◌-◌, ◌<◌, ◌≤◌, Progress, Taken, Heard, Flaw}
 use Rattle.recording.specs.Reading.{block_at, onward}
-use Rattle.recording.proofs.Names.{refl, sym, ◌∙◌, ap, ap₂, arith, heard_from, block_taken}
+use Rattle.recording.proofs.Names.{sym, ◌∙◌, ap, arith, heard_from, block_taken}
 
 module _ (r : List ℕ) (p : Progress) (n i : ℕ) (e : p.blocks ≡ i) where
   -- one more block

@@ -1,6 +1,6 @@
 -- Pieces one behind the other. Assumes nothing.
-use Rattle.recording.specs.Names.{◌≡◌, List, [], ◌++◌, ℕ, zero, suc, ◌+◌, ◌-◌, ◌*◌, ◌≤◌, ◌<◌, length, take, drop, pasted}
-use Rattle.recording.proofs.Names.{refl, sym, ◌∙◌, ap, ap₂, arith, length-append, length-drop, length-take, take_at, drop_at, drop-append-add, pieces, append_assoc}
+use Rattle.recording.specs.Names.{◌≡◌, List, [], ◌++◌, ℕ, zero, suc, ◌+◌, ◌-◌, ◌*◌, ◌≤◌, ◌<◌, length, pasted}
+use Rattle.recording.proofs.Names.{refl, sym, ◌∙◌, ap, ap₂, arith, length-append, pieces}
 use Rattle.wire.proofs.Pastes.{pasted_then, pasted-none}
 use native.Mathlib.Nat.{mul-suc, add_comm}
 

@@ -2,7 +2,7 @@
 use Rattle.recording.specs.Names.{◌≡◌, List, ◌++◌, true, ℕ, zero, suc, ◌+◌, ◌-◌, ◌*◌, ◌/◌, ◌%◌, ◌^◌, ◌<◌, ◌≤◌, length, take, drop, min, replicate}
 use Rattle.recording.specs.Names.{Bytes, halves, word_bytes, word_at, is_good, call_at, call_count, crc32, Progress, Heard}
 use Rattle.recording.specs.Blocks.{call_room, full_block, most_calls, block_front, count_in}
-use Rattle.recording.specs.Writing.{records_in, bad_call, calls_for, block_for, blocks_for, recording_of}
+use Rattle.recording.specs.Writing.{records_in, calls_for, block_for, blocks_for, recording_of}
 use Rattle.recording.specs.Reading.{progress, block_at, blocks_in, calls_at, call_bytes, heard}
 use Rattle.recording.specs.Statements.{Writable, OneRecording}
 use Rattle.recording.proofs.Names.{refl, sym, ◌∙◌, ap, ap₂, subst, arith, append_assoc, length-take, length-drop, take-append-drop, take_at, drop-drop, calls_of, unused_of, block_of, pieces}
@@ -11,7 +11,7 @@ use Rattle.recording.proofs.Chunks.{cut_whole, join_at, join_long}
 use Rattle.recording.proofs.Zeros.{zeros_are}
 use Rattle.recording.proofs.Puts.{front_length}
 use Rattle.recording.proofs.Firsts.{first-all}
-use Rattle.recording.proofs.Passed.{BlockPasses, carried_on}
+use Rattle.recording.proofs.Passed.{BlockPasses}
 use Rattle.recording.proofs.Runs.{Runs, runs_of, calls-length, Counted, heard_counted}
 use Rattle.recording.proofs.Back.{call_in_part}
 use Rattle.calls.proofs.Rest.{all_good_at}

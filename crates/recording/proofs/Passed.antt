@@ -2,7 +2,7 @@
 use Rattle.recording.specs.Names.{◌≡◌, List, Bool, true, false, not, ℕ, ◌+◌, ◌*◌, ◌≤◌, ◌<◌, length, take, all_good, crc32, eqb, Flaw, Progress, Taken}
 use Rattle.recording.specs.Blocks.{count_in, number_in, check_in, full_block, most_blocks, block_size, checked_size}
 use Rattle.recording.specs.Reading.{progress}
-use Rattle.recording.proofs.Names.{refl, sym, ◌∙◌, ap, arith, not-false, eqb-true, all_zero, calls_of, unused_of, block_judged, block_taken}
+use Rattle.recording.proofs.Names.{refl, sym, ◌∙◌, not-false, eqb-true, all_zero, calls_of, unused_of, block_judged, block_taken}
 use Rattle.recording.proofs.Judged.{taken_judged, judged_next}
 use borrow.Author.Tests.{eqb-false, leb-false, ltb-false}
 use mathlib.Core.Path.{subst}

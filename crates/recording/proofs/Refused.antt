@@ -1,5 +1,5 @@
 -- What refusal 16 names, and what a refusal leaves. Assumes nothing.
-use Rattle.recording.specs.Names.{◌≡◌, List, Bool, true, false, ℕ, zero, suc, ◌+◌, ◌*◌, ◌%◌, ◌<◌, ◌≤◌, length, take, drop, min, ltb}
+use Rattle.recording.specs.Names.{◌≡◌, List, Bool, true, false, ℕ, zero, suc, ◌+◌, ◌*◌, ◌<◌, take, drop, min, ltb}
 use Rattle.recording.specs.Names.{is_good, call_at, Heard, Progress, Taken, Written}
 use Rattle.recording.specs.Blocks.{most_calls}
 use Rattle.recording.specs.Writing.{Wrote, records_in, bad_call, recording_of, written_number}

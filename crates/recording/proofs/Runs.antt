@@ -1,8 +1,8 @@
 -- Blocks that are all taken: each passes, and what is carried goes on. Assumes nothing.
-use Rattle.recording.specs.Names.{◌≡◌, List, ℕ, zero, suc, ◌+◌, ◌*◌, ◌≤◌, ◌<◌, length, take, drop, Progress, Taken, Heard}
+use Rattle.recording.specs.Names.{◌≡◌, List, ℕ, zero, suc, ◌+◌, ◌*◌, ◌≤◌, length, drop, Progress, Taken, Heard}
 use Rattle.recording.specs.Blocks.{count_in, full_block, most_blocks}
 use Rattle.recording.specs.Reading.{progress, block_at, blocks_in, calls_at, call_bytes, heard, onward}
-use Rattle.recording.proofs.Names.{refl, sym, ◌∙◌, ap, ap₂, arith, subst, length-append, length-take, length-drop, pieces, calls_of, heard_from, block_taken}
+use Rattle.recording.proofs.Names.{refl, sym, ◌∙◌, ap, arith, subst, length-append, length-take, length-drop, pieces, calls_of, heard_from, block_taken}
 use Rattle.recording.proofs.Passed.{BlockPasses, carried_on, passed_taken, next_passed, next_carried}
 
 -- k blocks of r, behind p, each of which passes, up to q

@@ -1,5 +1,5 @@
 -- A turn of the loops that write: one more block, and the calls of one more. Assumes nothing.
-use Rattle.recording.specs.Names.{◌≡◌, List, ◌++◌, ℕ, ◌+◌, ◌-◌, ◌*◌, ◌%◌, ◌≤◌, ◌<◌, length, take, drop, pasted}
+use Rattle.recording.specs.Names.{◌≡◌, List, ℕ, ◌+◌, ◌-◌, ◌*◌, ◌%◌, ◌≤◌, ◌<◌, length, drop, pasted}
 use Rattle.recording.specs.Blocks.{call_room}
 use Rattle.recording.specs.Writing.{calls_for, block_for}
 use Rattle.recording.proofs.Names.{sym, ◌∙◌, ap, arith, length-take, length-drop, pieces}

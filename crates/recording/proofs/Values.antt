@@ -1,9 +1,9 @@
 -- What an answer says has 32 bits. Assumes nothing.
-use Rattle.recording.specs.Names.{◌≡◌, List, ℕ, zero, suc, ◌+◌, ◌*◌, ◌^◌, ◌≤◌, ◌<◌, length, min, Progress, Taken, Heard, Written}
+use Rattle.recording.specs.Names.{◌≡◌, List, ℕ, zero, suc, ◌^◌, ◌≤◌, ◌<◌, length, min, Progress, Taken, Heard}
 use Rattle.recording.specs.Blocks.{most_blocks, most_calls}
-use Rattle.recording.specs.Writing.{wrote, Wrote, records_in, bad_call, recording_of, written_value}
+use Rattle.recording.specs.Writing.{Wrote, records_in, bad_call, recording_of, written_value}
 use Rattle.recording.specs.Reading.{progress, block_at, blocks_in, call_bytes, heard, heard_as, onward}
-use Rattle.recording.proofs.Names.{refl, sym, ◌∙◌, ap, arith, subst, pick_by, ltb-false, block_taken, heard_from, filled_with, recording_written, recording_read}
+use Rattle.recording.proofs.Names.{refl, ap, arith, subst, pick_by, ltb-false, block_taken, heard_from, filled_with, recording_written, recording_read}
 use Rattle.recording.proofs.Firsts.{accepted_by, first-le}
 use Rattle.recording.proofs.Passed.{next_passed, next_carried}
 use Rattle.recording.proofs.Runs.{heard_counted}

@@ -1,12 +1,11 @@
 -- What is written, or why not. Assumes nothing.
 use Rattle.recording.specs.Names.{◌≡◌, List, ℕ, ◌*◌, ◌≤◌, ◌<◌, length, pasted, Written, Heard, Progress}
 use Rattle.recording.specs.Blocks.{most_blocks}
-use Rattle.recording.specs.Writing.{Wrote, wrote, records_in, bad_call, blocks_for, recording_of}
+use Rattle.recording.specs.Writing.{wrote, records_in, bad_call, blocks_for, recording_of}
 use Rattle.recording.specs.Reading.{call_bytes, heard, heard_as}
 use Rattle.recording.proofs.Names.{sym, ◌∙◌, ap, ap₂, arith, pick_yes, pick_no, lt-ltb, le-ltb, filled_with, recording_written, recording_read}
-use Rattle.recording.proofs.Firsts.{CallsAccepted, accepted_by}
+use Rattle.recording.proofs.Firsts.{CallsAccepted}
 use Rattle.recording.proofs.Turns.{blocks_length}
-use Rattle.recording.proofs.Runs.{heard_counted}
 
 module _ (s before : List ℕ) (n : ℕ) (long : length s ≡ n) where
   pub filled_short : length before < n → wrote (Written.TooShort n) before ≡ filled_with s before

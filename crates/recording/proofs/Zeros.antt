@@ -1,5 +1,5 @@
 -- Only zeros. Assumes nothing.
-use Rattle.recording.specs.Names.{◌≡◌, List, [], ◌∷◌, true, false, ℕ, zero, suc, ◌+◌, ◌<◌, ◌≤◌, length, get_or, drop, replicate, eqb}
+use Rattle.recording.specs.Names.{◌≡◌, List, [], ◌∷◌, true, false, ℕ, zero, suc, ◌+◌, ◌<◌, ◌≤◌, length, get_or, drop, replicate}
 use Rattle.recording.proofs.Names.{refl, sym, ◌∙◌, ap, ap₂, add-one, and_yes, and_no, and_left, and_right, eq-eqb, ne_eqb, eqb-true, all_zero}
 use Rattle.recording.proofs.Pieces.{drop_past}
 use lib.Seq.{drop-cons}

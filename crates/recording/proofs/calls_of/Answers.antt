@@ -1,5 +1,5 @@
 use Rattle.recording.specs.Names.{ℕ, ◌*◌, take, drop}
-use Rattle.recording.proofs.Names.{◌∙◌, ap, rules, calls_of}
+use Rattle.recording.proofs.Names.{◌∙◌, ap, calls_of}
 use Rattle.recording.proofs.calls_of.Goals as goal
 
 pub returns : goal.returns

@@ -1,4 +1,3 @@
-use Rattle.recording.proofs.Names.{rules}
 use Rattle.recording.proofs.Pieces.{piece_past, piece_rest, piece_all}
 use Rattle.recording.proofs.piece.Goals as goal
 

@@ -1,6 +1,6 @@
 use Rattle.recording.specs.Names.{ℕ, length, pasted}
 use Rattle.recording.specs.Reading.{calls_at}
-use Rattle.recording.proofs.Names.{sym, ◌∙◌, ap, arith, rules, pieces}
+use Rattle.recording.proofs.Names.{sym, ◌∙◌, ap, arith, pieces}
 use Rattle.recording.proofs.Runs.{heard_counted}
 use Rattle.recording.proofs.Writes.{filled_short, filled-all, read-good, read-bad}
 use Rattle.recording.proofs.read.Goals as goal

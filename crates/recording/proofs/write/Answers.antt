@@ -1,4 +1,4 @@
-use Rattle.recording.proofs.Names.{refl, ◌∙◌, arith, rules}
+use Rattle.recording.proofs.Names.{refl, ◌∙◌, arith}
 use Rattle.recording.proofs.Firsts.{accepted_by}
 use Rattle.recording.proofs.Writes.{filled_short, filled-all, write-bad, write-good, recording_length, blocks_few}
 use Rattle.recording.proofs.write.Goals as goal

@@ -1,5 +1,4 @@
-use Rattle.recording.specs.Names.{◌≡◌}
-use Rattle.recording.proofs.Names.{sym, ◌∙◌, rules, and_yes, and_no, pick_yes, pick_no, lt-ltb, le-ltb, le-leb, lt-leb, eq-eqb, ne_eqb, block_written}
+use Rattle.recording.proofs.Names.{sym, ◌∙◌, and_yes, and_no, pick_yes, pick_no, lt-ltb, le-ltb, le-leb, lt-leb, eq-eqb, ne_eqb, block_written}
 use Rattle.recording.proofs.write_block.Goals as goal
 
 pub returns-then-number-ge-MOST : goal.returns-then-number-ge-MOST

@@ -1,4 +1,3 @@
-use Rattle.recording.proofs.Names.{rules}
 use Rattle.recording.proofs.Progress.take.Goals as goal
 
 pub take_by-requires : goal.take_by-requires

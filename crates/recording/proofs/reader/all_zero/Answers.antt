@@ -1,5 +1,4 @@
-use Rattle.recording.specs.Names.{◌≡◌, ◌-◌, ◌≤◌, length, drop}
-use Rattle.recording.proofs.Names.{refl, sym, ◌∙◌, arith, all_zero}
+use Rattle.recording.proofs.Names.{refl, sym, ◌∙◌, arith}
 use Rattle.recording.proofs.Zeros.{zero-on, zero-off, zero-end}
 use Rattle.recording.proofs.reader.all_zero.Goals as goal
 

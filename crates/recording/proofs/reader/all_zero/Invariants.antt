@@ -1,6 +1,5 @@
 use Rattle.recording.specs.Names.{◌≡◌, ◌-◌, ◌≤◌, length, drop}
-use Rattle.recording.proofs.Names.{refl, sym, ◌∙◌, arith, all_zero}
-use Rattle.recording.proofs.Zeros.{zero-on, zero-off, zero-end}
+use Rattle.recording.proofs.Names.{all_zero}
 use Rattle.recording.proofs.reader.all_zero.Given as goal
 
 abbrev pub invariant-loop-i : goal.invariant-loop-i

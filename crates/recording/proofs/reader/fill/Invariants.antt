@@ -1,8 +1,6 @@
 use Rattle.recording.specs.Names.{◌≡◌, ◌+◌, ◌-◌, ◌≤◌, length, pasted}
 use Rattle.recording.specs.Reading.{calls_at}
-use Rattle.recording.proofs.Names.{refl, sym, ◌∙◌, ap, arith, rules, pieces, calls_of}
-use Rattle.recording.proofs.Joins.{join_start, put_none}
-use Rattle.recording.proofs.Turns.{piece_fits, piece_turn}
+use Rattle.recording.proofs.Names.{pieces}
 use Rattle.recording.proofs.reader.fill.Given as goal
 
 abbrev pub invariant-loop-i : goal.invariant-loop-i

@@ -1,8 +1,6 @@
-use Rattle.recording.specs.Names.{ℕ, ◌≡◌, ◌+◌, ◌-◌, ◌/◌, ◌≤◌, length, Progress}
-use Rattle.recording.specs.Reading.{heard, block_at}
-use Rattle.recording.proofs.Names.{sym, ◌∙◌, ap, ap₂, arith, rules, heard_from, block_taken}
-use Rattle.recording.proofs.Passed.{next_carried}
-use Rattle.recording.proofs.Hears.{heard_next, heard-bad, heard-none}
+use Rattle.recording.specs.Names.{◌≡◌, ◌-◌, ◌≤◌}
+use Rattle.recording.specs.Reading.{heard}
+use Rattle.recording.proofs.Names.{heard_from}
 use Rattle.recording.proofs.reader.hear.Given as goal
 
 abbrev pub invariant-loop-i : goal.invariant-loop-i

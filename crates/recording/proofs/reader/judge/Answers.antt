@@ -1,6 +1,6 @@
-use Rattle.recording.specs.Names.{ℕ, ◌≡◌, ◌+◌, all_good, Taken}
+use Rattle.recording.specs.Names.{ℕ, ◌+◌, all_good, Taken}
 use Rattle.recording.specs.Reading.{progress}
-use Rattle.recording.proofs.Names.{sym, ◌∙◌, ap, not-true, not-false, arith, rules, all_zero}
+use Rattle.recording.proofs.Names.{sym, ◌∙◌, ap, not-true, not-false, arith, all_zero}
 use Rattle.recording.proofs.Judged.{calls_part, unused_part, judged_check, judged_number, judged_none, judged_over, judged_record, judged_unused, judged_next}
 use Rattle.recording.proofs.reader.judge.Goals as goal
 

@@ -1,4 +1,4 @@
-use Rattle.recording.proofs.Names.{◌∙◌, rules}
+use Rattle.recording.proofs.Names.{◌∙◌}
 use Rattle.recording.proofs.Judged.{taken_many, taken_short, taken-behind, taken_judged}
 use Rattle.recording.proofs.reader.take_by.Goals as goal
 

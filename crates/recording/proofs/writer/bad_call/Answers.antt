@@ -1,6 +1,5 @@
-use Rattle.recording.specs.Names.{◌≡◌, ◌-◌, ◌≤◌, is_good, min}
-use Rattle.recording.specs.Blocks.{most_calls}
-use Rattle.recording.proofs.Names.{refl, sym, ◌∙◌, ap, arith, not-true, not-false, first_bad}
+use Rattle.recording.specs.Names.{is_good}
+use Rattle.recording.proofs.Names.{sym, ◌∙◌, ap, arith, not-true, not-false, first_bad}
 use Rattle.recording.proofs.Firsts.{first_on, first_here, first-none, first-start}
 use Rattle.recording.proofs.writer.bad_call.Goals as goal
 

@@ -1,4 +1,3 @@
-use Rattle.recording.proofs.Names.{refl, ◌∙◌, rules}
 use Rattle.recording.proofs.Puts.{block_put}
 use Rattle.recording.proofs.writer.put_block.Goals as goal
 

@@ -1,8 +1,6 @@
-use Rattle.recording.specs.Names.{ℕ, List, ◌≡◌, ◌-◌, ◌*◌, ◌≤◌, length, pasted}
+use Rattle.recording.specs.Names.{◌≡◌, ◌-◌, ◌*◌, ◌≤◌, length, pasted}
 use Rattle.recording.specs.Writing.{block_for}
-use Rattle.recording.proofs.Names.{refl, sym, ◌∙◌, ap, arith, rules, pieces, block_of}
-use Rattle.recording.proofs.Joins.{join_start, put_none}
-use Rattle.recording.proofs.Turns.{block_turn, calls-few, calls-whole}
+use Rattle.recording.proofs.Names.{pieces}
 use Rattle.recording.proofs.writer.put_blocks.Given as goal
 
 abbrev pub invariant-loop-i : goal.invariant-loop-i
