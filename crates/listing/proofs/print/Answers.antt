@@ -1,5 +1,5 @@
 use Rattle.listing.specs.Names.{◌*◌, ◌/◌, length}
-use Rattle.listing.proofs.Names.{print_text, sym, ◌∙◌, pick_yes, pick_no, lt-ltb, not-true, not-false, arith, rules}
+use Rattle.listing.proofs.Names.{print_text, sym, ◌∙◌, pick_yes, pick_no, lt-ltb, not-true, not-false, arith}
 use Rattle.listing.proofs.Columns.{mappings-count, print_on}
 use Rattle.listing.proofs.print.Goals as goal
 

@@ -1,5 +1,5 @@
 use Rattle.listing.specs.Names.{ℕ, ◌<◌, length}
-use Rattle.listing.proofs.Names.{purpose_of, sym, ◌∙◌, subst, pick_yes, pick_no, or_yes, or_no, eq-eqb, ne_eqb, lt-ltb, le-ltb, arith, rules}
+use Rattle.listing.proofs.Names.{purpose_of, sym, ◌∙◌, subst, pick_yes, pick_no, or_yes, or_no, eq-eqb, ne_eqb, lt-ltb, le-ltb, arith}
 use Rattle.listing.proofs.Comments.{purpose_from, purpose_to, purpose_is}
 use Rattle.listing.proofs.Turns.{line_fits}
 use Rattle.listing.proofs.purpose.Goals as goal

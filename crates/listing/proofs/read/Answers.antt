@@ -1,4 +1,4 @@
-use Rattle.listing.proofs.Names.{read_text, sym, ◌∙◌, pick_yes, pick_no, or_yes, or_no, lt-ltb, le-ltb, rules}
+use Rattle.listing.proofs.Names.{read_text, sym, ◌∙◌, pick_yes, pick_no, or_yes, or_no, lt-ltb, le-ltb}
 use Rattle.listing.proofs.read.Goals as goal
 
 pub returns-then-records : goal.returns-then-records

@@ -1,4 +1,4 @@
-use Rattle.listing.proofs.Names.{◌∙◌, rules}
+use Rattle.listing.proofs.Names.{◌∙◌}
 use Rattle.wire.proofs.Pastes.{bytes_fit}
 use Rattle.listing.proofs.bytes.put.Goals as goal
 

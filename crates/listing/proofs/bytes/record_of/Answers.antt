@@ -1,4 +1,4 @@
-use Rattle.listing.proofs.Names.{record_of, rules}
+use Rattle.listing.proofs.Names.{record_of}
 use Rattle.listing.proofs.bytes.record_of.Goals as goal
 
 pub returns : goal.returns

@@ -1,4 +1,4 @@
-use Rattle.listing.proofs.Names.{within, digit, sym, ◌∙◌, pick_yes, pick_no, and_left, leb-true, arith, rules}
+use Rattle.listing.proofs.Names.{within, digit, sym, ◌∙◌, pick_yes, pick_no, and_left, leb-true, arith}
 use Rattle.listing.proofs.hex.digit.Goals as goal
 
 pub overflow_sub-result : goal.overflow_sub-result

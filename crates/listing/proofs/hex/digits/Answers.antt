@@ -1,6 +1,5 @@
-use Rattle.listing.specs.Names.{◌-◌, ◌*◌, ◌<◌, ◌≤◌, length}
-use Rattle.listing.proofs.Names.{end, refl, sym, ◌∙◌, pick_yes, pick_no, lt-ltb, le-ltb, arith, rules}
-use Rattle.listing.proofs.Digits.{On, on-bad, on-more, on-end, on_small}
+use Rattle.listing.proofs.Names.{refl, sym, ◌∙◌, pick_yes, pick_no, lt-ltb, le-ltb, arith}
+use Rattle.listing.proofs.Digits.{on-bad, on-more, on-end, on_small}
 use Rattle.listing.proofs.hex.digits.Goals as goal
 
 pub loop-i-init : goal.loop-i-init

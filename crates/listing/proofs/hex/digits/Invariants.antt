@@ -1,6 +1,6 @@
 use Rattle.listing.specs.Names.{◌-◌, ◌*◌, ◌<◌, ◌≤◌, length}
-use Rattle.listing.proofs.Names.{end, refl, sym, ◌∙◌, pick_yes, pick_no, lt-ltb, le-ltb, arith, rules}
-use Rattle.listing.proofs.Digits.{On, on-bad, on-more, on-end, on_small}
+use Rattle.listing.proofs.Names.{end}
+use Rattle.listing.proofs.Digits.{On}
 use Rattle.listing.proofs.hex.digits.Given as goal
 
 abbrev pub invariant-loop-i : goal.invariant-loop-i

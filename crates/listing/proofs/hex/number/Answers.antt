@@ -1,5 +1,5 @@
 use Rattle.listing.specs.Names.{length}
-use Rattle.listing.proofs.Names.{part_to_end, hex_digits, prefixed, hex_number, sym, ◌∙◌, ap, pick_yes, pick_no, and_left, leb-true, rules}
+use Rattle.listing.proofs.Names.{part_to_end, hex_digits, prefixed, hex_number, sym, ◌∙◌, ap, pick_yes, pick_no, and_left, leb-true}
 use Rattle.listing.proofs.hex.number.Goals as goal
 
 pub slice_bounds-written-count : goal.slice_bounds-written-count

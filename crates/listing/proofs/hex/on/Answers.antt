@@ -1,4 +1,4 @@
-use Rattle.listing.proofs.Names.{sym, pick_yes, pick_no, lt-ltb, le-ltb, rules}
+use Rattle.listing.proofs.Names.{sym, pick_yes, pick_no, lt-ltb, le-ltb}
 use Rattle.listing.proofs.hex.on.Goals as goal
 
 pub returns-then-v-lt-END : goal.returns-then-v-lt-END

@@ -1,4 +1,4 @@
-use Rattle.listing.proofs.Names.{prefixed, sym, ◌∙◌, and_yes, and_no, or_yes, or_no, eq-eqb, ne_eqb, le-leb, lt-leb, rules}
+use Rattle.listing.proofs.Names.{prefixed, sym, ◌∙◌, and_yes, and_no, or_yes, or_no, eq-eqb, ne_eqb, le-leb, lt-leb}
 use Rattle.listing.proofs.hex.prefixed.Goals as goal
 
 pub returns-then-w-lt2 : goal.returns-then-w-lt2

@@ -1,4 +1,4 @@
-use Rattle.listing.proofs.Names.{hex_digits, sym, ◌∙◌, pick_yes, pick_no, eq-eqb, ne_eqb, rules}
+use Rattle.listing.proofs.Names.{hex_digits, sym, ◌∙◌, pick_yes, pick_no, eq-eqb, ne_eqb}
 use Rattle.listing.proofs.hex.written.Goals as goal
 
 pub returns-then-w-eq0 : goal.returns-then-w-eq0

@@ -1,5 +1,5 @@
 use Rattle.listing.specs.Names.{ℕ, ◌<◌, ◌≤◌}
-use Rattle.listing.proofs.Names.{address_in, sym, ◌∙◌, subst, pick_yes, pick_no, eq-eqb, le-leb, lt-leb, rules}
+use Rattle.listing.proofs.Names.{address_in, sym, ◌∙◌, subst, pick_yes, pick_no, eq-eqb, le-leb, lt-leb}
 use Rattle.listing.proofs.Says.{address_at}
 use Rattle.listing.proofs.line.address.Goals as goal
 

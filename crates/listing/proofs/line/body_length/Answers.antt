@@ -1,4 +1,4 @@
-use Rattle.listing.proofs.Names.{body_length, sym, pick_yes, pick_no, eq-eqb, ne_eqb, rules}
+use Rattle.listing.proofs.Names.{body_length, sym, pick_yes, pick_no, eq-eqb, ne_eqb}
 use Rattle.listing.proofs.Says.{body-empty}
 use Rattle.listing.proofs.line.body_length.Goals as goal
 

@@ -1,4 +1,4 @@
-use Rattle.listing.proofs.Names.{line_ended, sym, ◌∙◌, pick_yes, pick_no, eq-eqb, ne_eqb, rules}
+use Rattle.listing.proofs.Names.{line_ended, sym, ◌∙◌, pick_yes, pick_no, eq-eqb, ne_eqb}
 use Rattle.listing.proofs.line.ended.Goals as goal
 
 pub returns-then-run-line : goal.returns-then-run-line

@@ -1,4 +1,4 @@
-use Rattle.listing.proofs.Names.{from_access, sym, ◌∙◌, pick_yes, eq-eqb, rules}
+use Rattle.listing.proofs.Names.{from_access, sym, ◌∙◌, pick_yes, eq-eqb}
 use Rattle.listing.proofs.Says.{access_bad, access_on}
 use Rattle.listing.proofs.Runs.{from_to, to_fits, word-is, rest-is, word_none, word_some}
 use Rattle.listing.proofs.line.from_access.Goals as goal

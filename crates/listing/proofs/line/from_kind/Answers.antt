@@ -1,4 +1,4 @@
-use Rattle.listing.proofs.Names.{from_kind, sym, ◌∙◌, pick_yes, eq-eqb, rules}
+use Rattle.listing.proofs.Names.{from_kind, sym, ◌∙◌, pick_yes, eq-eqb}
 use Rattle.listing.proofs.Says.{kind_on}
 use Rattle.listing.proofs.Runs.{from_to, to_fits, word-is, rest-is}
 use Rattle.listing.proofs.line.from_kind.Goals as goal

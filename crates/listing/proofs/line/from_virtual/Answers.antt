@@ -1,4 +1,4 @@
-use Rattle.listing.proofs.Names.{◌∙◌, rules}
+use Rattle.listing.proofs.Names.{◌∙◌}
 use Rattle.listing.proofs.Says.{virtual-on}
 use Rattle.listing.proofs.Runs.{from_to, to_fits, word-is, rest-is}
 use Rattle.listing.proofs.line.from_virtual.Goals as goal

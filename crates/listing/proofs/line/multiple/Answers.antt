@@ -1,5 +1,5 @@
 use Rattle.listing.specs.Names.{eqb, ◌-◌, ℕ, multiple}
-use Rattle.listing.proofs.Names.{◌∙◌, ap, arith, rules}
+use Rattle.listing.proofs.Names.{◌∙◌, ap, arith}
 use Rattle.page.proofs.Lower.{upper-le, upper-rest}
 use Rattle.page.specs.Words.{low_bits}
 use Rattle.listing.proofs.line.multiple.Goals as goal

@@ -1,5 +1,5 @@
 use Rattle.listing.specs.Names.{ℕ, ◌<◌}
-use Rattle.listing.proofs.Names.{parsed, sym, subst, pick_yes, lt-ltb, arith, rules}
+use Rattle.listing.proofs.Names.{parsed, sym, subst, pick_yes, lt-ltb, arith}
 use Rattle.listing.proofs.Says.{body_fits, plain_in, said_short}
 use Rattle.listing.proofs.line.said.Goals as goal
 

@@ -1,5 +1,5 @@
 use Rattle.listing.specs.Names.{◌≡◌, ℕ, ◌-◌, take}
-use Rattle.listing.proofs.Names.{comment_of, ◌∙◌, ap, arith, rules}
+use Rattle.listing.proofs.Names.{comment_of, ◌∙◌, ap, arith}
 use Rattle.listing.proofs.Says.{body_fits}
 use Rattle.listing.proofs.notes.comment.Goals as goal
 

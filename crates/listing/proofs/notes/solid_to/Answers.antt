@@ -1,5 +1,5 @@
-use Rattle.listing.proofs.Names.{refl, sym, ◌∙◌, not-true, not-false, arith, rules}
-use Rattle.listing.proofs.Comments.{Solid, solid_stop, solid_more, solid_none}
+use Rattle.listing.proofs.Names.{refl, sym, ◌∙◌, not-true, not-false, arith}
+use Rattle.listing.proofs.Comments.{solid_stop, solid_more, solid_none}
 use Rattle.listing.proofs.notes.solid_to.Goals as goal
 
 pub loop-n-init : goal.loop-n-init

@@ -1,5 +1,4 @@
-use Rattle.listing.proofs.Names.{refl, sym, ◌∙◌, not-true, not-false, arith, rules}
-use Rattle.listing.proofs.Comments.{Solid, solid_stop, solid_more, solid_none}
+use Rattle.listing.proofs.Comments.{Solid}
 use Rattle.listing.proofs.notes.solid_to.Given as goal
 
 abbrev pub invariant-loop-n : goal.invariant-loop-n

@@ -1,7 +1,6 @@
-use Rattle.listing.specs.Names.{◌-◌, ◌≤◌, length}
-use Rattle.listing.proofs.Names.{arith, rules}
+use Rattle.listing.proofs.Names.{arith}
 use Rattle.listing.proofs.Turns.{line_fits}
-use Rattle.listing.proofs.Comments.{Started, started-first, started_none, started-more, started_last}
+use Rattle.listing.proofs.Comments.{started-first, started_none, started-more, started_last}
 use Rattle.listing.proofs.notes.start_of.Goals as goal
 
 pub loop-i-init : goal.loop-i-init

@@ -1,7 +1,5 @@
 use Rattle.listing.specs.Names.{◌-◌, ◌≤◌, length}
-use Rattle.listing.proofs.Names.{arith, rules}
-use Rattle.listing.proofs.Turns.{line_fits}
-use Rattle.listing.proofs.Comments.{Started, started-first, started_none, started-more, started_last}
+use Rattle.listing.proofs.Comments.{Started}
 use Rattle.listing.proofs.notes.start_of.Given as goal
 
 abbrev pub invariant-loop-i : goal.invariant-loop-i

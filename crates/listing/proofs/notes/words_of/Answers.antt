@@ -1,5 +1,5 @@
 use Rattle.listing.specs.Names.{Class, ◌+◌, ◌-◌, length, take, drop}
-use Rattle.listing.proofs.Names.{comment_of, sym, ◌∙◌, pick_yes, eq-eqb, arith, rules, length-take}
+use Rattle.listing.proofs.Names.{comment_of, sym, ◌∙◌, pick_yes, eq-eqb, arith, length-take}
 use Rattle.listing.proofs.Comments.{hash_in, comment_none, comment_is}
 use Rattle.listing.proofs.Runs.{run_fits}
 use Rattle.listing.proofs.notes.words_of.Goals as goal

@@ -1,6 +1,5 @@
-use Rattle.listing.specs.Names.{◌-◌, ◌≤◌}
-use Rattle.listing.proofs.Names.{sym, ◌∙◌, not-true, not-false, arith, rules}
-use Rattle.listing.proofs.Columns.{Formed, formed-first, formed-bad, formed-more, formed_last}
+use Rattle.listing.proofs.Names.{sym, ◌∙◌, not-true, not-false, arith}
+use Rattle.listing.proofs.Columns.{formed-first, formed-bad, formed-more, formed_last}
 use Rattle.listing.proofs.printer.all_formed.Goals as goal
 
 pub loop-i-init : goal.loop-i-init

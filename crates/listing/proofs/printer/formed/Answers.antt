@@ -1,4 +1,4 @@
-use Rattle.listing.proofs.Names.{formed, sym, ◌∙◌, and_yes, and_no, eq-eqb, ne_eqb, le-leb, lt-leb, rules}
+use Rattle.listing.proofs.Names.{formed, sym, ◌∙◌, and_yes, and_no, eq-eqb, ne_eqb, le-leb, lt-leb}
 use Rattle.listing.proofs.printer.formed.Goals as goal
 
 pub returns-then-records-ne0 : goal.returns-then-records-ne0

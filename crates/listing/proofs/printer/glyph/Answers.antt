@@ -1,4 +1,4 @@
-use Rattle.listing.proofs.Names.{glyph, sym, pick_yes, pick_no, lt-ltb, le-ltb, rules}
+use Rattle.listing.proofs.Names.{glyph, sym, pick_yes, pick_no, lt-ltb, le-ltb}
 use Rattle.listing.proofs.printer.glyph.Goals as goal
 
 pub returns-then-d-lt10 : goal.returns-then-d-lt10

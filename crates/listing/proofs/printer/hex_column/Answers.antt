@@ -1,4 +1,4 @@
-use Rattle.listing.proofs.Names.{hex_text, rules}
+use Rattle.listing.proofs.Names.{hex_text}
 use Rattle.listing.proofs.printer.hex_column.Goals as goal
 
 pub returns : goal.returns

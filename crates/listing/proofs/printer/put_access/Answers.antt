@@ -1,5 +1,5 @@
 use Rattle.listing.specs.Names.{List, [], ◌∷◌, ◌++◌, ℕ, ◌+◌}
-use Rattle.listing.proofs.Names.{access_text, shown, shown_at, sym, ◌∙◌, ap, pick_yes, pick_no, eq-eqb, ne_eqb, rules}
+use Rattle.listing.proofs.Names.{access_text, shown, shown_at, sym, ◌∙◌, ap, pick_yes, pick_no, eq-eqb, ne_eqb}
 use Rattle.listing.proofs.printer.put_access.Goals as goal
 
 pub returns-then-a-eq3 : goal.returns-then-a-eq3

@@ -1,4 +1,4 @@
-use Rattle.listing.proofs.Names.{kind_column, pasted, sym, ◌∙◌, ap, rules}
+use Rattle.listing.proofs.Names.{kind_column, pasted, sym, ◌∙◌, ap}
 use Rattle.listing.proofs.printer.put_kind.Goals as goal
 
 pub returns-in-Section : goal.returns-in-Section

@@ -1,4 +1,3 @@
-use Rattle.listing.proofs.Names.{rules}
 use Rattle.listing.proofs.Columns.{line_made}
 use Rattle.listing.proofs.printer.put_line.Goals as goal
 

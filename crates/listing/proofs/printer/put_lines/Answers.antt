@@ -1,6 +1,6 @@
-use Rattle.listing.specs.Names.{mappings, ℕ, ◌-◌, ◌<◌, ◌≤◌, length}
-use Rattle.listing.proofs.Names.{subst, arith, rules}
-use Rattle.listing.proofs.Columns.{Turned, printing-first, printing-room, printing_turn, printing_last}
+use Rattle.listing.specs.Names.{ℕ, ◌<◌, ◌≤◌}
+use Rattle.listing.proofs.Names.{subst, arith}
+use Rattle.listing.proofs.Columns.{printing-first, printing-room, printing_turn, printing_last}
 use Rattle.listing.proofs.printer.put_lines.Goals as goal
 
 pub loop-i-init : goal.loop-i-init

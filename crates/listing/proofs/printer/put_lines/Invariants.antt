@@ -1,6 +1,5 @@
-use Rattle.listing.specs.Names.{mappings, ℕ, ◌-◌, ◌<◌, ◌≤◌, length}
-use Rattle.listing.proofs.Names.{subst, arith, rules}
-use Rattle.listing.proofs.Columns.{Turned, printing-first, printing-room, printing_turn, printing_last}
+use Rattle.listing.specs.Names.{mappings, ◌-◌, length}
+use Rattle.listing.proofs.Columns.{Turned}
 use Rattle.listing.proofs.printer.put_lines.Given as goal
 
 abbrev pub invariant-loop-i : goal.invariant-loop-i

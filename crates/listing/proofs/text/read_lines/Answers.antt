@@ -1,6 +1,5 @@
-use Rattle.listing.specs.Names.{◌+◌, ◌-◌, length}
-use Rattle.listing.proofs.Names.{arith, rules}
-use Rattle.listing.proofs.Turns.{Turn, turn_first, turn_last, line_fits, turn_nothing, turn_mapped, turn_many, turn_bad}
+use Rattle.listing.proofs.Names.{arith}
+use Rattle.listing.proofs.Turns.{turn_first, turn_last, line_fits, turn_nothing, turn_mapped, turn_many, turn_bad}
 use Rattle.listing.proofs.text.read_lines.Goals as goal
 
 pub loop-at-init : goal.loop-at-init

@@ -1,5 +1,5 @@
 use Rattle.listing.specs.Names.{not}
-use Rattle.listing.proofs.Names.{belongs, sym, ◌∙◌, ap, rules}
+use Rattle.listing.proofs.Names.{belongs, sym, ◌∙◌, ap}
 use Rattle.listing.proofs.tokens.belongs.Goals as goal
 
 pub returns-in-Inline : goal.returns-in-Inline

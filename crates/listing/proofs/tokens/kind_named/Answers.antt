@@ -1,4 +1,4 @@
-use Rattle.listing.proofs.Names.{kind_named, sym, ◌∙◌, pick_yes, pick_no, rules}
+use Rattle.listing.proofs.Names.{kind_named, sym, ◌∙◌, pick_yes, pick_no}
 use Rattle.listing.proofs.tokens.kind_named.Goals as goal
 
 pub returns-then-same : goal.returns-then-same

@@ -1,6 +1,6 @@
-use Rattle.listing.specs.Names.{◌≡◌, ◌+◌, ◌-◌, ◌≤◌, length}
-use Rattle.listing.proofs.Names.{belongs, run_length, sym, ◌∙◌, not-true, not-false, arith, rules}
-use Rattle.listing.proofs.Runs.{Passed, passed_stop, passed_more, passed_all}
+use Rattle.listing.specs.Names.{◌≡◌, ◌+◌}
+use Rattle.listing.proofs.Names.{run_length, sym, ◌∙◌, not-true, not-false, arith}
+use Rattle.listing.proofs.Runs.{passed_stop, passed_more, passed_all}
 use Rattle.listing.proofs.tokens.run.Goals as goal
 
 pub loop-i-init : goal.loop-i-init

@@ -1,6 +1,5 @@
 use Rattle.listing.specs.Names.{◌≡◌, ◌-◌, ◌≤◌, length}
-use Rattle.listing.proofs.Names.{refl, sym, arith}
-use Rattle.listing.proofs.Runs.{Alike, unlike_length, alike_stop, alike_more, alike_end}
+use Rattle.listing.proofs.Runs.{Alike}
 use Rattle.listing.proofs.tokens.same.Given as goal
 
 abbrev pub invariant-loop-i : goal.invariant-loop-i

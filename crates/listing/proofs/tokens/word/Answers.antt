@@ -1,5 +1,5 @@
 use Rattle.listing.specs.Names.{Class, ◌-◌, length, take, drop}
-use Rattle.listing.proofs.Names.{arith, rules, length-take}
+use Rattle.listing.proofs.Names.{arith, length-take}
 use Rattle.listing.proofs.Runs.{run_fits, span-made}
 use Rattle.listing.proofs.tokens.word.Goals as goal
 
