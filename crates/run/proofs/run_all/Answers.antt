@@ -46,7 +46,7 @@ loop-i-preserved c =
     going_on m x.prices x.handed x.calls.now n x.start x.out.now fits l.out l.r l.cam l.ram l.lock l.victim l.p l.bill l.meters
     l.lows l.highs c.in_range-ok.result l.i l.invariant h c.memories_ok-memories.result c.prices_ok-money.result c.memories_ok-memories.ensures c.prices_ok-money.ensures
     c.decode_known-call.result c.plan_of-plan.result c.plan_of-plan.ensures ((λ k. (c.shared_slice_known-2-1.given k).fits), (λ k. (c.shared_slice_known-3-1.given k).fits))
-    d (ap is_good d ∙ e) c.perform-x.result _ _ _ _ _ _ (c.perform-x.ensures l.invariant.spanned f) c.posted-meters.ensures c.put_said.auto.0 c.put_said.ensures
+    d (ap is_good d ∙ e) c.perform-x.result _ _ _ _ _ _ (c.perform-x.ensures l.invariant.spanned f) c.posted-meters.ensures c.put_said.auto.out c.put_said.ensures
 
 pub overflow_mul-result : goal.overflow_mul-result
 overflow_mul-result c =

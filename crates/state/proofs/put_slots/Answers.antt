@@ -42,9 +42,9 @@ loop-i-smaller c = omega arith
 pub loop-i-preserved : goal.loop-i-preserved
 loop-i-preserved c = (
   omega arith,
-  c.put.auto.0 ∙ c.loop-i.invariant.1,
+  c.put.auto.out ∙ c.loop-i.invariant.1,
   c.loop-i.invariant.2
-      ∙ slots_turn c.args.cam.now c.args.ram.now c.loop-i.out c.put.new.0 c.args.at c.loop-i.i _ _ c.loop-i-test.true
+      ∙ slots_turn c.args.cam.now c.args.ram.now c.loop-i.out c.put.new.out c.args.at c.loop-i.i _ _ c.loop-i-test.true
       (omega (arith, c.requires, c.loop-i.invariant.1)) c.swapped.ensures c.swapped-in-loop-i.ensures c.put.ensures,
 )
 

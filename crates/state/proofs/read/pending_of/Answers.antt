@@ -6,22 +6,22 @@ use Rattle.state.proofs.read.pending_of.Goals as goal
 pub returns-in-1 : goal.returns-in-1
 unfolding pending_of pick
 returns-in-1 c =
-    let x = c.args in ap (Pending.Held Fault.Translation (virtual x.address)) c.access_of.ensures ∙ sym (ap (λ (s : ℕ). pending_of s x.access x.address) c.in-1.is)
+    let x = c.args in ap (Pending.Held Fault.Translation (virtual x.address)) c.access_of-a.ensures ∙ sym (ap (λ (s : ℕ). pending_of s x.access x.address) c.in-1.is)
 
 pub returns-in-2 : goal.returns-in-2
 unfolding pending_of pick
 returns-in-2 c =
-    let x = c.args in ap (Pending.Held Fault.Miss (virtual x.address)) c.access_of.ensures ∙ sym (ap (λ (s : ℕ). pending_of s x.access x.address) c.in-2.is)
+    let x = c.args in ap (Pending.Held Fault.Miss (virtual x.address)) c.access_of-a.ensures ∙ sym (ap (λ (s : ℕ). pending_of s x.access x.address) c.in-2.is)
 
 pub returns-in-4 : goal.returns-in-4
 unfolding pending_of pick
 returns-in-4 c =
-    let x = c.args in ap (Pending.Held Fault.Permission (virtual x.address)) c.access_of.ensures ∙ sym (ap (λ (s : ℕ). pending_of s x.access x.address) c.in-4.is)
+    let x = c.args in ap (Pending.Held Fault.Permission (virtual x.address)) c.access_of-a.ensures ∙ sym (ap (λ (s : ℕ). pending_of s x.access x.address) c.in-4.is)
 
 pub returns-in-8 : goal.returns-in-8
 unfolding pending_of pick
 returns-in-8 c =
-    let x = c.args in ap (Pending.Held Fault.Prefetch (virtual x.address)) c.access_of.ensures ∙ sym (ap (λ (s : ℕ). pending_of s x.access x.address) c.in-8.is)
+    let x = c.args in ap (Pending.Held Fault.Prefetch (virtual x.address)) c.access_of-a.ensures ∙ sym (ap (λ (s : ℕ). pending_of s x.access x.address) c.in-8.is)
 
 pub returns-in_default : goal.returns-in_default
 unfolding pending_of
