@@ -27,7 +27,7 @@ demand_1 = record {
   otherwise = accepted-when;
   unchanged = nothing_changes;
   meters = bench_stays;
-  in_range_lem = range-kept;
+  in-range = range-kept;
   good-bill = good-kept;
   builds = build_refuses;
 }
@@ -36,7 +36,7 @@ pub demand_2 : Demand2
 demand_2 = record {
   locked = locked-kept;
   filled = one-slot-filled;
-  no_page_lem = no_page_no_fill;
+  no-page = no_page_no_fill;
   not_cached = fault-not_cached;
   flushed = flush_exact;
   metered = metered;

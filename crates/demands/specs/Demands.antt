@@ -12,7 +12,7 @@ pub record Demand1 : Type 0 where
   pub otherwise : AcceptedWhen
   pub unchanged : NothingChanges
   pub meters : BenchStays
-  pub in_range_lem : RangeKept
+  pub in-range : RangeKept
   pub good-bill : GoodKept
   pub builds : BuildRefuses
 
@@ -22,7 +22,7 @@ pub record Demand1 : Type 0 where
 pub record Demand2 : Type 0 where
   pub locked : LockedKept
   pub filled : OneSlotFilled
-  pub no_page_lem : NoPageNoFill
+  pub no-page : NoPageNoFill
   pub not_cached : FaultNotCached
   pub flushed : FlushExact
   pub metered : Metered
