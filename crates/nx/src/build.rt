@@ -49,21 +49,29 @@ fn summary(path: &[u8], mappings: usize, image: &[u8], base: u32) -> bool {
 }
 
 // The image written, and what was built.
-fn saved(path: &[u8], mappings: usize, image: &[u8], base: u32) -> u32 {
-    if !files::replace(path, image) {
+fn saved(rt: HostRuntime, path: &[u8], mappings: usize, image: &[u8], base: u32) -> u32 {
+    if !files::replace(rt, path, image) {
         return 1;
     }
-    files::told(summary(path, mappings, image, base))
+    files::told(rt, summary(path, mappings, image, base))
 }
 
 // A list's tables built and written.
-fn built(path: &[u8], records: &[u8], lines: &[u32], image: &[u8], base: u32) -> u32 {
+fn built(
+    rt: HostRuntime,
+    path: &[u8],
+    records: &[u8],
+    lines: &[u32],
+    image: &[u8],
+    base: u32,
+) -> u32 {
     let mut memory = io::large_buffer();
     let n = list::judged(path, records, lines, base, &mut memory);
     if n == 0 {
         return 1;
     }
     saved(
+        rt,
         image,
         records::count(records),
         parse::cut(&memory, 0, n),
@@ -72,14 +80,14 @@ fn built(path: &[u8], records: &[u8], lines: &[u32], image: &[u8], base: u32) ->
 }
 
 // A list read, built and written.
-fn from_file(path: &[u8], image: &[u8], base: u32) -> u32 {
+fn from_file(rt: HostRuntime, path: &[u8], image: &[u8], base: u32) -> u32 {
     let mut t = [0u8; list::TEXT];
     let mut records = [0u8; list::RECORDS];
     let mut lines = [0u32; records::MOST];
-    let loaded = list::load(path, &mut t, &mut records, &mut lines);
+    let loaded = list::load(rt, path, &mut t, &mut records, &mut lines);
     match loaded {
         Loaded::List(_, n) => {
-            return built(path, parse::cut(&records, 0, n), &lines, image, base);
+            return built(rt, path, parse::cut(&records, 0, n), &lines, image, base);
         }
         Loaded::Failed => return 1,
     }
@@ -98,7 +106,7 @@ pub(crate) fn no_base(w: &[u8], why: usize) -> u32 {
 }
 
 // A build at the base that a word says.
-fn at_word(path: &[u8], image: &[u8], w: &[u8]) -> u32 {
+fn at_word(rt: HostRuntime, path: &[u8], image: &[u8], w: &[u8]) -> u32 {
     let n = parse::hex(w);
     match n {
         Number::Value(base) => {
@@ -108,7 +116,7 @@ fn at_word(path: &[u8], image: &[u8], w: &[u8]) -> u32 {
             if base > LAST {
                 return no_base(w, 3);
             }
-            return from_file(path, image, base);
+            return from_file(rt, path, image, base);
         }
         Number::NotHex => return no_base(w, 1),
         Number::TooLarge => return no_base(w, 2),
@@ -116,9 +124,9 @@ fn at_word(path: &[u8], image: &[u8], w: &[u8]) -> u32 {
 }
 
 // nx build LIST IMAGE [BASE].
-pub(crate) fn run(path: &[u8], image: &[u8], base: &[u8]) -> u32 {
+pub(crate) fn run(rt: HostRuntime, path: &[u8], image: &[u8], base: &[u8]) -> u32 {
     if base.len() == 0 {
-        return from_file(path, image, BASE);
+        return from_file(rt, path, image, BASE);
     }
-    at_word(path, image, base)
+    at_word(rt, path, image, base)
 }

@@ -30,45 +30,45 @@ fn takes(command: usize, n: usize) -> bool {
 }
 
 // What a command with its words answers: 0 fine, 1 a list, a script, a recording, an image or a file is wrong or two images differ, 2 wrong use.
-fn done(command: usize, first: &[u8], second: &[u8], third: &[u8]) -> u32 {
+fn done(rt: HostRuntime, command: usize, first: &[u8], second: &[u8], third: &[u8]) -> u32 {
     match command {
-        1 => return build::run(first, second, third),
-        2 => return show::run(first),
-        3 => return trial::run(first, second),
-        4 => return map::run(first, second),
-        5 => return convert::records(first),
-        6 => return convert::text(first),
-        7 => return image::run(first, second),
-        8 => return pages::run(first, second),
-        9 => return diff::run(first, second, third),
-        10 => return record::run(first, second),
-        11 => return record::script(first),
-        12 => return playback::run(first),
-        _ => return files::told(usage(text::OUT)),
+        1 => return build::run(rt, first, second, third),
+        2 => return show::run(rt, first),
+        3 => return trial::run(rt, first, second),
+        4 => return map::run(rt, first, second),
+        5 => return convert::records(rt, first),
+        6 => return convert::text(rt, first),
+        7 => return image::run(rt, first, second),
+        8 => return pages::run(rt, first, second),
+        9 => return diff::run(rt, first, second, third),
+        10 => return record::run(rt, first, second),
+        11 => return record::script(rt, first),
+        12 => return playback::run(rt, first),
+        _ => return files::told(rt, usage(text::OUT)),
     }
 }
 
 // A command with the words behind it, of which it looks up any fourth itself.
-fn with_words(command: usize) -> u32 {
+fn with_words(rt: HostRuntime, command: usize) -> u32 {
     let mut first = io::buffer();
     let mut second = io::buffer();
     let mut third = io::buffer();
-    let a = os::arg(2, &mut first);
-    let b = os::arg(3, &mut second);
-    let c = os::arg(4, &mut third);
-    done(command, &first[..a], &second[..b], &third[..c])
+    let a = args::arg(rt, 2, &mut first);
+    let b = args::arg(rt, 3, &mut second);
+    let c = args::arg(rt, 4, &mut third);
+    done(rt, command, &first[..a], &second[..b], &third[..c])
 }
 
 // The command that the arguments say.
-pub(crate) fn run() -> u32 {
-    if !args::fit() {
+pub(crate) fn run(rt: HostRuntime) -> u32 {
+    if !args::fit(rt) {
         return 2;
     }
     let mut word = io::buffer();
-    let n = os::arg(1, &mut word);
+    let n = args::arg(rt, 1, &mut word);
     let which = command(&word[..n]);
-    if takes(which, args::count()) {
-        return with_words(which);
+    if takes(which, args::count(rt)) {
+        return with_words(rt, which);
     }
     usage(text::ERR);
     2

@@ -11,14 +11,14 @@ const INPUT: usize = list::RECORDS + 1;
 const PRINTED: usize = listing::WIDEST * records::MOST;
 
 // nx records LIST.
-pub(crate) fn records(path: &[u8]) -> u32 {
+pub(crate) fn records(rt: HostRuntime, path: &[u8]) -> u32 {
     let mut t = [0u8; list::TEXT];
     let mut records = [0u8; list::RECORDS];
     let mut lines = [0u32; records::MOST];
-    let loaded = list::load(path, &mut t, &mut records, &mut lines);
+    let loaded = list::load(rt, path, &mut t, &mut records, &mut lines);
     match loaded {
         Loaded::List(_, n) => {
-            return files::told(text::put(text::OUT, parse::cut(&records, 0, n)));
+            return files::told(rt, text::put(text::OUT, parse::cut(&records, 0, n)));
         }
         Loaded::Failed => return 1,
     }
@@ -52,25 +52,25 @@ fn refused(path: &[u8], i: usize, why: usize) -> u32 {
 }
 
 // Records as text.
-fn printed(records: &[u8]) -> u32 {
+fn printed(rt: HostRuntime, records: &[u8]) -> u32 {
     let mut out = [0u8; PRINTED];
     let printed = listing::print(records, &mut out);
     match printed {
-        Printed::Length(n) => return files::told(text::put(text::OUT, parse::cut(&out, 0, n))),
+        Printed::Length(n) => return files::told(rt, text::put(text::OUT, parse::cut(&out, 0, n))),
         Printed::NoList => return 1,
         Printed::NoRoom => return 1,
     }
 }
 
 // Records as text, or the first that is refused.
-fn judged(path: &[u8], records: &[u8]) -> u32 {
+fn judged(rt: HostRuntime, path: &[u8], records: &[u8]) -> u32 {
     let n = records::count(records);
     let bad = first_bad(records);
     if bad < n {
         return refused(path, bad, 0);
     }
     if records.len() % records::SIZE == 0 {
-        return printed(records);
+        return printed(rt, records);
     }
     if n < records::MOST {
         return refused(path, n, 1);
@@ -79,11 +79,11 @@ fn judged(path: &[u8], records: &[u8]) -> u32 {
 }
 
 // nx text RECORDS.
-pub(crate) fn text(path: &[u8]) -> u32 {
+pub(crate) fn text(rt: HostRuntime, path: &[u8]) -> u32 {
     let mut records = [0u8; INPUT];
-    let got = files::read(path, &mut records);
+    let got = files::read(rt, path, &mut records);
     match got {
-        Got::Bytes(n) => return judged(path, parse::cut(&records, 0, n)),
+        Got::Bytes(n) => return judged(rt, path, parse::cut(&records, 0, n)),
         Got::Failed => return 1,
     }
 }

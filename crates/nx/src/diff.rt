@@ -52,6 +52,7 @@ fn mapped(new: &[u8], signed: &[u8], base: u32, good: bool) -> bool {
 
 // What the program answers of two images that part from a start on, by so many words: equal ones part at the end of both.
 fn parted(
+    rt: HostRuntime,
     path: &[u8],
     new: &[u8],
     other: &[u8],
@@ -62,14 +63,16 @@ fn parted(
 ) -> u32 {
     if (start == new.len()) & (start == signed.len()) {
         return files::told(
+            rt,
             names(path, b" and ", other)
                 & text::form(text::OUT, b": equal, %d bytes\n", &[new.len() as u64]),
         );
     }
     let ok = head(path, new.len(), other, signed.len(), start, words);
-    let new_good = image::judged(path, new, base) == 0;
-    let signed_good = image::judged(other, signed, base) == 0;
+    let new_good = image::judged(rt, path, new, base) == 0;
+    let signed_good = image::judged(rt, other, signed, base) == 0;
     files::told(
+        rt,
         ok & mapped(new, signed, base, new_good & signed_good)
             & changes::table(new, signed, base, new_good, signed_good),
     );
@@ -77,41 +80,48 @@ fn parted(
 }
 
 // Two images compared.
-fn compared(path: &[u8], new: &[u8], other: &[u8], signed: &[u8], base: u32) -> u32 {
+fn compared(
+    rt: HostRuntime,
+    path: &[u8],
+    new: &[u8],
+    other: &[u8],
+    signed: &[u8],
+    base: u32,
+) -> u32 {
     let c = parting::compare(new, signed);
     match c {
         Comparison::BadLength => {
-            files::told(refused(path, new.len()) & refused(other, signed.len()));
+            files::told(rt, refused(path, new.len()) & refused(other, signed.len()));
             return 1;
         }
         Comparison::Parted(_, start, words) => {
-            return parted(path, new, other, signed, base, start, words);
+            return parted(rt, path, new, other, signed, base, start, words);
         }
     }
 }
 
 // A new image, and the signed one read from its file.
-fn beside(path: &[u8], new: &[u8], other: &[u8], base: u32) -> u32 {
+fn beside(rt: HostRuntime, path: &[u8], new: &[u8], other: &[u8], base: u32) -> u32 {
     let mut memory = [0u8; image::ROOM];
-    let signed = image::at_base(other, base, &mut memory);
+    let signed = image::at_base(rt, other, base, &mut memory);
     match signed {
         Image::Read(n, _) => {
-            return compared(path, new, other, parse::cut(&memory, 0, n), base);
+            return compared(rt, path, new, other, parse::cut(&memory, 0, n), base);
         }
         Image::Failed(status) => return status,
     }
 }
 
 // An image read from its file, to stand at the base that a word says, or at the usual one where there is none.
-fn loaded(path: &[u8], base: &[u8], memory: &mut [u8]) -> Image {
+fn loaded(rt: HostRuntime, path: &[u8], base: &[u8], memory: &mut [u8]) -> Image {
     if base.len() == 0 {
-        return image::at_base(path, build::BASE, memory);
+        return image::at_base(rt, path, build::BASE, memory);
     }
-    image::load(path, base, memory)
+    image::load(rt, path, base, memory)
 }
 
 // nx diff NEW SIGNED [BASE].
-pub(crate) fn run(path: &[u8], other: &[u8], base: &[u8]) -> u32 {
+pub(crate) fn run(rt: HostRuntime, path: &[u8], other: &[u8], base: &[u8]) -> u32 {
     if files::is_input(path) & files::is_input(other) {
         text::put(
             text::ERR,
@@ -120,9 +130,9 @@ pub(crate) fn run(path: &[u8], other: &[u8], base: &[u8]) -> u32 {
         return 2;
     }
     let mut memory = [0u8; image::ROOM];
-    let new = loaded(path, base, &mut memory);
+    let new = loaded(rt, path, base, &mut memory);
     match new {
-        Image::Read(n, at) => return beside(path, parse::cut(&memory, 0, n), other, at),
+        Image::Read(n, at) => return beside(rt, path, parse::cut(&memory, 0, n), other, at),
         Image::Failed(status) => return status,
     }
 }

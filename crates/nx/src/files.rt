@@ -1,6 +1,9 @@
 // Files: one read whole or opened, and one written whole or not at all.
-use crate::{gather, parse, text};
-use libc::STDIN_FILENO;
+use crate::{gather, parse, reason, text};
+use std::fs;
+use std::fs::{File, OpenOptions};
+use std::io::{Error, ErrorKind, Print, Read, Result, Write};
+use std::random::RandomSource;
 
 // Room for a path, a number and .new.
 const NAME: usize = 4160;
@@ -34,160 +37,205 @@ pub(crate) fn xml_name(path: &[u8]) -> bool {
 }
 
 // Says why a call of the system on a file failed.
-fn failed(path: &[u8]) {
+fn failed(path: &[u8], e: Error) {
     if is_input(path) {
-        os::fail(b"standard input");
+        reason::say(b"standard input", e);
     } else {
-        os::fail(path);
+        reason::say(path, e);
     }
 }
 
 // Reads until the input ends or the room is full; a failed read is no end.
-pub(crate) fn read_on(fd: i32, path: &[u8], into: &mut [u8]) -> Got {
+pub(crate) fn read_on<R: Read>(from: &mut R, path: &[u8], into: &mut [u8]) -> Got {
     let mut n = 0;
     let mut turns = into.len();
     while turns > 0 {
         if n >= into.len() {
             return Got::Bytes(n);
         }
-        let got = libc::read(fd, &mut into[n..]);
-        if got < 0 {
-            failed(path);
-            return Got::Failed;
+        match from.read(&mut into[n..]) {
+            Ok(got) => {
+                if got == 0 {
+                    return Got::Bytes(n);
+                }
+                n = std::num::wrapping_add_usize(n, got);
+            }
+            Err(e) => {
+                failed(path, e);
+                return Got::Failed;
+            }
         }
-        if got == 0 {
-            return Got::Bytes(n);
-        }
-        n = std::num::wrapping_add_usize(n, io::count(got, &into[n..]));
         turns -= 1;
     }
     Got::Bytes(n)
 }
 
-// The descriptor of a file that is opened for reading; a negative one where that failed, which has been said.
-pub(crate) fn open(path: &[u8]) -> i32 {
-    let fd = os::open_read(path);
-    if fd < 0 {
-        failed(path);
+// A path as std takes it: it has none that is not UTF-8.
+fn named(path: &[u8]) -> Result<&str> {
+    match std::str::from_utf8(path) {
+        Ok(text) => Ok(text),
+        Err(_) => Err(Error::new(ErrorKind::InvalidInput, "the file's name is not UTF-8")),
     }
-    fd
+}
+
+// A file, opened for reading.
+fn opened(rt: HostRuntime, path: &[u8]) -> Result<File> {
+    match named(path) {
+        Ok(name) => File::open(&rt, name),
+        Err(e) => Err(e),
+    }
+}
+
+// A file that is opened for reading; none where that failed, which has been said.
+pub(crate) fn open(rt: HostRuntime, path: &[u8]) -> Option<File> {
+    match opened(rt, path) {
+        Ok(file) => Some(file),
+        Err(e) => {
+            failed(path, e);
+            None
+        }
+    }
 }
 
 // A file's bytes, at most as many as there is room for.
-pub(crate) fn read(path: &[u8], into: &mut [u8]) -> Got {
+pub(crate) fn read(rt: HostRuntime, path: &[u8], into: &mut [u8]) -> Got {
     if is_input(path) {
-        return read_on(STDIN_FILENO, path, into);
+        let mut input = rt.stdin();
+        return read_on(&mut input, path, into);
     }
-    let fd = open(path);
-    if fd < 0 {
-        return Got::Failed;
+    match open(rt, path) {
+        Some(file) => {
+            let mut from = file;
+            read_on(&mut from, path, into)
+        }
+        None => Got::Failed,
     }
-    let got = read_on(fd, path, into);
-    libc::close(fd);
-    got
 }
 
 // A number that no two runs share.
-fn unique() -> u32 {
+fn unique(rt: HostRuntime) -> u32 {
     let mut seed = [0u8; 4];
-    libc::getentropy(&mut seed);
+    let _ = rt.fill_bytes(&mut seed);
     wire::word_at(&seed, 0)
 }
 
 // The name of a new file beside a path: the path, a number and .new; how long it is.
-fn beside(path: &[u8], name: &mut [u8]) -> usize {
+fn beside(rt: HostRuntime, path: &[u8], name: &mut [u8]) -> usize {
     let a = gather::put(name, 0, path);
     let b = gather::put(name, a, b".");
-    let c = gather::hex(name, b, unique() as u64, 8);
+    let c = gather::hex(name, b, unique(rt) as u64, 8);
     gather::put(name, c, b".new")
 }
 
-// A new file beside a path, whose name it takes once it is whole: its descriptor, negative where there is none, its name and the bytes of that.
-#[derive(Clone, Copy)]
+// A new file beside a path, whose name it takes once it is whole: the open file, its name and the bytes of that.
+#[derive(Drop)]
 pub struct Fresh {
-    pub fd: i32,
+    pub file: File,
     pub name: [u8; NAME],
     pub len: usize,
 }
 
-// A new file beside a path; a failure is said.
-pub(crate) fn begin(path: &[u8]) -> Fresh {
-    let mut name = [0u8; NAME];
-    let k = beside(path, &mut name);
-    let fd = os::create(parse::cut(&name, 0, k));
-    if fd < 0 {
-        os::fail(path);
+// A new file of a name that no file has, opened for writing.
+fn created(rt: HostRuntime, name: &[u8]) -> Result<File> {
+    match named(name) {
+        Ok(text) => OpenOptions::new()
+            .write(true)
+            .create_new(true)
+            .open(&rt, text),
+        Err(e) => Err(e),
     }
-    Fresh {
-        fd: fd,
-        name: name,
-        len: k,
+}
+
+// A new file beside a path; none where that failed, which is said.
+pub(crate) fn begin(rt: HostRuntime, path: &[u8]) -> Option<Fresh> {
+    let mut name = [0u8; NAME];
+    let len = beside(rt, path, &mut name);
+    match created(rt, parse::cut(&name, 0, len)) {
+        Ok(file) => Some(Fresh { file, name, len }),
+        Err(e) => {
+            reason::say(path, e);
+            None
+        }
     }
 }
 
 // Removes a new file.
-fn remove(fresh: Fresh) -> bool {
-    let name = fresh.name;
-    let k = fresh.len;
-    os::unlink(parse::cut(&name, 0, k));
-    false
+fn removed(rt: HostRuntime, name: &[u8]) -> Result<()> {
+    match named(name) {
+        Ok(text) => fs::remove_file(&rt, text),
+        Err(e) => Err(e),
+    }
 }
 
 // Says in a path's name that a call of the system on its new file failed, and removes that file.
-fn given_up(fresh: Fresh, path: &[u8]) -> bool {
-    os::fail(path);
-    libc::close(fresh.fd);
-    remove(fresh)
+fn given_up(rt: HostRuntime, name: &[u8], path: &[u8], e: Error) -> bool {
+    reason::say(path, e);
+    let _ = removed(rt, name);
+    false
 }
 
 // Bytes behind those of a new file; where that fails it is said, and the new file is gone.
-pub(crate) fn append(fresh: Fresh, path: &[u8], bytes: &[u8]) -> bool {
-    if io::write_all(fresh.fd, bytes) {
-        return true;
+pub(crate) fn append(rt: HostRuntime, fresh: &mut Fresh, path: &[u8], bytes: &[u8]) -> bool {
+    match fresh.file.write_all(bytes) {
+        Ok(()) => true,
+        Err(e) => given_up(rt, parse::cut(&fresh.name, 0, fresh.len), path, e),
     }
-    given_up(fresh, path)
+}
+
+// Gives a file another name.
+fn renamed(rt: HostRuntime, name: &[u8], path: &[u8]) -> Result<()> {
+    match named(name) {
+        Ok(from) => match named(path) {
+            Ok(to) => fs::rename(&rt, from, to),
+            Err(e) => Err(e),
+        },
+        Err(e) => Err(e),
+    }
 }
 
 // Gives a new file that is closed its path's name, or says why not and removes it.
-fn moved(fresh: Fresh, path: &[u8]) -> bool {
-    let name = fresh.name;
-    let k = fresh.len;
-    if os::rename(parse::cut(&name, 0, k), path) == 0 {
-        return true;
+fn moved(rt: HostRuntime, name: &[u8], path: &[u8]) -> bool {
+    match renamed(rt, name, path) {
+        Ok(()) => true,
+        Err(e) => given_up(rt, name, path, e),
     }
-    os::fail(path);
-    remove(fresh)
 }
 
 // Gives a new file that is whole its path's name; a failure is said and leaves what was there.
-pub(crate) fn finish(fresh: Fresh, path: &[u8]) -> bool {
-    if libc::fsync(fresh.fd) != 0 {
-        return given_up(fresh, path);
+pub(crate) fn finish(rt: HostRuntime, fresh: Fresh, path: &[u8]) -> bool {
+    let Fresh { file, name, len } = fresh;
+    let synced = file.sync_all();
+    drop(file);
+    match synced {
+        Ok(()) => moved(rt, parse::cut(&name, 0, len), path),
+        Err(e) => given_up(rt, parse::cut(&name, 0, len), path, e),
     }
-    if libc::close(fresh.fd) != 0 {
-        os::fail(path);
-        return remove(fresh);
-    }
-    moved(fresh, path)
 }
 
 // Writes a file whole: to a new one beside it, which then takes its name; a failure leaves what was there.
-pub(crate) fn replace(path: &[u8], bytes: &[u8]) -> bool {
-    let fresh = begin(path);
-    if fresh.fd < 0 {
-        return false;
+pub(crate) fn replace(rt: HostRuntime, path: &[u8], bytes: &[u8]) -> bool {
+    match begin(rt, path) {
+        Some(begun) => {
+            let mut fresh = begun;
+            if !append(rt, &mut fresh, path, bytes) {
+                return false;
+            }
+            finish(rt, fresh, path)
+        }
+        None => false,
     }
-    if !append(fresh, path, bytes) {
-        return false;
-    }
-    finish(fresh, path)
 }
 
-// Says that a page could not be written; what the program then answers.
-pub(crate) fn told(ok: bool) -> u32 {
+// Says that a page could not be written, and why, for which the system is asked once more; what the program then answers.
+pub(crate) fn told(rt: HostRuntime, ok: bool) -> u32 {
     if ok {
         return 0;
     }
-    os::fail(b"standard output");
+    match rt.write_all(b"\n") {
+        Ok(()) => {
+            text::put(text::ERR, b"standard output: a part was not written\n");
+        }
+        Err(e) => reason::say(b"standard output", e),
+    }
     1
 }

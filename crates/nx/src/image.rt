@@ -16,8 +16,8 @@ pub enum Image {
 }
 
 // An image read from its file, to stand at a base.
-pub(crate) fn at_base(path: &[u8], base: u32, memory: &mut [u8]) -> Image {
-    let got = files::read(path, memory);
+pub(crate) fn at_base(rt: HostRuntime, path: &[u8], base: u32, memory: &mut [u8]) -> Image {
+    let got = files::read(rt, path, memory);
     match got {
         Got::Bytes(n) => return Image::Read(n, base),
         Got::Failed => return Image::Failed(1),
@@ -25,10 +25,10 @@ pub(crate) fn at_base(path: &[u8], base: u32, memory: &mut [u8]) -> Image {
 }
 
 // An image read from its file, to stand at the base that a word says.
-pub(crate) fn load(path: &[u8], base: &[u8], memory: &mut [u8]) -> Image {
+pub(crate) fn load(rt: HostRuntime, path: &[u8], base: &[u8], memory: &mut [u8]) -> Image {
     let n = parse::hex(base);
     match n {
-        Number::Value(at) => return at_base(path, at, memory),
+        Number::Value(at) => return at_base(rt, path, at, memory),
         Number::NotHex => return Image::Failed(build::no_base(base, 1)),
         Number::TooLarge => return Image::Failed(build::no_base(base, 2)),
     }
@@ -45,34 +45,34 @@ fn accepted(path: &[u8], pages: usize, len: usize, base: u32) -> bool {
 }
 
 // What the program answers once a refusal is said.
-fn refused(ok: bool) -> u32 {
-    files::told(ok);
+fn refused(rt: HostRuntime, ok: bool) -> u32 {
+    files::told(rt, ok);
     1
 }
 
 // An image judged: accepted, or its refusal said.
-pub(crate) fn judged(path: &[u8], image: &[u8], base: u32) -> u32 {
+pub(crate) fn judged(rt: HostRuntime, path: &[u8], image: &[u8], base: u32) -> u32 {
     let v = audit::check(image, PhysicalAddress(base));
     match v {
-        Verdict::Good(n) => return files::told(accepted(path, n, image.len(), base)),
+        Verdict::Good(n) => return files::told(rt, accepted(path, n, image.len(), base)),
         Verdict::BadMemory => {
-            return refused(refusal::bad_memory(text::OUT, path, image.len(), base));
+            return refused(rt, refusal::bad_memory(text::OUT, path, image.len(), base));
         }
         Verdict::Outside(at) => {
-            return refused(refusal::outside(text::OUT, path, image, base, at.0));
+            return refused(rt, refusal::outside(text::OUT, path, image, base, at.0));
         }
         Verdict::Unequal(at) => {
-            return refused(refusal::unequal(text::OUT, path, image, base, at.0));
+            return refused(rt, refusal::unequal(text::OUT, path, image, base, at.0));
         }
     }
 }
 
 // nx check IMAGE BASE.
-pub(crate) fn run(path: &[u8], base: &[u8]) -> u32 {
+pub(crate) fn run(rt: HostRuntime, path: &[u8], base: &[u8]) -> u32 {
     let mut memory = [0u8; ROOM];
-    let image = load(path, base, &mut memory);
+    let image = load(rt, path, base, &mut memory);
     match image {
-        Image::Read(n, at) => return judged(path, parse::cut(&memory, 0, n), at),
+        Image::Read(n, at) => return judged(rt, path, parse::cut(&memory, 0, n), at),
         Image::Failed(status) => return status,
     }
 }

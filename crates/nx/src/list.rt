@@ -84,8 +84,14 @@ fn counted(len: usize, n: usize) -> Loaded {
 }
 
 // A list read from its file, or its error said.
-pub(crate) fn load(path: &[u8], t: &mut [u8], records: &mut [u8], lines: &mut [u32]) -> Loaded {
-    let got = files::read(path, t);
+pub(crate) fn load(
+    rt: HostRuntime,
+    path: &[u8],
+    t: &mut [u8],
+    records: &mut [u8],
+    lines: &mut [u32],
+) -> Loaded {
+    let got = files::read(rt, path, t);
     match got {
         Got::Bytes(n) => return parsed(path, parse::cut(t, 0, n), records, lines),
         Got::Failed => return Loaded::Failed,

@@ -21,6 +21,7 @@ mod options;
 mod pages;
 mod parse;
 mod playback;
+mod reason;
 mod record;
 mod recordings;
 mod refusal;
@@ -36,6 +37,6 @@ mod utf8;
 // Where the program's last act, one digit, goes: a program has no exit status of its own.
 const STATUS: i32 = 3;
 
-fn main() {
-    io::print_decimal(STATUS, cli::run() as u64);
+fn main(rt: HostRuntime) {
+    io::print_decimal(STATUS, cli::run(rt) as u64);
 }

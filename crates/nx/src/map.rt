@@ -158,24 +158,25 @@ fn image_picture(path: &[u8], records: &[u8]) -> bool {
 }
 
 // A list judged and drawn.
-fn judged(path: &[u8], records: &[u8], t: &[u8], lines: &[u32]) -> u32 {
+fn judged(rt: HostRuntime, path: &[u8], records: &[u8], t: &[u8], lines: &[u32]) -> u32 {
     let mut memory = io::large_buffer();
     let n = list::judged(path, records, lines, BASE, &mut memory);
     if n == 0 {
         return 1;
     }
-    files::told(picture(path, records, t, lines))
+    files::told(rt, picture(path, records, t, lines))
 }
 
 // nx map LIST.
-fn from_list(path: &[u8]) -> u32 {
+fn from_list(rt: HostRuntime, path: &[u8]) -> u32 {
     let mut t = [0u8; list::TEXT];
     let mut records = [0u8; list::RECORDS];
     let mut lines = [0u32; records::MOST];
-    let loaded = list::load(path, &mut t, &mut records, &mut lines);
+    let loaded = list::load(rt, path, &mut t, &mut records, &mut lines);
     match loaded {
         Loaded::List(len, n) => {
             return judged(
+                rt,
                 path,
                 parse::cut(&records, 0, n),
                 parse::cut(&t, 0, len),
@@ -187,21 +188,21 @@ fn from_list(path: &[u8]) -> u32 {
 }
 
 // nx map IMAGE BASE.
-fn from_image(path: &[u8], base: &[u8]) -> u32 {
+fn from_image(rt: HostRuntime, path: &[u8], base: &[u8]) -> u32 {
     let mut records = [0u8; pages::RECORDS];
-    let loaded = pages::load(path, base, &mut records);
+    let loaded = pages::load(rt, path, base, &mut records);
     match loaded {
         Pages::Records(n) => {
-            return files::told(image_picture(path, parse::cut(&records, 0, n)));
+            return files::told(rt, image_picture(path, parse::cut(&records, 0, n)));
         }
         Pages::Failed(status) => return status,
     }
 }
 
 // nx map LIST, or IMAGE BASE.
-pub(crate) fn run(path: &[u8], base: &[u8]) -> u32 {
+pub(crate) fn run(rt: HostRuntime, path: &[u8], base: &[u8]) -> u32 {
     if base.len() == 0 {
-        return from_list(path);
+        return from_list(rt, path);
     }
-    from_image(path, base)
+    from_image(rt, path, base)
 }

@@ -4,7 +4,7 @@ ghost use Rattle.std.specs.Prelude.{◌<◌};
 use crate::image::Image;
 use crate::parse::Number;
 use crate::script::Step;
-use crate::{build, files, image, parse, script, text};
+use crate::{args, build, files, image, parse, script, text};
 use prices::Price;
 
 // Where the first of these words stands.
@@ -133,7 +133,7 @@ fn no_base(w: &[u8], why: usize) -> More {
 }
 
 // A memory lent: the words from an index on, of which so many are left.
-fn lend(o: Options, memory: usize, name: &[u8], at: usize, left: usize) -> More {
+fn lend(rt: HostRuntime, o: Options, memory: usize, name: &[u8], at: usize, left: usize) -> More {
     let before = of(o, memory);
     if before.file != 0 {
         return twice(b"", name);
@@ -142,7 +142,7 @@ fn lend(o: Options, memory: usize, name: &[u8], at: usize, left: usize) -> More 
         return wrong(b"", name, script::MISSING);
     }
     let mut w = io::buffer();
-    let k = os::arg(std::num::wrapping_add_usize(at, 2), &mut w);
+    let k = args::arg(rt, std::num::wrapping_add_usize(at, 2), &mut w);
     let n = parse::hex(&w[..k]);
     match n {
         Number::Value(base) => {
@@ -207,26 +207,26 @@ fn price_of(
 }
 
 // A price: the words from an index on, of which so many are left.
-fn price(o: Options, at: usize, left: usize) -> More {
+fn price(rt: HostRuntime, o: Options, at: usize, left: usize) -> More {
     let mut memory = io::buffer();
     let mut form = io::buffer();
     let mut first = io::buffer();
     let mut second = io::buffer();
-    let a = os::arg(std::num::wrapping_add_usize(at, 1), &mut memory);
-    let b = os::arg(std::num::wrapping_add_usize(at, 2), &mut form);
-    let c = os::arg(std::num::wrapping_add_usize(at, 3), &mut first);
-    let d = os::arg(std::num::wrapping_add_usize(at, 4), &mut second);
+    let a = args::arg(rt, std::num::wrapping_add_usize(at, 1), &mut memory);
+    let b = args::arg(rt, std::num::wrapping_add_usize(at, 2), &mut form);
+    let c = args::arg(rt, std::num::wrapping_add_usize(at, 3), &mut first);
+    let d = args::arg(rt, std::num::wrapping_add_usize(at, 4), &mut second);
     price_of(o, &memory[..a], &form[..b], &first[..c], &second[..d], left)
 }
 
 // A group: the words from an index on, of which so many are left.
-fn group(o: Options, at: usize, left: usize) -> More {
+fn group(rt: HostRuntime, o: Options, at: usize, left: usize) -> More {
     let mut w = io::buffer();
-    let k = os::arg(at, &mut w);
+    let k = args::arg(rt, at, &mut w);
     match text::place(b"on-chip|external|price", &w[..k]) {
-        0 => return lend(o, 0, &w[..k], at, left),
-        1 => return lend(o, 1, &w[..k], at, left),
-        2 => return price(o, at, left),
+        0 => return lend(rt, o, 0, &w[..k], at, left),
+        1 => return lend(rt, o, 1, &w[..k], at, left),
+        2 => return price(rt, o, at, left),
         _ => {
             named(b"", &w[..k]);
             text::put(text::ERR, b"unknown word (on-chip, external or price)\n");
@@ -250,15 +250,15 @@ fn behind(at: usize, words: usize, end: usize) -> usize
 }
 
 // What all the words say.
-pub(crate) fn asked() -> Words {
-    let n = os::arg_count();
+pub(crate) fn asked(rt: HostRuntime) -> Words {
+    let n = args::all(rt);
     let mut o = Options {
         onchip: unsaid(),
         external: unsaid(),
     };
     let mut at = FIRST;
     while at < n {
-        let g = group(o, at, n - at);
+        let g = group(rt, o, at, n - at);
         match g {
             More::With(next, words) => {
                 o = next;
@@ -271,20 +271,20 @@ pub(crate) fn asked() -> Words {
 }
 
 // Whether a memory is standard input.
-fn is_input(l: Lent) -> bool {
+fn is_input(rt: HostRuntime, l: Lent) -> bool {
     if l.file == 0 {
         return false;
     }
     let mut w = io::buffer();
-    let k = os::arg(l.file, &mut w);
+    let k = args::arg(rt, l.file, &mut w);
     files::is_input(&w[..k])
 }
 
 // Whether both memories are standard input, which is then said.
-pub(crate) fn both_input(o: Options) -> bool {
+pub(crate) fn both_input(rt: HostRuntime, o: Options) -> bool {
     let onchip = o.onchip;
     let external = o.external;
-    if is_input(onchip) & is_input(external) {
+    if is_input(rt, onchip) & is_input(rt, external) {
         text::put(
             text::ERR,
             b"nx: only one of the two memories can be standard input\n",
@@ -295,11 +295,11 @@ pub(crate) fn both_input(o: Options) -> bool {
 }
 
 // A memory's bytes and base; none at 0 where it is not lent.
-pub(crate) fn read(l: Lent, room: &mut [u8]) -> Image {
+pub(crate) fn read(rt: HostRuntime, l: Lent, room: &mut [u8]) -> Image {
     if l.file == 0 {
         return Image::Read(0, 0);
     }
     let mut w = io::buffer();
-    let k = os::arg(l.file, &mut w);
-    image::at_base(&w[..k], l.base, room)
+    let k = args::arg(rt, l.file, &mut w);
+    image::at_base(rt, &w[..k], l.base, room)
 }

@@ -38,9 +38,9 @@ fn judged(path: &[u8], image: &[u8], base: u32, records: &mut [u8]) -> Pages {
 }
 
 // The pages of the image of a file that stands at the base that a word says.
-pub(crate) fn load(path: &[u8], base: &[u8], records: &mut [u8]) -> Pages {
+pub(crate) fn load(rt: HostRuntime, path: &[u8], base: &[u8], records: &mut [u8]) -> Pages {
     let mut memory = [0u8; image::ROOM];
-    let image = image::load(path, base, &mut memory);
+    let image = image::load(rt, path, base, &mut memory);
     match image {
         Image::Read(n, at) => return judged(path, parse::cut(&memory, 0, n), at, records),
         Image::Failed(status) => return Pages::Failed(status),
@@ -89,11 +89,11 @@ fn lines(records: &[u8]) -> bool {
 }
 
 // nx list IMAGE BASE.
-pub(crate) fn run(path: &[u8], base: &[u8]) -> u32 {
+pub(crate) fn run(rt: HostRuntime, path: &[u8], base: &[u8]) -> u32 {
     let mut records = [0u8; RECORDS];
-    let pages = load(path, base, &mut records);
+    let pages = load(rt, path, base, &mut records);
     match pages {
-        Pages::Records(n) => return files::told(lines(parse::cut(&records, 0, n))),
+        Pages::Records(n) => return files::told(rt, lines(parse::cut(&records, 0, n))),
         Pages::Failed(status) => return status,
     }
 }

@@ -8,6 +8,7 @@ use page::PhysicalAddress;
 use prices::Prices;
 use recording::Progress;
 use session::Bench;
+use std::fs::File;
 
 // The bytes of what a call says.
 const ANSWER: usize = 16;
@@ -72,7 +73,8 @@ fn made<'a>(
 
 // The calls of an accepted recording in order, a row each, and what they cost.
 fn session<'a>(
-    fd: i32,
+    rt: HostRuntime,
+    file: &mut File,
     path: &[u8],
     whole: Progress,
     on: &'a [u8],
@@ -88,22 +90,22 @@ fn session<'a>(
     let mut i = 0;
     while i < whole.blocks {
         i += 1;
-        let again = recordings::read_again(fd, path, p, whole, &mut block);
+        let again = recordings::read_again(file, path, p, whole, &mut block);
         match again {
             Again::Block(q) => {
                 b = made(b, &block, on, onbase, ext, extbase, prices, &mut said);
                 if !rows(&block, &said, p.calls) {
-                    return files::told(false);
+                    return files::told(rt, false);
                 }
                 p = q;
             }
             Again::Stopped => return 1,
         }
     }
-    if !recordings::ended(fd, path, p) {
+    if !recordings::ended(file, path, p) {
         return 1;
     }
-    files::told(costs::table(b))
+    files::told(rt, costs::table(b))
 }
 
 // The head of the page.
@@ -118,6 +120,7 @@ fn head(whole: Progress) -> bool {
 
 // The page of a recording over two memories.
 fn page<'a>(
+    rt: HostRuntime,
     path: &[u8],
     whole: Progress,
     on: &'a [u8],
@@ -126,17 +129,16 @@ fn page<'a>(
     extbase: u32,
     prices: Prices,
 ) -> u32 {
-    let fd = files::open(path);
-    if fd < 0 {
-        return 1;
+    match files::open(rt, path) {
+        Some(opened) => {
+            let mut file = opened;
+            if !head(whole) {
+                return files::told(rt, false);
+            }
+            session(rt, &mut file, path, whole, on, onbase, ext, extbase, prices)
+        }
+        None => 1,
     }
-    if !head(whole) {
-        libc::close(fd);
-        return files::told(false);
-    }
-    let status = session(fd, path, whole, on, onbase, ext, extbase, prices);
-    libc::close(fd);
-    status
 }
 
 // The prices that the words say.
@@ -152,18 +154,19 @@ fn prices(o: Options) -> Prices {
 }
 
 // An accepted recording over the memories that the words name.
-fn lent(path: &[u8], whole: Progress, o: Options) -> u32 {
+fn lent(rt: HostRuntime, path: &[u8], whole: Progress, o: Options) -> u32 {
     let mut on = [0u8; image::ROOM];
     let mut ext = [0u8; image::ROOM];
     let onchip = o.onchip;
     let external = o.external;
-    let first = options::read(onchip, &mut on);
+    let first = options::read(rt, onchip, &mut on);
     match first {
         Image::Read(n, onbase) => {
-            let second = options::read(external, &mut ext);
+            let second = options::read(rt, external, &mut ext);
             match second {
                 Image::Read(m, extbase) => {
                     return page(
+                        rt,
                         path,
                         whole,
                         parse::cut(&on, 0, n),
@@ -181,22 +184,22 @@ fn lent(path: &[u8], whole: Progress, o: Options) -> u32 {
 }
 
 // A recording accepted and replayed by what the words say.
-fn accepted(path: &[u8], o: Options) -> u32 {
-    if options::both_input(o) {
+fn accepted(rt: HostRuntime, path: &[u8], o: Options) -> u32 {
+    if options::both_input(rt, o) {
         return 2;
     }
-    let a = recordings::accept(path);
+    let a = recordings::accept(rt, path);
     match a {
-        Accepted::Whole(whole) => return lent(path, whole, o),
+        Accepted::Whole(whole) => return lent(rt, path, whole, o),
         Accepted::Failed(status) => return status,
     }
 }
 
 // nx replay RECORDING with the words behind it.
-pub(crate) fn run(path: &[u8]) -> u32 {
-    let asked = options::asked();
+pub(crate) fn run(rt: HostRuntime, path: &[u8]) -> u32 {
+    let asked = options::asked(rt);
     match asked {
-        Words::For(o) => return accepted(path, o),
+        Words::For(o) => return accepted(rt, path, o),
         Words::Bad => return 2,
     }
 }

@@ -7,6 +7,7 @@ use crate::{files, gather, list, parse, recordings, script, scripts, spelling, t
 use calls::Call;
 use page::Access;
 use recording::Progress;
+use std::fs::File;
 
 // The bytes of a full block's calls.
 const CALLS: usize = calls::SIZE * recording::FULL;
@@ -50,19 +51,20 @@ fn put(calls: &mut [u8], before: usize, call: Call) {
 }
 
 // A block of calls, behind the others of a new file.
-fn append(fresh: Fresh, path: &[u8], number: usize, calls: &[u8]) -> bool {
+fn append(rt: HostRuntime, fresh: &mut Fresh, path: &[u8], number: usize, calls: &[u8]) -> bool {
     let mut block = [0u8; recording::BLOCK];
     recording::write_block(number, calls, &mut block);
-    files::append(fresh, path, &block)
+    files::append(rt, fresh, path, &block)
 }
 
 // The last block of so many calls, where it is not full.
-fn last(fresh: Fresh, path: &[u8], n: usize, calls: &[u8]) -> Wrote {
+fn last(rt: HostRuntime, fresh: &mut Fresh, path: &[u8], n: usize, calls: &[u8]) -> Wrote {
     let rest = n % recording::FULL;
     if rest == 0 {
         return Wrote::Calls(n);
     }
     if append(
+        rt,
         fresh,
         path,
         n / recording::FULL,
@@ -74,7 +76,7 @@ fn last(fresh: Fresh, path: &[u8], n: usize, calls: &[u8]) -> Wrote {
 }
 
 // The calls of a script, written to a new file.
-fn blocks(fresh: Fresh, path: &[u8], t: &[u8]) -> Wrote {
+fn blocks(rt: HostRuntime, fresh: &mut Fresh, path: &[u8], t: &[u8]) -> Wrote {
     let mut calls = [0u8; CALLS];
     let mut n = 0;
     let mut at = 0;
@@ -85,13 +87,13 @@ fn blocks(fresh: Fresh, path: &[u8], t: &[u8]) -> Wrote {
             put(&mut calls, n, scripts::call_of(s));
             n += 1;
             if n % recording::FULL == 0 {
-                if !append(fresh, path, n / recording::FULL - 1, &calls) {
+                if !append(rt, fresh, path, n / recording::FULL - 1, &calls) {
                     return Wrote::Failed;
                 }
             }
         }
     }
-    last(fresh, path, n, &calls)
+    last(rt, fresh, path, n, &calls)
 }
 
 // The words that tell nx replay a script's prices, where it has any.
@@ -135,17 +137,14 @@ fn summary(path: &[u8], n: usize, t: &[u8]) -> bool {
         & prices(t)
 }
 
-// A script recorded, and what was.
-fn recorded(path: &[u8], t: &[u8]) -> u32 {
-    let fresh = files::begin(path);
-    if fresh.fd < 0 {
-        return 1;
-    }
-    let wrote = blocks(fresh, path, t);
+// A script recorded in a new file, and what was.
+fn written(rt: HostRuntime, begun: Fresh, path: &[u8], t: &[u8]) -> u32 {
+    let mut fresh = begun;
+    let wrote = blocks(rt, &mut fresh, path, t);
     match wrote {
         Wrote::Calls(n) => {
-            if files::finish(fresh, path) {
-                return files::told(summary(path, n, t));
+            if files::finish(rt, fresh, path) {
+                return files::told(rt, summary(path, n, t));
             }
             return 1;
         }
@@ -153,12 +152,20 @@ fn recorded(path: &[u8], t: &[u8]) -> u32 {
     }
 }
 
+// A script recorded, and what was.
+fn recorded(rt: HostRuntime, path: &[u8], t: &[u8]) -> u32 {
+    match files::begin(rt, path) {
+        Some(begun) => written(rt, begun, path, t),
+        None => 1,
+    }
+}
+
 // nx record SCRIPT RECORDING.
-pub(crate) fn run(path: &[u8], recording: &[u8]) -> u32 {
+pub(crate) fn run(rt: HostRuntime, path: &[u8], recording: &[u8]) -> u32 {
     let mut t = [0u8; list::TEXT];
-    let got = scripts::load(path, &mut t, scripts::RECORDED);
+    let got = scripts::load(rt, path, &mut t, scripts::RECORDED);
     match got {
-        Got::Bytes(n) => return recorded(recording, parse::cut(&t, 0, n)),
+        Got::Bytes(n) => return recorded(rt, recording, parse::cut(&t, 0, n)),
         Got::Failed => return 1,
     }
 }
@@ -179,42 +186,42 @@ fn lines(block: &[u8]) -> bool {
 }
 
 // The calls of an accepted recording as lines.
-fn scripted(fd: i32, path: &[u8], whole: Progress) -> u32 {
+fn scripted(rt: HostRuntime, file: &mut File, path: &[u8], whole: Progress) -> u32 {
     let mut block = [0u8; recording::BLOCK];
     let mut p = Progress::start();
     let mut i = 0;
     while i < whole.blocks {
         i += 1;
-        let again = recordings::read_again(fd, path, p, whole, &mut block);
+        let again = recordings::read_again(file, path, p, whole, &mut block);
         match again {
             Again::Block(q) => {
                 if !lines(&block) {
-                    return files::told(false);
+                    return files::told(rt, false);
                 }
                 p = q;
             }
             Again::Stopped => return 1,
         }
     }
-    (!recordings::ended(fd, path, p)) as u32
+    (!recordings::ended(file, path, p)) as u32
 }
 
 // An accepted recording as a script.
-fn opened(path: &[u8], whole: Progress) -> u32 {
-    let fd = files::open(path);
-    if fd < 0 {
-        return 1;
+fn opened(rt: HostRuntime, path: &[u8], whole: Progress) -> u32 {
+    match files::open(rt, path) {
+        Some(opened) => {
+            let mut file = opened;
+            scripted(rt, &mut file, path, whole)
+        }
+        None => 1,
     }
-    let status = scripted(fd, path, whole);
-    libc::close(fd);
-    status
 }
 
 // nx script RECORDING.
-pub(crate) fn script(path: &[u8]) -> u32 {
-    let a = recordings::accept(path);
+pub(crate) fn script(rt: HostRuntime, path: &[u8]) -> u32 {
+    let a = recordings::accept(rt, path);
     match a {
-        Accepted::Whole(whole) => return opened(path, whole),
+        Accepted::Whole(whole) => return opened(rt, path, whole),
         Accepted::Failed(status) => return status,
     }
 }

@@ -2,6 +2,7 @@
 use crate::files::Got;
 use crate::{files, list, parse, text};
 use recording::{Flaw, Progress, Taken};
+use std::fs::File;
 
 // What comes next in a file: one more block and how far it goes, the end, a block that is refused, or a failure that has been said.
 #[derive(Clone, Copy)]
@@ -35,8 +36,8 @@ fn taken(t: Taken) -> Next {
 }
 
 // What comes next in a file, behind so much.
-fn read(fd: i32, path: &[u8], p: Progress, block: &mut [u8]) -> Next {
-    let got = files::read_on(fd, path, block);
+fn read(file: &mut File, path: &[u8], p: Progress, block: &mut [u8]) -> Next {
+    let got = files::read_on(file, path, block);
     match got {
         Got::Bytes(n) => {
             if n == 0 {
@@ -97,8 +98,8 @@ fn figure(f: Flaw, block: &[u8]) -> u64 {
 }
 
 // Says that a recording is refused, and what is wrong with which block.
-fn refused(path: &[u8], i: usize, f: Flaw, block: &[u8]) -> Accepted {
-    files::told(text::put(text::OUT, b"refused 16\n"));
+fn refused(rt: HostRuntime, path: &[u8], i: usize, f: Flaw, block: &[u8]) -> Accepted {
+    files::told(rt, text::put(text::OUT, b"refused 16\n"));
     at_block(path, i);
     text::part_form(
         text::ERR,
@@ -111,27 +112,27 @@ fn refused(path: &[u8], i: usize, f: Flaw, block: &[u8]) -> Accepted {
 }
 
 // The first time through a file.
-fn heard(fd: i32, path: &[u8]) -> Accepted {
+fn heard(rt: HostRuntime, file: &mut File, path: &[u8]) -> Accepted {
     let mut block = [0u8; recording::BLOCK];
     let mut p = Progress::start();
     let mut i = 0;
     while i <= recording::MOST {
-        let n = read(fd, path, p, &mut block);
+        let n = read(file, path, p, &mut block);
         match n {
             Next::Block(q) => {
                 p = q;
                 i += 1;
             }
             Next::End => return Accepted::Whole(p),
-            Next::Refused(f) => return refused(path, i, f, &block),
+            Next::Refused(f) => return refused(rt, path, i, f, &block),
             Next::Failed => return Accepted::Failed(1),
         }
     }
-    refused(path, i, Flaw::TooMany, &block)
+    refused(rt, path, i, Flaw::TooMany, &block)
 }
 
 // A recording's file, accepted or refused.
-pub(crate) fn accept(path: &[u8]) -> Accepted {
+pub(crate) fn accept(rt: HostRuntime, path: &[u8]) -> Accepted {
     if files::is_input(path) {
         text::put(
             text::ERR,
@@ -139,13 +140,13 @@ pub(crate) fn accept(path: &[u8]) -> Accepted {
         );
         return Accepted::Failed(2);
     }
-    let fd = files::open(path);
-    if fd < 0 {
-        return Accepted::Failed(1);
+    match files::open(rt, path) {
+        Some(opened) => {
+            let mut file = opened;
+            heard(rt, &mut file, path)
+        }
+        None => Accepted::Failed(1),
     }
-    let a = heard(fd, path);
-    libc::close(fd);
-    a
 }
 
 // Says that a file has changed at a block.
@@ -165,13 +166,13 @@ fn due(p: Progress, whole: Progress) -> usize {
 
 // The next block of a file that was accepted, with as many calls as it had then.
 pub(crate) fn read_again(
-    fd: i32,
+    file: &mut File,
     path: &[u8],
     p: Progress,
     whole: Progress,
     block: &mut [u8],
 ) -> Again {
-    let n = read(fd, path, p, block);
+    let n = read(file, path, p, block);
     match n {
         Next::Block(q) => {
             if q.calls == due(p, whole) {
@@ -191,9 +192,9 @@ pub(crate) fn read_again(
 }
 
 // Whether a file ends behind so much.
-pub(crate) fn ended(fd: i32, path: &[u8], p: Progress) -> bool {
+pub(crate) fn ended(file: &mut File, path: &[u8], p: Progress) -> bool {
     let mut block = [0u8; recording::BLOCK];
-    let n = read(fd, path, p, &mut block);
+    let n = read(file, path, p, &mut block);
     match n {
         Next::Block(_) => {
             changed(path, p.blocks);

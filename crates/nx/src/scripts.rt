@@ -84,8 +84,8 @@ fn good(path: &[u8], t: &[u8], last: u32) -> bool {
 }
 
 // A script's bytes, read from its file, with register offsets up to a last one; or its first error said.
-pub(crate) fn load(path: &[u8], t: &mut [u8], last: u32) -> Got {
-    let got = files::read(path, t);
+pub(crate) fn load(rt: HostRuntime, path: &[u8], t: &mut [u8], last: u32) -> Got {
+    let got = files::read(rt, path, t);
     match got {
         Got::Bytes(n) => {
             if n >= list::TEXT {

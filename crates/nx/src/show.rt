@@ -223,24 +223,25 @@ fn page(records: &[u8], t: &[u8], lines: &[u32], image: &[u8]) -> bool {
 }
 
 // A list judged and shown.
-fn judged(path: &[u8], records: &[u8], t: &[u8], lines: &[u32]) -> u32 {
+fn judged(rt: HostRuntime, path: &[u8], records: &[u8], t: &[u8], lines: &[u32]) -> u32 {
     let mut memory = io::large_buffer();
     let n = list::judged(path, records, lines, build::BASE, &mut memory);
     if n == 0 {
         return 1;
     }
-    files::told(page(records, t, lines, parse::cut(&memory, 0, n)))
+    files::told(rt, page(records, t, lines, parse::cut(&memory, 0, n)))
 }
 
 // nx show LIST.
-pub(crate) fn run(path: &[u8]) -> u32 {
+pub(crate) fn run(rt: HostRuntime, path: &[u8]) -> u32 {
     let mut t = [0u8; list::TEXT];
     let mut records = [0u8; list::RECORDS];
     let mut lines = [0u32; records::MOST];
-    let loaded = list::load(path, &mut t, &mut records, &mut lines);
+    let loaded = list::load(rt, path, &mut t, &mut records, &mut lines);
     match loaded {
         Loaded::List(len, n) => {
             return judged(
+                rt,
                 path,
                 parse::cut(&records, 0, n),
                 parse::cut(&t, 0, len),

@@ -183,34 +183,34 @@ fn page(records: &[u8], ext: &[u8], t: &[u8]) -> bool {
 }
 
 // A script read and its session shown.
-fn scripted(path: &[u8], records: &[u8], ext: &[u8]) -> u32 {
+fn scripted(rt: HostRuntime, path: &[u8], records: &[u8], ext: &[u8]) -> u32 {
     let mut t = [0u8; list::TEXT];
-    let got = scripts::load(path, &mut t, scripts::LAST);
+    let got = scripts::load(rt, path, &mut t, scripts::LAST);
     match got {
-        Got::Bytes(n) => return files::told(page(records, ext, parse::cut(&t, 0, n))),
+        Got::Bytes(n) => return files::told(rt, page(records, ext, parse::cut(&t, 0, n))),
         Got::Failed => return 1,
     }
 }
 
 // A list judged and tried.
-fn judged(path: &[u8], records: &[u8], lines: &[u32], script: &[u8]) -> u32 {
+fn judged(rt: HostRuntime, path: &[u8], records: &[u8], lines: &[u32], script: &[u8]) -> u32 {
     let mut memory = io::large_buffer();
     let n = list::judged(path, records, lines, build::BASE, &mut memory);
     if n == 0 {
         return 1;
     }
-    scripted(script, records, &memory)
+    scripted(rt, script, records, &memory)
 }
 
 // nx try LIST SCRIPT.
-pub(crate) fn run(path: &[u8], script: &[u8]) -> u32 {
+pub(crate) fn run(rt: HostRuntime, path: &[u8], script: &[u8]) -> u32 {
     let mut t = [0u8; list::TEXT];
     let mut records = [0u8; list::RECORDS];
     let mut lines = [0u32; records::MOST];
-    let loaded = list::load(path, &mut t, &mut records, &mut lines);
+    let loaded = list::load(rt, path, &mut t, &mut records, &mut lines);
     match loaded {
         Loaded::List(_, n) => {
-            return judged(path, parse::cut(&records, 0, n), &lines, script);
+            return judged(rt, path, parse::cut(&records, 0, n), &lines, script);
         }
         Loaded::Failed => return 1,
     }
