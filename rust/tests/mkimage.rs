@@ -1,4 +1,4 @@
-//! The built program `target/bin/mkimage`, run by `tools/run mkimage` from the
+//! The built program `crates/mkimage/out/mkimage`, run by `tools/run mkimage` from the
 //! root of the repository: its standard output is the second program's image or
 //! its line "refused K at I", and it writes nothing to standard error. Six
 //! inputs and their outputs stand here by their bytes.
@@ -23,7 +23,7 @@ use std::time::Duration;
 /// that is said aloud.
 fn root() -> Option<PathBuf> {
     let root = Path::new(env!("CARGO_MANIFEST_DIR")).join("..");
-    let missing: Vec<&str> = ["tools/run", "target/bin/mkimage"]
+    let missing: Vec<&str> = ["tools/run", "crates/mkimage/out/mkimage"]
         .into_iter()
         .filter(|file| !root.join(file).exists())
         .collect();

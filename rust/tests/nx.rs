@@ -1,4 +1,4 @@
-//! The built program `target/bin/nx`, run by `tools/run nx` from the root of the
+//! The built program `crates/nx/out/nx`, run by `tools/run nx` from the root of the
 //! repository: a list as text becomes the records that the second program's own
 //! parser reads, an error names its line, and nothing is lost where a file
 //! cannot be read or written. The script `nx` gives the exit status.

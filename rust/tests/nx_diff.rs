@@ -1,4 +1,4 @@
-//! The built program `target/bin/nx` on two images: `nx diff` says where a new image of
+//! The built program `crates/nx/out/nx` on two images: `nx diff` says where a new image of
 //! address tables parts from the signed one, which pages of either the other has not, and
 //! what each word that differs maps in either.
 //!

@@ -1,4 +1,4 @@
-//! The built program `target/bin/nx` on images from elsewhere (P4): `nx check`, `nx list`
+//! The built program `crates/nx/out/nx` on images from elsewhere (P4): `nx check`, `nx list`
 //! and `nx map` answer as the second program's check and list do, and why an image is
 //! refused is told in one sentence.
 //!

@@ -1,4 +1,4 @@
-//! The built program `target/bin/nx` on recorded sessions (P1): `nx record` writes the
+//! The built program `crates/nx/out/nx` on recorded sessions (P1): `nx record` writes the
 //! recording of a script, `nx script` gives the script back, and `nx replay` makes the calls
 //! as the second program does, or tells which block is refused and why.
 //!

@@ -1,4 +1,4 @@
-//! The built program `target/bin/nx`, run by `tools/run nx` from the root of the
+//! The built program `crates/nx/out/nx`, run by `tools/run nx` from the root of the
 //! repository.
 
 use super::without_native;
@@ -11,13 +11,13 @@ use std::process::{Command, Stdio};
 /// that is said aloud.
 pub fn root() -> Option<PathBuf> {
     let root = Path::new(env!("CARGO_MANIFEST_DIR")).join("..");
-    if root.join("target/bin/nx").exists() {
+    if root.join("crates/nx/out/nx").exists() {
         Some(root)
     } else if without_native() {
-        println!("NX_WITHOUT_NATIVE=1: nx is not run (target/bin/nx not there)");
+        println!("NX_WITHOUT_NATIVE=1: nx is not run (crates/nx/out/nx not there)");
         None
     } else {
-        panic!("target/bin/nx is not there: build it first; NX_WITHOUT_NATIVE=1 goes without");
+        panic!("crates/nx/out/nx is not there: build it first; NX_WITHOUT_NATIVE=1 goes without");
     }
 }
 
