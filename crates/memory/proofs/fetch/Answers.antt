@@ -1,4 +1,4 @@
-use Rattle.memory.proofs.Names.{lent, part_at, source_of, sym, ◌∙◌, ap, not-true, not-false, rules}
+use Rattle.memory.proofs.Names.{lent, part_at, source_of, sym, ◌∙◌, ap, not-true, not-false}
 use Rattle.memory.proofs.Places.{place_ok, place_refused, at_start}
 use Rattle.memory.proofs.fetch.Goals as goal
 

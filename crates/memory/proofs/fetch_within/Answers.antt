@@ -1,4 +1,4 @@
-use Rattle.memory.proofs.Names.{lent, part_at, source_of, Inside, sym, ◌∙◌, ap, subst, rules}
+use Rattle.memory.proofs.Names.{lent, part_at, source_of, Inside, sym, ◌∙◌, ap, subst}
 use Rattle.memory.proofs.Places.{inside-within, at_start}
 use Rattle.memory.proofs.fetch_within.Goals as goal
 

@@ -1,5 +1,5 @@
 use Rattle.memory.specs.Names.{take, drop, ℕ}
-use Rattle.memory.proofs.Names.{refl, ap, rules}
+use Rattle.memory.proofs.Names.{refl, ap}
 use native.Mathlib.Nat.{add-sub_cancel_left}
 use Rattle.memory.proofs.four.Goals as goal
 

@@ -1,4 +1,4 @@
-use Rattle.memory.proofs.Names.{sym, ◌∙◌, not-true, not-false, rules}
+use Rattle.memory.proofs.Names.{sym, ◌∙◌, not-true, not-false}
 use Rattle.memory.proofs.Places.{place_ok, place_refused}
 use Rattle.memory.proofs.locate.Goals as goal
 

@@ -1,4 +1,4 @@
-use Rattle.memory.proofs.Names.{place_within, rules}
+use Rattle.memory.proofs.Names.{place_within}
 use Rattle.memory.proofs.locate_within.Goals as goal
 
 pub returns : goal.returns

@@ -1,4 +1,4 @@
-use Rattle.memory.proofs.Names.{sym, ◌∙◌, pick_yes, pick_no, rules}
+use Rattle.memory.proofs.Names.{sym, ◌∙◌, pick_yes, pick_no}
 use Rattle.memory.proofs.Apart.{held-from}
 use Rattle.memory.proofs.place_of.Goals as goal
 

@@ -4,7 +4,6 @@ use mathlib.Core.Path.{◌≡◌, sym, ◌∙◌}
 use Rattle.page.proofs.Picks.{pick_yes, pick_no}
 use native.Mathlib.Omega.{arith}
 use Prim.Native.Nat.{◌/◌, ◌%◌}
-use borrow.Author.Rules.{rules}
 use Rattle.page.proofs.dropped.Goals as goal
 
 pub overflow_sub-result : goal.overflow_sub-result

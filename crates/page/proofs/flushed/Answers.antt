@@ -2,7 +2,6 @@ use borrow.Author.Tests.{eq-eqb, ne_eqb}
 use Rattle.page.specs.Words.{word_flushed}
 use mathlib.Core.Path.{sym, ◌∙◌}
 use Rattle.page.proofs.Picks.{pick_yes, pick_no}
-use borrow.Author.Rules.{rules}
 use Rattle.page.proofs.flushed.Goals as goal
 
 pub returns-then-cam-eq1 : goal.returns-then-cam-eq1

@@ -1,7 +1,6 @@
 use Rattle.page.specs.Words.{word_flushed_at}
 use mathlib.Core.Path.{sym, ◌∙◌}
 use Rattle.page.proofs.Picks.{pick_yes, pick_no}
-use borrow.Author.Rules.{rules}
 use Rattle.page.proofs.flushed_at.Goals as goal
 
 pub returns-then-matches : goal.returns-then-matches

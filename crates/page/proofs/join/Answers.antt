@@ -4,7 +4,6 @@ use Rattle.page.specs.Words.{physical, low_bits}
 use mathlib.Core.Path.{sym, subst, ap}
 use native.Mathlib.Omega.{arith}
 use Prim.Native.Nat.{ℕ, ◌^◌, ◌<◌}
-use borrow.Author.Rules.{rules}
 use Rattle.page.proofs.join.Goals as goal
 
 pub overflow_sub-x : goal.overflow_sub-x

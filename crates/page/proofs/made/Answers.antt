@@ -5,7 +5,6 @@ use Rattle.page.specs.Words.{low_bits, made_cam, made_ram}
 use Rattle.page.specs.declared.Words.{Words}
 use native.Mathlib.Omega.{arith}
 use Prim.Native.Nat.{ℕ, ◌+◌, ◌*◌, ◌/◌, ◌%◌}
-use borrow.Author.Rules.{rules}
 use Rattle.page.proofs.made.Goals as goal
 
 abbrev words : ℕ → ℕ → Words

@@ -1,5 +1,4 @@
 use Rattle.page.proofs.Slot.{matches-apart}
-use borrow.Author.Rules.{rules}
 use Rattle.page.proofs.matches.Goals as goal
 
 pub returns : goal.returns

@@ -4,7 +4,6 @@ use Rattle.page.proofs.Slot.{low_bits-le}
 use mathlib.Core.Path.{◌∙◌, ap}
 use native.Mathlib.Omega.{arith}
 use Prim.Native.Nat.{ℕ}
-use borrow.Author.Rules.{rules}
 use Rattle.page.proofs.page_start.Goals as goal
 
 pub overflow_shr-result : goal.overflow_shr-result

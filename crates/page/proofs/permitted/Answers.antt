@@ -1,6 +1,5 @@
 use mathlib.Core.Path.{sym, ap}
 use Rattle.page.specs.Words.{permits}
-use borrow.Author.Rules.{rules}
 use Rattle.page.proofs.permitted.Goals as goal
 
 pub returns-in-Read : goal.returns-in-Read

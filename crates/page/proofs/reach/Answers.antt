@@ -2,7 +2,6 @@ use Prim.Native.Nat.{◌-◌, ◌^◌}
 use Rattle.page.specs.Words.{low_bits}
 use Rattle.page.specs.declared.Kind.{Kind}
 use mathlib.Core.Path.{◌≡◌, sym, ap}
-use borrow.Author.Rules.{rules}
 use Rattle.page.proofs.reach.Goals as goal
 
 -- equal kinds cover equally many

@@ -2,7 +2,6 @@ use Rattle.page.specs.Low.{joined}
 use Rattle.page.specs.Words.{low_bits, physical, word_address}
 use Rattle.page.specs.declared.Kind.{Kind}
 use mathlib.Core.Path.{◌∙◌, ap}
-use borrow.Author.Rules.{rules}
 use Rattle.page.proofs.translated.Goals as goal
 
 pub returns : goal.returns

@@ -1,4 +1,4 @@
-use Rattle.wire.proofs.Names.{sym, rules}
+use Rattle.wire.proofs.Names.{sym}
 use lib.ListN.{get_or-eq_default}
 use Rattle.wire.proofs.byte_at.Goals as goal
 

@@ -1,4 +1,4 @@
-use Rattle.wire.specs.Names.{length, get_or, List, ◌-◌, ℕ, ◌+◌, ◌≤◌, ◌≡◌}
+use Rattle.wire.specs.Names.{get_or, List, ℕ, ◌+◌}
 use Rattle.wire.proofs.Names.{rules, add-one, refl, sym, ◌∙◌, ap, arith}
 use lib.ListN.{set, length-set}
 use Rattle.wire.proofs.Pastes.{copied}

@@ -1,8 +1,5 @@
-use Rattle.wire.specs.Names.{length, get_or, List, ◌-◌, ℕ, ◌+◌, ◌≤◌, ◌≡◌}
-use Rattle.wire.proofs.Names.{rules, add-one, refl, sym, ◌∙◌, ap, arith}
-use lib.ListN.{set, length-set}
-use Rattle.wire.proofs.Pastes.{copied}
-use lib.Seq.{paste, paste-zero, paste-suc}
+use Rattle.wire.specs.Names.{length, ◌-◌, ◌≤◌, ◌≡◌}
+use lib.Seq.{paste}
 use Rattle.wire.proofs.copy.Given as goal
 
 abbrev pub invariant-loop-i : goal.invariant-loop-i

@@ -1,5 +1,5 @@
 use Rattle.wire.specs.Names.{length, ◌+◌, ◌*◌}
-use Rattle.wire.proofs.Names.{leb-true, words_put, sym, ◌∙◌, pick_yes, pick_no, rules}
+use Rattle.wire.proofs.Names.{leb-true, words_put, sym, ◌∙◌, pick_yes, pick_no}
 use Rattle.wire.proofs.put.Goals as goal
 
 pub put_all-requires : goal.put_all-requires

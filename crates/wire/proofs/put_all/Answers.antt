@@ -1,5 +1,4 @@
-use Rattle.wire.specs.Names.{◌-◌, ◌+◌, ◌*◌, ◌≤◌, length, drop, ◌≡◌}
-use Rattle.wire.proofs.Names.{rules, placed, refl, sym, ◌∙◌, arith}
+use Rattle.wire.proofs.Names.{rules, refl, sym, ◌∙◌, arith}
 use Rattle.wire.proofs.Placing.{words_turn, words-first, words-end}
 use Rattle.wire.proofs.put_all.Goals as goal
 

@@ -1,6 +1,5 @@
 use Rattle.wire.specs.Names.{◌-◌, ◌+◌, ◌*◌, ◌≤◌, length, drop, ◌≡◌}
-use Rattle.wire.proofs.Names.{rules, placed, refl, sym, ◌∙◌, arith}
-use Rattle.wire.proofs.Placing.{words_turn, words-first, words-end}
+use Rattle.wire.proofs.Names.{placed}
 use Rattle.wire.proofs.put_all.Given as goal
 
 abbrev pub invariant-loop-i : goal.invariant-loop-i

@@ -1,5 +1,5 @@
-use Rattle.wire.specs.Names.{◌+◌, ◌<◌, ◌≡◌, length}
-use Rattle.wire.proofs.Names.{sym, ◌∙◌, pick_no, lt-leb, arith, rules}
+use Rattle.wire.specs.Names.{◌+◌, ◌<◌, length}
+use Rattle.wire.proofs.Names.{sym, ◌∙◌, pick_no, lt-leb, arith}
 use Rattle.wire.specs.Words.{bytes_put}
 use Rattle.wire.proofs.Pastes.{bytes_fit}
 use Rattle.wire.proofs.put_bytes.Goals as goal

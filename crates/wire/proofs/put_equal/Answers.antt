@@ -1,5 +1,5 @@
-use Rattle.wire.specs.Names.{◌≡◌, ℕ, ◌-◌, ◌≤◌, length}
-use Rattle.wire.proofs.Names.{rules, refl, sym, ap, ◌∙◌, arith, spliced}
+use Rattle.wire.specs.Names.{◌≡◌, ℕ}
+use Rattle.wire.proofs.Names.{refl, sym, ap, ◌∙◌, arith, spliced}
 use Rattle.wire.proofs.Splices.{spliced-none, one_more}
 use Rattle.wire.proofs.put_equal.Goals as goal
 

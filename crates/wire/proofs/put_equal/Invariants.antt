@@ -1,6 +1,5 @@
 use Rattle.wire.specs.Names.{◌≡◌, ℕ, ◌-◌, ◌≤◌, length}
-use Rattle.wire.proofs.Names.{rules, refl, sym, ap, ◌∙◌, arith, spliced}
-use Rattle.wire.proofs.Splices.{spliced-none, one_more}
+use Rattle.wire.proofs.Names.{spliced}
 use Rattle.wire.proofs.put_equal.Given as goal
 
 abbrev pub invariant-loop-y : goal.invariant-loop-y

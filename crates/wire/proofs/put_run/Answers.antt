@@ -1,5 +1,5 @@
 use Rattle.wire.specs.Names.{length, ◌+◌, ◌*◌}
-use Rattle.wire.proofs.Names.{leb-true, run_put, sym, ◌∙◌, pick_yes, pick_no, rules}
+use Rattle.wire.proofs.Names.{leb-true, run_put, sym, ◌∙◌, pick_yes, pick_no}
 use Rattle.wire.proofs.put_run.Goals as goal
 
 pub put_equal-requires : goal.put_equal-requires

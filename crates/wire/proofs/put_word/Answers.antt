@@ -1,4 +1,4 @@
-use Rattle.wire.proofs.Names.{bytes_of, placed, arith, rules}
+use Rattle.wire.proofs.Names.{bytes_of, placed, arith}
 use Rattle.wire.proofs.Splices.{put_four}
 use lib.ListN.{length-set}
 use Rattle.wire.proofs.put_word.Goals as goal

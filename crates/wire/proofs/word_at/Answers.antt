@@ -1,5 +1,5 @@
 use Rattle.wire.specs.Names.{length, take, drop, ◌-◌, ℕ, ◌+◌, ◌*◌, ◌≡◌}
-use Rattle.wire.proofs.Names.{leb-true, word_of, sym, ◌∙◌, ap, arith, rules}
+use Rattle.wire.proofs.Names.{leb-true, word_of, sym, ◌∙◌, ap, arith}
 use Rattle.wire.proofs.Reading.{word_none}
 use borrow.Author.Tests.{leb-false, not-true, not-false}
 use Rattle.wire.proofs.word_at.Goals as goal

@@ -1,4 +1,4 @@
-use Rattle.wire.proofs.Names.{word_of, sym, ◌∙◌, pick_yes, pick_no, le-leb, lt-leb, rules}
+use Rattle.wire.proofs.Names.{word_of, sym, ◌∙◌, pick_yes, pick_no, le-leb, lt-leb}
 use Rattle.wire.proofs.word_of.Goals as goal
 
 pub returns-then-s-lt4 : goal.returns-then-s-lt4

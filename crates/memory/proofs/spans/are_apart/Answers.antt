@@ -1,4 +1,4 @@
-use Rattle.memory.proofs.Names.{apart, rules}
+use Rattle.memory.proofs.Names.{apart}
 use Rattle.page.proofs.Picks.{any_four}
 use Rattle.memory.proofs.spans.are_apart.Goals as goal
 

@@ -1,4 +1,4 @@
-use Rattle.memory.proofs.Names.{memories_ok, and_yes, sym, ◌∙◌, rules}
+use Rattle.memory.proofs.Names.{memories_ok, and_yes, sym, ◌∙◌}
 use Rattle.memory.proofs.Apart.{ok_short, both_yes, both_no}
 use Rattle.memory.proofs.spans.both_ok.Goals as goal
 

@@ -1,4 +1,4 @@
-use Rattle.memory.proofs.Names.{lies_in, and_yes, and_no, sym, ◌∙◌, le-leb, lt-leb, rules}
+use Rattle.memory.proofs.Names.{lies_in, and_yes, and_no, sym, ◌∙◌, le-leb, lt-leb}
 use Rattle.memory.proofs.Apart.{by_offset}
 use Rattle.memory.proofs.spans.held.Goals as goal
 

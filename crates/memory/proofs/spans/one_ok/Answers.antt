@@ -1,5 +1,5 @@
 use Rattle.memory.specs.Names.{◌and◌, Bool, eqb, leb, ◌%◌, ◌^◌}
-use Rattle.memory.proofs.Names.{longest, memory_ok, ◌∙◌, ap, arith, rules}
+use Rattle.memory.proofs.Names.{longest, memory_ok, ◌∙◌, ap, arith}
 use Rattle.memory.proofs.Apart.{by_room}
 use Rattle.page.proofs.Picks.{all_four}
 use Rattle.memory.proofs.spans.one_ok.Goals as goal
