@@ -10,32 +10,28 @@ use page::PhysicalAddress;
 use session::Bench;
 
 // Builds the tables of a list in a memory.
-#[unsafe(no_mangle)]
-pub extern "C" fn nx_build(records: &[u8], base: u32, memory: &mut [u8]) -> u64
+pub fn nx_build(records: &[u8], base: u32, memory: &mut [u8]) -> u64
     ensures { ran result memory.new ≡ build_ran records.now base memory.old }
 {
     numbers::built_number(builder::build(records, PhysicalAddress(base), memory))
 }
 
 // Checks the image that a memory holds.
-#[unsafe(no_mangle)]
-pub extern "C" fn nx_check(memory: &[u8], base: u32) -> u64
+pub fn nx_check(memory: &[u8], base: u32) -> u64
     ensures { result ≡ verdict_word (check_of megabytes memory.now base) }
 {
     numbers::verdict_number(audit::check(memory, PhysicalAddress(base)))
 }
 
 // Lists the pages of the image that a memory holds.
-#[unsafe(no_mangle)]
-pub extern "C" fn nx_list(memory: &[u8], base: u32, out: &mut [u8]) -> u64
+pub fn nx_list(memory: &[u8], base: u32, out: &mut [u8]) -> u64
     ensures { ran result out.new ≡ list_ran memory.now base out.old }
 {
     numbers::inventory_number(audit::list(memory, PhysicalAddress(base), out))
 }
 
 // Compares a new image with a signed one.
-#[unsafe(no_mangle)]
-pub extern "C" fn nx_part(new: &[u8], signed: &[u8], out: &mut [u8]) -> u64
+pub fn nx_part(new: &[u8], signed: &[u8], out: &mut [u8]) -> u64
     ensures { ran result out.new ≡ part_ran new.now signed.now out.old }
 {
     if !wire::room(out.len(), 0, 6) {
@@ -47,8 +43,7 @@ pub extern "C" fn nx_part(new: &[u8], signed: &[u8], out: &mut [u8]) -> u64
 }
 
 // Runs calls from a fresh bench.
-#[unsafe(no_mangle)]
-pub extern "C" fn nx_run<'a>(
+pub fn nx_run<'a>(
     calls: &[u8],
     on: &'a [u8],
     onbase: u32,
@@ -82,8 +77,7 @@ pub extern "C" fn nx_run<'a>(
 }
 
 // Runs calls from a handed-in state.
-#[unsafe(no_mangle)]
-pub extern "C" fn nx_from<'a>(
+pub fn nx_from<'a>(
     state: &[u8],
     total: f64,
     misses: f64,
@@ -125,8 +119,7 @@ pub extern "C" fn nx_from<'a>(
 }
 
 // The four bytes at an address.
-#[unsafe(no_mangle)]
-pub extern "C" fn nx_fetch<'a>(
+pub fn nx_fetch<'a>(
     on: &'a [u8],
     onbase: u32,
     ext: &'a [u8],
@@ -143,24 +136,21 @@ pub extern "C" fn nx_fetch<'a>(
 }
 
 // Writes calls as a recording.
-#[unsafe(no_mangle)]
-pub extern "C" fn nx_record(calls: &[u8], out: &mut [u8]) -> u64
+pub fn nx_record(calls: &[u8], out: &mut [u8]) -> u64
     ensures { ran result out.new ≡ record_ran calls.now out.old }
 {
     numbers::written_number(recording::write(calls, out))
 }
 
 // Reads the calls of a recording.
-#[unsafe(no_mangle)]
-pub extern "C" fn nx_recorded(recording: &[u8], out: &mut [u8]) -> u64
+pub fn nx_recorded(recording: &[u8], out: &mut [u8]) -> u64
     ensures { ran result out.new ≡ recorded_ran recording.now out.old }
 {
     numbers::written_number(recording::read(recording, out))
 }
 
 // The CRC-32 of bytes.
-#[unsafe(no_mangle)]
-pub extern "C" fn nx_crc(bytes: &[u8]) -> u64
+pub fn nx_crc(bytes: &[u8]) -> u64
     ensures { result ≡ crc32 bytes.now }
 {
     crc::crc32(bytes) as u64
