@@ -25,7 +25,7 @@ loop-i-preserved c =
     let h = c.loop-i-test.true in
     record {
       below = omega (arith, h);
-      long = c.put_said.auto.0 ∙ l.invariant.long;
+      long = c.put_said.auto.out ∙ l.invariant.long;
       same = l.invariant.same ∙ replay_turn m x.prices x.calls.now n l.out _ l.bench l.i c.step-s.result h (omega (arith, c.if-out-n.false, l.invariant.long))
           (c.step-s.ensures ∙ ap (stepped m x.prices l.bench) c.decode.ensures) c.put_said.ensures;
     }
