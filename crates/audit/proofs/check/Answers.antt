@@ -1,5 +1,5 @@
 use Rattle.audit.specs.Names.{not}
-use Rattle.audit.proofs.Names.{rules, le-ltb, lt-ltb, not-false, not-true, ◌∙◌, ap, sym, pick_no, pick_yes, check_of, taken}
+use Rattle.audit.proofs.Names.{le-ltb, lt-ltb, not-false, not-true, ◌∙◌, ap, sym, pick_no, pick_yes, check_of}
 use Rattle.audit.proofs.Inside.{image-ends}
 use Rattle.audit.proofs.check.Goals as goal
 

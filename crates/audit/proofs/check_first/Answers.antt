@@ -1,5 +1,5 @@
 use Rattle.audit.specs.Names.{Verdict, length, First}
-use Rattle.audit.proofs.Names.{rules, ◌∙◌, ap, sym, first_checked, first_pages}
+use Rattle.audit.proofs.Names.{◌∙◌, ap, sym, first_checked, first_pages}
 use Rattle.audit.proofs.check_first.Goals as goal
 
 pub returns-in-Fault : goal.returns-in-Fault

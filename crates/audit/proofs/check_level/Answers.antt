@@ -1,5 +1,5 @@
-use Rattle.audit.specs.Names.{Verdict, ◌*◌, ◌+◌, ◌-◌, ◌≡◌, ◌≤◌, length, megabytes}
-use Rattle.audit.proofs.Names.{rules, ◌∙◌, ap, refl, sym, arith, level_checked, taken, level_pages}
+use Rattle.audit.specs.Names.{Verdict, ◌≡◌, length, megabytes}
+use Rattle.audit.proofs.Names.{◌∙◌, ap, refl, sym, arith, level_pages}
 use Rattle.audit.proofs.Verdicts.{unequal_refuses, outside_refuses, level_turn, level-stop, level-end, pages-end, memory-refuses, first-is}
 use Rattle.audit.proofs.Verdicts.{first_good}
 use Rattle.audit.proofs.check_level.Goals as goal

@@ -1,5 +1,5 @@
 use Rattle.audit.specs.Names.{◌-◌, index_limit}
-use Rattle.audit.proofs.Names.{rules, not-false, not-true, ◌∙◌, subst, sym, arith, taken, Scanned}
+use Rattle.audit.proofs.Names.{not-false, not-true, ◌∙◌, subst, sym, arith, Scanned}
 use Rattle.audit.proofs.Inside.{inside-from, inside_to, limit-most}
 use Rattle.audit.proofs.Verdicts.{table_outside, table_good, table_unequal}
 use Rattle.audit.proofs.check_table.Goals as goal

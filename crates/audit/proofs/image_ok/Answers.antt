@@ -1,4 +1,4 @@
-use Rattle.audit.proofs.Names.{image_ok, sym, ◌∙◌, and_yes, and_no, eq-eqb, ne_eqb, rules}
+use Rattle.audit.proofs.Names.{image_ok, sym, ◌∙◌, and_yes, and_no, eq-eqb, ne_eqb}
 use Rattle.audit.proofs.image_ok.Goals as goal
 
 pub returns-then-base-ne0 : goal.returns-then-base-ne0

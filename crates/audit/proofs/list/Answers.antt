@@ -1,5 +1,5 @@
 use Rattle.audit.specs.Names.{Inventory, Verdict, length, megabytes}
-use Rattle.audit.proofs.Names.{rules, le-ltb, lt-ltb, ◌∙◌, ap, refl, sym, arith, pick_no, pick_yes, taken, level_pages, inventoried}
+use Rattle.audit.proofs.Names.{le-ltb, lt-ltb, ◌∙◌, ap, refl, sym, arith, pick_no, pick_yes, level_pages, inventoried}
 use Rattle.audit.proofs.Accepts.{accepted_audited}
 use Rattle.audit.proofs.Putting.{put_zero, list-is}
 use Rattle.audit.proofs.list.Goals as goal

@@ -1,5 +1,5 @@
 use Rattle.audit.specs.Names.{Table, ◌*◌, index_limit}
-use Rattle.audit.proofs.Names.{sym, ap, rules}
+use Rattle.audit.proofs.Names.{sym, ap}
 use Rattle.audit.proofs.table_bytes.Goals as goal
 
 pub returns-in-Coarse : goal.returns-in-Coarse

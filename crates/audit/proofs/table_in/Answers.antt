@@ -1,4 +1,4 @@
-use Rattle.audit.proofs.Names.{rules, lt-leb, sym, arith, and_no, table_in, taken}
+use Rattle.audit.proofs.Names.{lt-leb, sym, arith, and_no, table_in}
 use Rattle.audit.proofs.Inside.{table_short, table_fits}
 use Rattle.audit.proofs.table_in.Goals as goal
 

@@ -1,5 +1,5 @@
 use Rattle.builder.specs.Names.{ℕ, Built}
-use Rattle.builder.proofs.Names.{refl, sym, ◌∙◌, ap, not-true, not-false, arith, outcome, rules}
+use Rattle.builder.proofs.Names.{refl, sym, ◌∙◌, ap, not-true, not-false, arith, outcome}
 use Rattle.builder.proofs.Whole.{written_short, written-image}
 use Rattle.builder.proofs.Answers.{answer-memory, answer_record, answer-overlap, answer-long, answer-length, outcome-is}
 use Rattle.builder.proofs.build.Goals as goal

@@ -1,4 +1,4 @@
-use Rattle.builder.proofs.Names.{room_ok, sym, ◌∙◌, and_yes, and_no, eq-eqb, ne_eqb, rules}
+use Rattle.builder.proofs.Names.{room_ok, sym, ◌∙◌, and_yes, and_no, eq-eqb, ne_eqb}
 use Rattle.builder.proofs.room_ok.Goals as goal
 
 pub returns-then-base-ne0 : goal.returns-then-base-ne0

@@ -1,4 +1,4 @@
-use Rattle.parting.proofs.Names.{sym, ◌∙◌, arith, rules, not-true, not-false}
+use Rattle.parting.proofs.Names.{sym, ◌∙◌, arith, not-true, not-false}
 use Rattle.parting.proofs.Owners.{refused-is, in_new, word_in, parted-is}
 use Rattle.parting.proofs.compare.Goals as goal
 

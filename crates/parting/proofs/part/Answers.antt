@@ -1,5 +1,5 @@
 use Rattle.parting.specs.Names.{Owner}
-use Rattle.parting.proofs.Names.{sym, ◌∙◌, arith, rules, not-true, not-false}
+use Rattle.parting.proofs.Names.{sym, ◌∙◌, arith, not-true, not-false}
 use Rattle.parting.proofs.Owners.{part_is, part_good, owner_refused, start-refused, in_new, in_signed}
 use Rattle.parting.proofs.part.Goals as goal
 

@@ -1,7 +1,7 @@
 use lib.ListN.{length-drop}
 use lib.Seq.{take_all}
 use Rattle.parting.specs.Names.{◌-◌, ◌≤◌, drop, length}
-use Rattle.parting.proofs.Names.{refl, arith, rules}
+use Rattle.parting.proofs.Names.{refl, arith}
 use Rattle.parting.proofs.rest.Goals as goal
 
 pub returns : goal.returns

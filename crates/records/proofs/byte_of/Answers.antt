@@ -1,4 +1,3 @@
-use Rattle.records.proofs.Names.{rules}
 use Rattle.records.specs.Mappings.{byte_of}
 use Rattle.records.proofs.byte_of.Goals as goal
 

@@ -1,5 +1,5 @@
 use Rattle.records.specs.Names.{eqb, ℕ, ◌/◌, ◌^◌}
-use Rattle.records.proofs.Names.{holds, low_bits-le, ap, arith, rules}
+use Rattle.records.proofs.Names.{holds, low_bits-le, ap, arith}
 use Rattle.records.proofs.holds.Goals as goal
 
 pub overflow_shr-result : goal.overflow_shr-result

@@ -1,5 +1,5 @@
 use Rattle.records.specs.Names.{take, drop, ℕ, ◌+◌, ◌*◌, ◌≡◌}
-use Rattle.records.proofs.Names.{◌-◌, mapping_of, ◌∙◌, ap, arith, rules}
+use Rattle.records.proofs.Names.{◌-◌, mapping_of, ◌∙◌, ap, arith}
 use Rattle.records.proofs.mapped.Goals as goal
 
 pub returns : goal.returns

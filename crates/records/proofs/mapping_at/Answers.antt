@@ -1,4 +1,4 @@
-use Rattle.records.proofs.Names.{sym, ◌∙◌, rules}
+use Rattle.records.proofs.Names.{sym, ◌∙◌}
 use Rattle.records.proofs.Listed.{mappings_at, mappings_past}
 use Rattle.records.proofs.mapping_at.Goals as goal
 

@@ -1,4 +1,4 @@
-use Rattle.records.proofs.Names.{mapping_of, rules}
+use Rattle.records.proofs.Names.{mapping_of}
 use Rattle.records.proofs.mapping_of.Goals as goal
 
 pub returns : goal.returns

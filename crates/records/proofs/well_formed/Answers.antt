@@ -1,5 +1,5 @@
 use Rattle.records.specs.Names.{ℕ, ◌%◌, ◌^◌, eqb, low_bits, Kind}
-use Rattle.records.proofs.Names.{sym, ap, ap₂, ◌∙◌, arith, bit_or, pow_pos, and_no, low_bits-le, well_formed, lt-leb, rules}
+use Rattle.records.proofs.Names.{sym, ap, ap₂, ◌∙◌, arith, bit_or, and_no, low_bits-le, well_formed, lt-leb}
 use Rattle.records.proofs.Rest.{rest-wrong, type_wrong, rest_past, rest-proper, one_shifted}
 use Rattle.records.proofs.well_formed.Goals as goal
 

@@ -1,5 +1,5 @@
 use Rattle.records.specs.Names.{take, drop, ℕ, ◌+◌, ◌≡◌, word_of}
-use Rattle.records.proofs.Names.{◌-◌, ◌∙◌, ap, arith, rules}
+use Rattle.records.proofs.Names.{◌-◌, ◌∙◌, ap, arith}
 use Rattle.records.proofs.word_at.Goals as goal
 
 pub returns : goal.returns

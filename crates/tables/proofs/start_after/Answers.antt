@@ -1,4 +1,4 @@
-use Rattle.tables.proofs.Names.{start_after, sym, ap, rules}
+use Rattle.tables.proofs.Names.{start_after, sym, ap}
 use Rattle.tables.proofs.start_after.Goals as goal
 
 pub returns-in-Fine : goal.returns-in-Fine

@@ -1,7 +1,6 @@
-use Rattle.audit.specs.Names.{◌+◌, ◌-◌, ◌≡◌, ◌≤◌}
-use Rattle.audit.proofs.Names.{◌∙◌, ap₂, arith, all_are, taken}
+use Rattle.audit.specs.Names.{◌+◌, ◌-◌, ◌≡◌}
+use Rattle.audit.proofs.Names.{◌∙◌, ap₂, arith, all_are}
 use Rattle.audit.proofs.Equal.{all_turn, all_end}
-use mathlib.Core.Bool.{◌&&◌}
 use Rattle.audit.proofs.groups.all_are.Goals as goal
 
 pub loop-k-init : goal.loop-k-init

@@ -1,6 +1,5 @@
 use Rattle.audit.specs.Names.{◌+◌, ◌-◌, ◌≡◌, ◌≤◌}
-use Rattle.audit.proofs.Names.{◌∙◌, ap₂, arith, all_are, taken}
-use Rattle.audit.proofs.Equal.{all_turn, all_end}
+use Rattle.audit.proofs.Names.{all_are}
 use mathlib.Core.Bool.{◌&&◌}
 use Rattle.audit.proofs.groups.all_are.Given as goal
 

@@ -1,6 +1,5 @@
-use Rattle.audit.specs.Names.{Scan, ◌%◌, ◌-◌, ◌≡◌, ◌≤◌, ℕ, Table}
-use Rattle.audit.proofs.Names.{rules, refl, subst, arith, taken, Scanned}
-use Rattle.audit.proofs.Scans.{scanned_none, scanned_more, scanned_stop, count_most, coarse_grouped}
+use Rattle.audit.specs.Names.{Scan, ◌%◌, ◌-◌, ◌≡◌, ◌≤◌, Table}
+use Rattle.audit.proofs.Names.{Scanned}
 use Rattle.audit.proofs.groups.scan_coarse.Given as goal
 
 abbrev pub invariant-loop-j : goal.invariant-loop-j

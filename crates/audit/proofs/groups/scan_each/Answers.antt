@@ -1,5 +1,5 @@
-use Rattle.audit.specs.Names.{Scan, ◌+◌, ◌-◌, ◌<◌, ◌≡◌, ◌≤◌, ℕ}
-use Rattle.audit.proofs.Names.{rules, refl, subst, sym, arith, taken, Scanned}
+use Rattle.audit.specs.Names.{Scan, ◌+◌, ◌<◌, ◌≡◌, ℕ}
+use Rattle.audit.proofs.Names.{refl, subst, sym, arith, Scanned}
 use Rattle.audit.proofs.Equal.{taken_is}
 use Rattle.audit.proofs.Scans.{scanned_none, scanned_more, scanned_word, count_most}
 use Rattle.audit.proofs.groups.scan_each.Goals as goal

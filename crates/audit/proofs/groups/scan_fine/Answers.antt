@@ -1,5 +1,5 @@
-use Rattle.audit.specs.Names.{Scan, ◌%◌, ◌-◌, ◌≡◌, ◌≤◌, ℕ, Table}
-use Rattle.audit.proofs.Names.{rules, refl, subst, arith, taken, Scanned}
+use Rattle.audit.specs.Names.{Scan, ◌≡◌, ℕ, Table}
+use Rattle.audit.proofs.Names.{refl, subst, arith, Scanned}
 use Rattle.audit.proofs.Scans.{scanned_none, scanned_more, scanned_stop, count_most}
 use Rattle.audit.proofs.groups.scan_fine.Goals as goal
 

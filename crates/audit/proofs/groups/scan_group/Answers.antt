@@ -1,6 +1,6 @@
 use Rattle.audit.specs.Names.{◌≡◌, ℕ}
-use Rattle.audit.proofs.Names.{rules, ◌∙◌, ap, sym, arith, all_are, taken, taken_at}
-use Rattle.audit.proofs.Equal.{all_at, all_are_lem, taken_is}
+use Rattle.audit.proofs.Names.{◌∙◌, ap, sym, arith, all_are, taken_at}
+use Rattle.audit.proofs.Equal.{all_at, taken_is}
 use Rattle.audit.proofs.Scans.{scanned_singles, scanned_group, broken_head, singles_broken}
 use Rattle.audit.proofs.groups.scan_group.Goals as goal
 

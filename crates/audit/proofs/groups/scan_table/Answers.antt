@@ -1,5 +1,5 @@
 use Rattle.audit.specs.Names.{◌*◌, index_limit, Table}
-use Rattle.audit.proofs.Names.{rules, ap, subst, sym, arith, Scanned}
+use Rattle.audit.proofs.Names.{ap, subst, sym, arith, Scanned}
 use Rattle.audit.proofs.groups.scan_table.Goals as goal
 
 pub scan_coarse-requires : goal.scan_coarse-requires

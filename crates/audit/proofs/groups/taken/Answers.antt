@@ -1,5 +1,4 @@
 use Rattle.audit.specs.Names.{Table}
-use Rattle.audit.proofs.Names.{rules}
 use Rattle.audit.proofs.Sizes.{takes_none, takes_large, takes_small, coarse_takes_none, fine_takes_tiny, by_table}
 use Rattle.audit.proofs.groups.taken.Goals as goal
 

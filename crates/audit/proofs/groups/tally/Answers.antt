@@ -1,5 +1,5 @@
 use Rattle.audit.specs.Names.{Table}
-use Rattle.audit.proofs.Names.{rules, subst, sym, Tallied}
+use Rattle.audit.proofs.Names.{subst, sym, Tallied}
 use Rattle.audit.proofs.groups.tally.Goals as goal
 
 pub returns-in-Coarse : goal.returns-in-Coarse

@@ -1,4 +1,4 @@
-use Rattle.audit.specs.Names.{◌%◌, ◌-◌, ◌≡◌, ◌≤◌, ℕ, second_of, Table}
+use Rattle.audit.specs.Names.{◌%◌, ◌≡◌, ◌≤◌, ℕ, second_of, Table}
 use Rattle.audit.proofs.Names.{eqb-false, ◌∙◌, ap, subst, sym, arith, taken, taken_at, InRun, PageCount}
 use Rattle.audit.proofs.Scans.{tally-none, tally-more}
 use Rattle.audit.proofs.Sizes.{coarse_single, or_clear}

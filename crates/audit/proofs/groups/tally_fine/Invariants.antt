@@ -1,7 +1,5 @@
-use Rattle.audit.specs.Names.{◌%◌, ◌+◌, ◌-◌, ◌/◌, ◌≡◌, ◌≤◌, ℕ, second_of, Table}
-use Rattle.audit.proofs.Names.{eqb-false, ◌∙◌, ap, subst, sym, arith, taken, taken_at, InRun, PageCount}
-use Rattle.audit.proofs.Scans.{tally-none, tally-more}
-use Rattle.audit.proofs.Sizes.{fine_single, or_clear}
+use Rattle.audit.specs.Names.{◌%◌, ◌-◌, ◌/◌, ◌≡◌, ◌≤◌, ℕ, Table}
+use Rattle.audit.proofs.Names.{taken_at, InRun, PageCount}
 use Rattle.audit.proofs.groups.tally_fine.Given as goal
 
 abbrev pub invariant-loop-k : goal.invariant-loop-k

@@ -1,5 +1,5 @@
 use Rattle.audit.specs.Names.{ℕ, ◌+◌, ◌-◌, ◌≡◌}
-use Rattle.audit.proofs.Names.{◌∙◌, ap, arith, rules}
+use Rattle.audit.proofs.Names.{◌∙◌, ap, arith}
 use Rattle.page.specs.Ground.{take, drop}
 use Rattle.wire.specs.Words.{word_of}
 use Rattle.audit.proofs.groups.word.Goals as goal

@@ -1,6 +1,5 @@
-use Rattle.audit.specs.Names.{◌%◌, ◌-◌, ◌≡◌, ◌≤◌, length, ℕ, Table}
-use Rattle.audit.proofs.Names.{◌∙◌, refl, subst, arith, taken, table_pages, Put}
-use Rattle.audit.proofs.Putting.{listable_next, put_next, put_first}
+use Rattle.audit.specs.Names.{◌%◌, ◌-◌, ◌≡◌, ◌≤◌, length, Table}
+use Rattle.audit.proofs.Names.{table_pages, Put}
 use Rattle.audit.proofs.pages.list_coarse.Given as goal
 
 abbrev pub invariant-loop-j : goal.invariant-loop-j

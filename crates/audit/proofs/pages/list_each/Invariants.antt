@@ -1,8 +1,5 @@
-use Rattle.audit.specs.Names.{◌%◌, ◌+◌, ◌-◌, ◌≡◌, ◌≤◌, length, ℕ}
-use Rattle.audit.proofs.Names.{◌∙◌, ap, refl, subst, arith, taken, taken_at, table_pages, Put}
-use Rattle.audit.proofs.Inside.{limit-most}
-use Rattle.audit.proofs.Putting.{listable_next, put_next, put_first}
-use native.Mathlib.Nat.{mod-one}
+use Rattle.audit.specs.Names.{◌-◌, ◌≡◌, ◌≤◌, length}
+use Rattle.audit.proofs.Names.{table_pages, Put}
 use Rattle.audit.proofs.pages.list_each.Given as goal
 
 abbrev pub invariant-loop-k : goal.invariant-loop-k

@@ -1,5 +1,5 @@
 use Rattle.audit.specs.Names.{length, First, Table}
-use Rattle.audit.proofs.Names.{rules, ap, subst, sym, arith, first_pages, Fits, FirstSound}
+use Rattle.audit.proofs.Names.{ap, subst, sym, arith, first_pages, Fits, FirstSound}
 use Rattle.audit.proofs.Inside.{inside-from}
 use Rattle.audit.proofs.Putting.{put_none, put_same, table_listable}
 use Rattle.audit.proofs.pages.list_first.Goals as goal

@@ -1,5 +1,5 @@
 use Rattle.audit.specs.Names.{◌%◌, ◌≡◌, ℕ}
-use Rattle.audit.proofs.Names.{rules, ◌∙◌, ap, sym, arith, taken, taken_at}
+use Rattle.audit.proofs.Names.{◌∙◌, ap, sym, arith, taken_at}
 use Rattle.audit.proofs.Equal.{taken_is}
 use Rattle.audit.proofs.Putting.{put_same, listable_next, put_first, group_listed, group_singles}
 use Rattle.audit.proofs.pages.list_group.Goals as goal

@@ -1,5 +1,5 @@
-use Rattle.audit.specs.Names.{◌-◌, ◌≡◌, ◌≤◌, length, ℕ, megabytes, records_of, first_of, First, pasted}
-use Rattle.audit.proofs.Names.{rules, ◌∙◌, ap, refl, subst, sym, arith, taken, level_pages, first_pages, FirstListable, Put}
+use Rattle.audit.specs.Names.{◌≡◌, length, ℕ, megabytes, records_of, first_of, First, pasted}
+use Rattle.audit.proofs.Names.{◌∙◌, ap, refl, subst, sym, arith, level_pages, first_pages, FirstListable, Put}
 use Rattle.audit.proofs.Putting.{first_fits, level_put, put_start}
 use Rattle.audit.proofs.pages.list_level.Goals as goal
 

@@ -1,6 +1,5 @@
-use Rattle.audit.specs.Names.{◌-◌, ◌≡◌, ◌≤◌, length, ℕ, megabytes, records_of, first_of, First, pasted}
-use Rattle.audit.proofs.Names.{rules, ◌∙◌, ap, refl, subst, sym, arith, taken, level_pages, first_pages, FirstListable, Put}
-use Rattle.audit.proofs.Putting.{first_fits, level_put, put_start}
+use Rattle.audit.specs.Names.{◌-◌, ◌≡◌, ◌≤◌, length, megabytes}
+use Rattle.audit.proofs.Names.{level_pages, Put}
 use Rattle.audit.proofs.pages.list_level.Given as goal
 
 abbrev pub invariant-loop-i : goal.invariant-loop-i

@@ -1,5 +1,5 @@
 use Rattle.audit.specs.Names.{Table}
-use Rattle.audit.proofs.Names.{rules, sym, taken}
+use Rattle.audit.proofs.Names.{sym}
 use Rattle.audit.proofs.Putting.{put_none, put_same, vacant_pages, coarse_listable}
 use Rattle.audit.proofs.pages.list_wide.Goals as goal
 

@@ -1,5 +1,5 @@
 use Rattle.audit.specs.Names.{List, ◌*◌, ◌+◌, ◌<◌, ◌^◌, length, ℕ, records_of, Mapping, second_of, Found, pasted}
-use Rattle.audit.proofs.Names.{rules, ◌∙◌, ap, refl, subst, sym, arith}
+use Rattle.audit.proofs.Names.{◌∙◌, ap, refl, subst, sym, arith}
 use Rattle.audit.proofs.Inside.{limit-most, word_low}
 use Rattle.audit.proofs.Putting.{put_none, put_same, page-listed, none-listed}
 use Rattle.audit.proofs.pages.list_word.Goals as goal

@@ -1,5 +1,5 @@
 use Rattle.audit.specs.Names.{List, [], ◌%◌, ◌*◌, ◌++◌, ◌+◌, ◌-◌, ◌∷◌, ℕ, pasted}
-use Rattle.audit.proofs.Names.{rules, ◌∙◌, ap, arith, page_mapping}
+use Rattle.audit.proofs.Names.{◌∙◌, ap, arith, page_mapping}
 use Rattle.page.proofs.Slot.{type_of-lt}
 use Rattle.wire.proofs.Pastes.{part_filled}
 use Rattle.wire.specs.Words.{bytes_of}

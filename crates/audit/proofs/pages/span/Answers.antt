@@ -1,5 +1,5 @@
 use Rattle.audit.specs.Names.{Table, ◌^◌, word_bits}
-use Rattle.audit.proofs.Names.{sym, ap, rules}
+use Rattle.audit.proofs.Names.{sym, ap}
 use Rattle.audit.proofs.pages.span.Goals as goal
 
 pub returns-in-Coarse : goal.returns-in-Coarse

@@ -1,5 +1,5 @@
-use Rattle.audit.specs.Names.{◌%◌, ◌+◌, ◌-◌, ◌≡◌, ◌≤◌, ℕ}
-use Rattle.audit.proofs.Names.{eqb-true, ◌∙◌, ap, sym, arith, table_word, InRun}
+use Rattle.audit.specs.Names.{◌%◌, ◌+◌, ◌≡◌, ℕ}
+use Rattle.audit.proofs.Names.{eqb-true, ◌∙◌, ap, sym, arith, table_word}
 use Rattle.audit.proofs.Scans.{in_both}
 use Rattle.audit.proofs.Sizes.{or_clear}
 use Rattle.audit.proofs.pages.vacant.Goals as goal

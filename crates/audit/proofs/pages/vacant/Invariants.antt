@@ -1,7 +1,5 @@
-use Rattle.audit.specs.Names.{◌%◌, ◌+◌, ◌-◌, ◌≡◌, ◌≤◌, ℕ}
-use Rattle.audit.proofs.Names.{eqb-true, ◌∙◌, ap, sym, arith, table_word, InRun}
-use Rattle.audit.proofs.Scans.{in_both}
-use Rattle.audit.proofs.Sizes.{or_clear}
+use Rattle.audit.specs.Names.{◌%◌, ◌-◌, ◌≡◌, ◌≤◌, ℕ}
+use Rattle.audit.proofs.Names.{table_word, InRun}
 use Rattle.audit.proofs.pages.vacant.Given as goal
 
 abbrev pub invariant-loop-k : goal.invariant-loop-k

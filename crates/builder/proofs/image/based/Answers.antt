@@ -1,4 +1,4 @@
-use Rattle.builder.proofs.Names.{sym, eq-eqb, ne_eqb, rules, pick_yes, pick_no, based}
+use Rattle.builder.proofs.Names.{sym, eq-eqb, ne_eqb, pick_yes, pick_no, based}
 use Rattle.builder.proofs.image.based.Goals as goal
 
 pub returns-then-w-eq0 : goal.returns-then-w-eq0

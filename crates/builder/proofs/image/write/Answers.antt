@@ -1,5 +1,5 @@
 use Rattle.builder.specs.Names.{ℕ, ◌/◌, ◌≤◌, length, megabytes, mappings, image_length, spliced}
-use Rattle.builder.proofs.Names.{sym, ap, ◌∙◌, arith, rules, written, spliced_same}
+use Rattle.builder.proofs.Names.{sym, ap, ◌∙◌, arith, written, spliced_same}
 use Rattle.builder.proofs.Whole.{written_short, written-image}
 use Rattle.builder.proofs.Levels.{level-more}
 use Rattle.builder.proofs.Parts.{first-none, image-begun, image-done}

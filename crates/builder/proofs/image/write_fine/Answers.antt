@@ -1,5 +1,5 @@
 use Rattle.builder.specs.Names.{Second}
-use Rattle.builder.proofs.Names.{refl, arith, Kind, rules}
+use Rattle.builder.proofs.Names.{refl, arith, Kind}
 use Rattle.builder.proofs.Runs.{own_count, page_turn}
 use Rattle.builder.proofs.image.write_fine.Goals as goal
 

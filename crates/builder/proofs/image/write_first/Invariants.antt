@@ -1,8 +1,5 @@
 use Rattle.builder.specs.Names.{◌≡◌, ℕ, ◌%◌, ◌<◌, ◌≤◌, ◌-◌, length, get_or, megabytes}
-use Rattle.builder.proofs.Names.{refl, ap, ◌∙◌, arith, rules, length-set, based}
-use Rattle.builder.proofs.Levels.{words_more}
-use Rattle.wire.specs.Words.{word_bytes}
-use Rattle.wire.proofs.Splices.{rest-bytes, words_fit}
+use Rattle.builder.proofs.Names.{based}
 use Rattle.builder.proofs.image.write_first.Given as goal
 
 abbrev pub invariant-loop-k : goal.invariant-loop-k

@@ -1,5 +1,5 @@
 use Rattle.builder.specs.Names.{◌/◌, ◌^◌, megabytes, mappings, Second, table_of, table_start}
-use Rattle.builder.proofs.Names.{refl, arith, rules}
+use Rattle.builder.proofs.Names.{refl, arith}
 use Rattle.builder.proofs.Levels.{start_even, names_fine, names_coarse, names_none, fine-room, coarse-room}
 use Rattle.builder.proofs.Parts.{mapping_past, mapping_section, mapping-page}
 use Rattle.builder.proofs.image.write_mapping.Goals as goal

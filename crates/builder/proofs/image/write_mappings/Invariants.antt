@@ -1,6 +1,5 @@
-use Rattle.builder.specs.Names.{◌≡◌, List, [], ℕ, ◌+◌, ◌/◌, ◌≤◌, ◌-◌, length, drop, megabytes, mappings, image_length, spliced}
-use Rattle.builder.proofs.Names.{refl, sym, ap, ◌∙◌, subst, arith, part_word, Firsts, Level}
-use Rattle.builder.proofs.Parts.{filled-start, filled-end}
+use Rattle.builder.specs.Names.{◌≡◌, List, [], ℕ, ◌/◌, ◌≤◌, length, drop, megabytes, mappings, image_length, spliced}
+use Rattle.builder.proofs.Names.{part_word, Firsts}
 use Rattle.builder.proofs.image.write_mappings.Given as goal
 
 abbrev pub invariant-loop-j : goal.invariant-loop-j

@@ -1,4 +1,4 @@
-use Rattle.builder.proofs.Names.{sym, rules}
+use Rattle.builder.proofs.Names.{sym}
 use Rattle.builder.proofs.Nothing.{none-length, none_short, none_written}
 use Rattle.builder.proofs.image.write_none.Goals as goal
 

@@ -1,4 +1,4 @@
-use Rattle.builder.proofs.Names.{◌∙◌, rules}
+use Rattle.builder.proofs.Names.{◌∙◌}
 use Rattle.wire.proofs.Splices.{run_fits}
 use Rattle.builder.proofs.image.write_run.Goals as goal
 

@@ -1,5 +1,5 @@
 use Rattle.builder.specs.Names.{Bool, ◌+◌, get_or, has_table}
-use Rattle.builder.proofs.Names.{ap, ◌∙◌, false, rules, ◌or◌}
+use Rattle.builder.proofs.Names.{ap, ◌∙◌, false, ◌or◌}
 use Rattle.tables.proofs.Notes.{or_is}
 use Rattle.builder.proofs.places.has_table.Goals as goal
 

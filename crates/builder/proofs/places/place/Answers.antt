@@ -1,7 +1,6 @@
-use Rattle.builder.specs.Names.{◌≡◌, ◌≤◌, ◌-◌, length, megabytes}
 use Rattle.builder.proofs.Names.{sym, ◌∙◌, arith, length-set, not-true, start-le, size_le}
 use Rattle.tables.proofs.Notes.{no_table}
-use Rattle.builder.proofs.Levels.{Begun, begun-none, begun_skip, begun_more, placed}
+use Rattle.builder.proofs.Levels.{begun-none, begun_skip, begun_more, placed}
 use Rattle.builder.proofs.places.place.Goals as goal
 
 pub overflow_mul-e : goal.overflow_mul-e

@@ -1,7 +1,5 @@
 use Rattle.builder.specs.Names.{◌≡◌, ◌≤◌, ◌-◌, length, megabytes}
-use Rattle.builder.proofs.Names.{sym, ◌∙◌, arith, length-set, not-true, start-le, size_le}
-use Rattle.tables.proofs.Notes.{no_table}
-use Rattle.builder.proofs.Levels.{Begun, begun-none, begun_skip, begun_more, placed}
+use Rattle.builder.proofs.Levels.{Begun}
 use Rattle.builder.proofs.places.place.Given as goal
 
 abbrev pub invariant-loop-i : goal.invariant-loop-i

@@ -1,5 +1,5 @@
 use Rattle.builder.specs.Names.{table_by}
-use Rattle.builder.proofs.Names.{sym, ◌∙◌, rules, pick_yes, pick_no}
+use Rattle.builder.proofs.Names.{sym, ◌∙◌, pick_yes, pick_no}
 use Rattle.page.proofs.Picks.{or_yes, or_no}
 use Rattle.builder.proofs.places.table_by.Goals as goal
 

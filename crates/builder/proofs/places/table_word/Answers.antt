@@ -1,5 +1,5 @@
 use Rattle.builder.specs.Names.{Held, Second, first_by}
-use Rattle.builder.proofs.Names.{sym, ap, rules}
+use Rattle.builder.proofs.Names.{sym, ap}
 use Rattle.builder.proofs.places.table_word.Goals as goal
 
 pub returns-in-Fine : goal.returns-in-Fine

@@ -1,6 +1,6 @@
 use Rattle.parting.specs.Spans.{block}
-use Rattle.parting.specs.Names.{◌+◌, ◌-◌, ◌≡◌, ◌≤◌}
-use Rattle.parting.proofs.Names.{arith, differing}
+use Rattle.parting.specs.Names.{◌+◌}
+use Rattle.parting.proofs.Names.{arith}
 use Rattle.parting.proofs.Counting.{count-both, differing-few}
 use Rattle.parting.proofs.words.differing.Goals as goal
 

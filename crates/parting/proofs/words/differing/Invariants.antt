@@ -1,7 +1,5 @@
-use Rattle.parting.specs.Spans.{block}
 use Rattle.parting.specs.Names.{◌+◌, ◌-◌, ◌≡◌, ◌≤◌}
-use Rattle.parting.proofs.Names.{arith, differing}
-use Rattle.parting.proofs.Counting.{count-both, differing-few}
+use Rattle.parting.proofs.Names.{differing}
 use Rattle.parting.proofs.words.differing.Given as goal
 
 abbrev pub invariant-loop-j : goal.invariant-loop-j

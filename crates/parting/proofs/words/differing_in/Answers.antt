@@ -1,4 +1,4 @@
-use Rattle.parting.specs.Names.{◌+◌, ◌-◌, ◌≡◌, ◌≤◌}
+use Rattle.parting.specs.Names.{◌+◌, ◌≡◌}
 use Rattle.parting.proofs.Names.{ap, sym, ◌∙◌, arith, differing}
 use Rattle.parting.proofs.Counting.{byte-few, count_next}
 use Rattle.parting.proofs.words.differing_in.Goals as goal

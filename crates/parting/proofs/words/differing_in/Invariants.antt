@@ -1,6 +1,5 @@
 use Rattle.parting.specs.Names.{◌+◌, ◌-◌, ◌≡◌, ◌≤◌}
-use Rattle.parting.proofs.Names.{ap, sym, ◌∙◌, arith, differing}
-use Rattle.parting.proofs.Counting.{byte-few, count_next}
+use Rattle.parting.proofs.Names.{differing}
 use Rattle.parting.proofs.words.differing_in.Given as goal
 
 abbrev pub invariant-loop-i : goal.invariant-loop-i

@@ -1,5 +1,5 @@
 use Rattle.parting.specs.Names.{ℕ, List, ◌+◌, ◌-◌, ◌*◌, ◌≡◌, not, eqb, take, drop}
-use Rattle.parting.proofs.Names.{◌∙◌, ap, ap₂, arith, rules}
+use Rattle.parting.proofs.Names.{◌∙◌, ap, ap₂, arith}
 use Rattle.wire.specs.Words.{word_of}
 use Rattle.parting.proofs.words.differs_at.Goals as goal
 

@@ -1,4 +1,4 @@
-use Rattle.parting.specs.Names.{◌-◌, ◌≡◌, ◌≤◌}
+use Rattle.parting.specs.Names.{◌-◌, ◌≡◌}
 use Rattle.parting.proofs.Names.{ap, sym, ◌∙◌, refl, arith, first_differing}
 use Rattle.parting.proofs.Counting.{first_here, first_next, first-none}
 use Rattle.parting.proofs.words.first_differing.Goals as goal

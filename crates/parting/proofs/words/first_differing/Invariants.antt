@@ -1,6 +1,5 @@
 use Rattle.parting.specs.Names.{◌-◌, ◌≡◌, ◌≤◌}
-use Rattle.parting.proofs.Names.{ap, sym, ◌∙◌, refl, arith, first_differing}
-use Rattle.parting.proofs.Counting.{first_here, first_next, first-none}
+use Rattle.parting.proofs.Names.{first_differing}
 use Rattle.parting.proofs.words.first_differing.Given as goal
 
 abbrev pub invariant-loop-j : goal.invariant-loop-j

@@ -1,5 +1,5 @@
 use Rattle.parting.specs.Spans.{block}
-use Rattle.parting.specs.Names.{◌-◌, ◌≡◌, ◌≤◌}
+use Rattle.parting.specs.Names.{◌-◌, ◌≡◌}
 use Rattle.parting.proofs.Names.{ap, sym, ◌∙◌, arith, first_differing}
 use Rattle.parting.proofs.Counting.{first-behind}
 use Rattle.parting.proofs.words.parting_word.Goals as goal

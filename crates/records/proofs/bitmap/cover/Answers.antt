@@ -1,4 +1,3 @@
-use Rattle.records.proofs.Names.{rules}
 use Rattle.records.proofs.Regions.{cover_section, cover_large, cover_small, cover_tiny}
 use Rattle.records.proofs.bitmap.cover.Goals as goal
 

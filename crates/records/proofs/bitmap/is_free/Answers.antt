@@ -1,5 +1,4 @@
 use Rattle.records.specs.Names.{◌/◌}
-use Rattle.records.proofs.Names.{rules}
 use Rattle.records.proofs.Regions.{free_section, free_large, free_small, free_tiny}
 use Rattle.records.proofs.bitmap.is_free.Goals as goal
 

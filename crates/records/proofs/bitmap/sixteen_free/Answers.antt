@@ -1,5 +1,5 @@
-use Rattle.records.specs.Names.{◌+◌, ◌*◌, ◌≤◌}
-use Rattle.records.proofs.Names.{◌-◌, arith, Untaken}
+use Rattle.records.specs.Names.{◌+◌, ◌*◌}
+use Rattle.records.proofs.Names.{arith}
 use Rattle.records.proofs.Runs.{clear_word, clear_part, clear_turn}
 use Rattle.records.proofs.bitmap.sixteen_free.Goals as goal
 

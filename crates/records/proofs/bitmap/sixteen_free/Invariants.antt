@@ -1,6 +1,5 @@
-use Rattle.records.specs.Names.{◌+◌, ◌*◌, ◌≤◌}
-use Rattle.records.proofs.Names.{◌-◌, arith, Untaken}
-use Rattle.records.proofs.Runs.{clear_word, clear_part, clear_turn}
+use Rattle.records.specs.Names.{◌*◌, ◌≤◌}
+use Rattle.records.proofs.Names.{◌-◌, Untaken}
 use Rattle.records.proofs.bitmap.sixteen_free.Given as goal
 
 abbrev pub invariant-loop-j : goal.invariant-loop-j

@@ -1,5 +1,5 @@
-use Rattle.records.specs.Names.{ℕ, ◌*◌, ◌≤◌, ◌≡◌, length}
-use Rattle.records.proofs.Names.{◌-◌, sym, ◌∙◌, subst, arith, length-set, Full}
+use Rattle.records.specs.Names.{ℕ, ◌*◌, ◌≡◌}
+use Rattle.records.proofs.Names.{subst, arith, length-set, Full}
 use Rattle.records.proofs.Runs.{full-none, full_turn}
 use Rattle.records.proofs.bitmap.sixteen_full.Goals as goal
 

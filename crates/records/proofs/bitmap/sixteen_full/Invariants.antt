@@ -1,6 +1,5 @@
-use Rattle.records.specs.Names.{ℕ, ◌*◌, ◌≤◌, ◌≡◌, length}
-use Rattle.records.proofs.Names.{◌-◌, sym, ◌∙◌, subst, arith, length-set, Full}
-use Rattle.records.proofs.Runs.{full-none, full_turn}
+use Rattle.records.specs.Names.{◌*◌, ◌≤◌, ◌≡◌, length}
+use Rattle.records.proofs.Names.{◌-◌, Full}
 use Rattle.records.proofs.bitmap.sixteen_full.Given as goal
 
 abbrev pub invariant-loop-k : goal.invariant-loop-k

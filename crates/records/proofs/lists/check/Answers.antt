@@ -1,9 +1,9 @@
-use Rattle.records.specs.Names.{megabytes, ◌≡◌, ◌*◌, ◌≤◌, length}
-use Rattle.records.proofs.Names.{refl, sym, ◌∙◌, arith, ◌-◌, Blank}
+use Rattle.records.specs.Names.{megabytes}
+use Rattle.records.proofs.Names.{refl, sym, ◌∙◌, arith}
 use Rattle.records.proofs.Notes.{same_at}
-use Rattle.records.proofs.Refusals.{whole, Left, left_none, left_bad, left_clash, left_more, left_end}
-use Rattle.records.proofs.Taken.{Marks, marks_none, read_is, read_below, overlap_says, marks_turn}
-use Rattle.records.proofs.Noted.{Notes, notes_none, notes_more, notes_end, bad-not-fine, overlap-not-fine}
+use Rattle.records.proofs.Refusals.{whole, left_none, left_bad, left_clash, left_more, left_end}
+use Rattle.records.proofs.Taken.{marks_none, read_is, read_below, overlap_says, marks_turn}
+use Rattle.records.proofs.Noted.{notes_none, notes_more, notes_end, bad-not-fine, overlap-not-fine}
 use Rattle.records.proofs.lists.check.Goals as goal
 
 pub returns-then-len-eq0 : goal.returns-then-len-eq0

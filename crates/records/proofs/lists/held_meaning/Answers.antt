@@ -1,5 +1,5 @@
 use Rattle.records.specs.Names.{Meaning}
-use Rattle.records.proofs.Names.{held_meaning, sym, ◌∙◌, ap, pick_yes, pick_no, rules}
+use Rattle.records.proofs.Names.{held_meaning, sym, ◌∙◌, ap, pick_yes, pick_no}
 use Rattle.records.proofs.lists.held_meaning.Goals as goal
 
 pub returns-then-permitted : goal.returns-then-permitted

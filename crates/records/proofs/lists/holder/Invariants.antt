@@ -1,6 +1,6 @@
 use Rattle.records.specs.Names.{◌≡◌, ◌≤◌, List, length, Mapping}
-use Rattle.records.proofs.Names.{sym, ◌∙◌, pick_yes, pick_no, arith, ◌-◌, mappings, holder, rules}
-use Rattle.records.proofs.Scan.{Rest, rest-none, rest_at, rest_end}
+use Rattle.records.proofs.Names.{◌-◌, mappings, holder}
+use Rattle.records.proofs.Scan.{Rest}
 use Rattle.records.proofs.lists.holder.Given as goal
 
 abbrev pub invariant-loop-j : goal.invariant-loop-j

@@ -1,5 +1,5 @@
 use Rattle.records.specs.Names.{take, drop, ℕ, ◌+◌, ◌*◌, megabytes, ◌≡◌, false}
-use Rattle.records.proofs.Names.{◌-◌, well_formed, sym, ◌∙◌, ap, arith, rules}
+use Rattle.records.proofs.Names.{◌-◌, well_formed, sym, ◌∙◌, ap, arith}
 use Rattle.records.proofs.Refusals.{bad_past, bad-rest, short}
 use Rattle.records.proofs.lists.is_bad.Goals as goal
 

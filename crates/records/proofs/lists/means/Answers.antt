@@ -1,4 +1,4 @@
-use Rattle.records.proofs.Names.{held_meaning, ◌∙◌, ap, rules}
+use Rattle.records.proofs.Names.{held_meaning, ◌∙◌, ap}
 use Rattle.records.specs.Meanings.{meaning}
 use Rattle.records.proofs.lists.means.Goals as goal
 

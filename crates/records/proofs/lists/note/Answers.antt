@@ -1,5 +1,5 @@
 use Rattle.records.specs.Names.{true, ℕ, ◌*◌, ◌+◌, ◌/◌, set}
-use Rattle.records.proofs.Names.{ap, arith, rules}
+use Rattle.records.proofs.Names.{ap, arith}
 use Rattle.records.proofs.Notes.{type_lt}
 use Rattle.records.proofs.lists.note.Goals as goal
 

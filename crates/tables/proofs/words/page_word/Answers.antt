@@ -1,4 +1,4 @@
-use Rattle.tables.proofs.Names.{arith, rules}
+use Rattle.tables.proofs.Names.{arith}
 use Rattle.page.proofs.Slot.{start-room, type_of-lt}
 use Rattle.tables.proofs.words.page_word.Goals as goal
 

@@ -1,5 +1,5 @@
 use Rattle.tables.specs.Names.{upper}
-use Rattle.tables.proofs.Names.{arith, rules}
+use Rattle.tables.proofs.Names.{arith}
 use Rattle.tables.proofs.words.section_word.Goals as goal
 
 pub overflow_add-result : goal.overflow_add-result

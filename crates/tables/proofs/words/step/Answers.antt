@@ -1,5 +1,5 @@
 use Rattle.tables.specs.Names.{◌^◌}
-use Rattle.tables.proofs.Names.{step_bits, sym, ap, rules}
+use Rattle.tables.proofs.Names.{step_bits, sym, ap}
 use Rattle.tables.proofs.words.step.Goals as goal
 
 pub returns-in-Fine : goal.returns-in-Fine

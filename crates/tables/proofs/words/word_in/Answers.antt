@@ -1,5 +1,5 @@
 use Rattle.tables.specs.Names.{ℕ, ◌/◌}
-use Rattle.tables.proofs.Names.{pow_pos, step_bits, ap₂, arith, rules}
+use Rattle.tables.proofs.Names.{ap₂}
 use Rattle.tables.proofs.words.word_in.Goals as goal
 
 pub returns : goal.returns
