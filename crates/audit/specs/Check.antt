@@ -1,5 +1,6 @@
 -- What the check of an image answers (02, P4): 4; then 17 and 18 with the address of the first refused word, in first-level order and then by index.
-use Rattle.audit.specs.Names.{ℕ, zero, suc, ◌+◌, ◌-◌, ◌*◌, ◌%◌, ◌^◌, Bool, not, List, eqb, leb, ltb, length, ◌and◌, pick, physical, memory_ok, word_at}
+use Rattle.std.specs.Prelude.{◌+◌, ◌-◌, ◌*◌, ◌%◌, ◌^◌}
+use Rattle.audit.specs.Names.{ℕ, zero, suc, Bool, not, List, eqb, leb, ltb, length, ◌and◌, pick, physical, memory_ok, word_at}
 use Rattle.audit.specs.Names.{First, Table, first_of, index_limit, base_bits, Verdict}
 use Rattle.audit.specs.Groups.{broken}
 use Rattle.audit.specs.Pages.{pages_in}

@@ -1,5 +1,6 @@
 -- The groups of a table's words (02, P4): a large or small page's word stands equal over its whole aligned group.
-use Rattle.audit.specs.Names.{ℕ, zero, suc, ◌+◌, ◌*◌, ◌/◌, Bool, true, not, List, eqb, ◌and◌, word_at, Found, Table, second_of, repeats}
+use Rattle.std.specs.Prelude.{◌+◌, ◌*◌, ◌/◌}
+use Rattle.audit.specs.Names.{ℕ, zero, suc, Bool, true, not, List, eqb, ◌and◌, word_at, Found, Table, second_of, repeats}
 
 -- word j of the table at an offset of a memory
 abbrev pub table_word : List ℕ → ℕ → ℕ → ℕ

@@ -1,5 +1,6 @@
 -- What listing an image answers, and what it leaves in the lent list (02, P4): the check's refusals, then 12 with the number of pages.
-use Rattle.audit.specs.Names.{ℕ, ◌*◌, List, ◌++◌, ltb, length, drop, pick, record_size, records_of, Verdict, Inventory}
+use Rattle.std.specs.Prelude.{◌*◌, ◌++◌}
+use Rattle.audit.specs.Names.{ℕ, List, ltb, length, drop, pick, record_size, records_of, Verdict, Inventory}
 use Rattle.audit.specs.Pages.{pages_in}
 use Rattle.audit.specs.Check.{check_of}
 

@@ -1,11 +1,12 @@
 -- What the definitions of this crate are written with.
+pub use Rattle.std.specs.Prelude.{◌%◌, ◌*◌, ◌++◌, ◌+◌, ◌-◌, ◌/◌, ◌<◌, ◌^◌, ◌∷◌, ◌≡◌, ◌≤◌}
 pub use Rattle.audit.specs.declared.Inventory.{Inventory}
 pub use Rattle.audit.specs.declared.Scan.{Scan}
 pub use Rattle.audit.specs.declared.Tally.{Tally}
 pub use Rattle.audit.specs.declared.Verdict.{Verdict}
 unfoldable pub use Rattle.memory.specs.Memory.{memory_ok}
 pub use Rattle.memory.specs.Memory.{Lent, LentAt, lent_alone, lent_ok}
-pub use Rattle.page.specs.Ground.{Bool, List, [], ◌%◌, ◌*◌, ◌++◌, ◌+◌, ◌-◌, ◌/◌, ◌<◌, ◌^◌, ◌∷◌, ◌≡◌, ◌≤◌, drop, eqb, false, leb, length, ltb, not, suc, true}
+pub use Rattle.page.specs.Ground.{Bool, List, [], drop, eqb, false, leb, length, ltb, not, suc, true}
 pub use Rattle.page.specs.Ground.{zero, ℕ}
 unfoldable pub use Rattle.page.specs.Pick.{◌and◌, pick}
 pub use Rattle.page.specs.Words.{limit, megabytes, physical, virtual}

@@ -1,5 +1,6 @@
 -- The pages of an image as mappings, in rising virtual order, one for each page (02, P4).
-use Rattle.audit.specs.Names.{ℕ, zero, suc, ◌+◌, ◌-◌, ◌*◌, ◌%◌, ◌^◌, List, [], ◌∷◌, ◌++◌, eqb, pick, virtual, word_at, Page, First, Found, Table}
+use Rattle.std.specs.Prelude.{◌+◌, ◌-◌, ◌*◌, ◌%◌, ◌^◌, ◌∷◌, ◌++◌}
+use Rattle.audit.specs.Names.{ℕ, zero, suc, List, [], eqb, pick, virtual, word_at, Page, First, Found, Table}
 use Rattle.audit.specs.Names.{first_of, second_of, index_limit, repeats, word_bits, Mapping}
 use Rattle.audit.specs.Groups.{table_word}
 

@@ -1,5 +1,6 @@
 -- What the code puts into a lent list, record by record.
-use Rattle.audit.specs.Names.{ℕ, ◌+◌, ◌-◌, ◌*◌, ◌%◌, ◌<◌, ◌≤◌, ◌≡◌, true, List, length, pasted, record_size, records_of, Mapping, Table, First}
+use Rattle.std.specs.Prelude.{◌+◌, ◌-◌, ◌*◌, ◌%◌, ◌<◌, ◌≤◌, ◌≡◌}
+use Rattle.audit.specs.Names.{ℕ, true, List, length, pasted, record_size, records_of, Mapping, Table, First}
 use Rattle.audit.specs.Names.{index_limit, megabytes, first_of, word_at}
 use Rattle.audit.specs.Groups.{taken_at}
 use Rattle.audit.specs.Pages.{table_pages, first_pages, level_pages}

@@ -1,5 +1,6 @@
 -- What the code finds in a run of a table's words, n from word j on.
-use Rattle.audit.specs.Names.{ℕ, ◌+◌, ◌-◌, ◌*◌, ◌%◌, ◌<◌, ◌≤◌, ◌≡◌, true, false, List, length, Table, second_of, Scan, Tally}
+use Rattle.std.specs.Prelude.{◌+◌, ◌-◌, ◌*◌, ◌%◌, ◌<◌, ◌≤◌, ◌≡◌}
+use Rattle.audit.specs.Names.{ℕ, true, false, List, length, Table, second_of, Scan, Tally}
 use Rattle.audit.specs.Groups.{taken, taken_at, broken}
 use Rattle.audit.specs.Pages.{table_pages}
 

@@ -1,5 +1,6 @@
 -- What the laws of this crate say (02, P4): which images are accepted, and that the plain walk finds what the listed pages say.
-use Rattle.audit.specs.Names.{ℕ, ◌+◌, ◌*◌, ◌<◌, ◌≤◌, ◌≡◌, true, List, length, limit, megabytes, word_at, First, Found, Table, first_of, index_limit, Verdict}
+use Rattle.std.specs.Prelude.{◌+◌, ◌*◌, ◌<◌, ◌≤◌, ◌≡◌}
+use Rattle.audit.specs.Names.{ℕ, true, List, length, limit, megabytes, word_at, First, Found, Table, first_of, index_limit, Verdict}
 use Rattle.audit.specs.Names.{VirtualAddress, Lent, lent_ok, lent_alone, LentAt, Held, holder, AllRepeated, Uniform, look_in, read_in}
 use Rattle.audit.specs.Pages.{pages_in}
 use Rattle.audit.specs.Check.{image_ok, check_of}

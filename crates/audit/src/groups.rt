@@ -1,5 +1,6 @@
 // The words of a table: how many pages they say, or the first whose group is not all equal.
-ghost use Rattle.audit.specs.Names.{◌≡◌, ◌+◌, ◌*◌, ◌%◌, ◌≤◌, length, word_at, index_limit, second_of, Table};
+ghost use Rattle.std.specs.Prelude.{◌≡◌, ◌+◌, ◌*◌, ◌%◌, ◌≤◌};
+ghost use Rattle.audit.specs.Names.{length, word_at, index_limit, second_of, Table};
 ghost use Rattle.audit.specs.Groups.{taken, all_are};
 ghost use Rattle.audit.specs.Runs.{Scanned, Tallied, BrokenOver, Grouped};
 

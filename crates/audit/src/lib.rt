@@ -3,7 +3,8 @@
 mod groups;
 mod pages;
 
-ghost use Rattle.audit.specs.Names.{◌≡◌, ◌+◌, ◌-◌, ◌*◌, ◌<◌, ◌≤◌, ◌^◌, length, megabytes, index_limit, Verdict};
+ghost use Rattle.std.specs.Prelude.{◌≡◌, ◌+◌, ◌-◌, ◌*◌, ◌<◌, ◌≤◌, ◌^◌};
+ghost use Rattle.audit.specs.Names.{length, megabytes, index_limit, Verdict};
 ghost use Rattle.audit.specs.Check.{image_ok, table_in, table_checked, first_checked, level_checked, check_of};
 ghost use Rattle.audit.specs.Pages.{table_pages, first_pages, level_pages};
 ghost use Rattle.audit.specs.List.{inventoried, list_of};

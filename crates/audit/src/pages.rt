@@ -1,5 +1,6 @@
 // The pages of an image, a record for each.
-ghost use Rattle.audit.specs.Names.{◌≡◌, ℕ, ◌+◌, ◌*◌, ◌%◌, ◌^◌, ◌<◌, ◌≤◌, [], ◌∷◌, true, length, word_bits, index_limit, records_of, record_size, pasted};
+ghost use Rattle.std.specs.Prelude.{◌≡◌, ◌+◌, ◌*◌, ◌%◌, ◌^◌, ◌<◌, ◌≤◌, ◌∷◌};
+ghost use Rattle.audit.specs.Names.{ℕ, [], true, length, word_bits, index_limit, records_of, record_size, pasted};
 ghost use Rattle.audit.specs.Names.{megabytes, Table};
 ghost use Rattle.audit.specs.Groups.{table_word, taken_at};
 ghost use Rattle.audit.specs.Pages.{page_mapping, table_pages, first_pages, level_pages};

@@ -1,5 +1,6 @@
 -- The lanes of the slots in place: the words, and the ends of the span that each slot matches.
-use Rattle.bank.specs.Names.{ℕ, ◌≡◌, List, length, Bank}
+use Rattle.std.specs.Prelude.{◌≡◌}
+use Rattle.bank.specs.Names.{ℕ, List, length, Bank}
 use Rattle.bank.specs.Spans.{low_of, high_of, Ends}
 
 -- a bank of its parts

@@ -1,5 +1,6 @@
 -- The page numbers (address bits 23:10) that a slot matches, from its lowest to its highest, and the search over them.
-use Rattle.bank.specs.Names.{ℕ, zero, suc, ◌+◌, ◌*◌, ◌/◌, ◌%◌, ◌<◌, ◌≡◌, Bool, List, eqb, leb, get_or, pick, ◌and◌, Matched}
+use Rattle.std.specs.Prelude.{◌+◌, ◌*◌, ◌/◌, ◌%◌, ◌<◌, ◌≡◌}
+use Rattle.bank.specs.Names.{ℕ, zero, suc, Bool, List, eqb, leb, get_or, pick, ◌and◌, Matched}
 
 -- by the type of a word, one of four
 abbrev pub by_type : ℕ → ℕ → ℕ → ℕ → ℕ → ℕ

@@ -1,5 +1,6 @@
 -- Which slot a fill takes (01, "The walk").
-use Rattle.bank.specs.Names.{ℕ, ◌+◌, ltb, pick, slots}
+use Rattle.std.specs.Prelude.{◌+◌}
+use Rattle.bank.specs.Names.{ℕ, ltb, pick, slots}
 
 -- a fill takes the larger of victim and lock base
 unfoldable pub next_slot : ℕ → ℕ → ℕ

@@ -2,7 +2,7 @@
 // The slots as two lanes of register words, with the lock base and the victim.
 pub mod slots;
 
-ghost use Rattle.bank.specs.Names.{◌≡◌};
+ghost use Rattle.std.specs.Prelude.{◌≡◌};
 ghost use Rattle.bank.specs.Slots.{bank_ok, fresh_bank};
 ghost use Rattle.bank.specs.Victim.{next_slot, next_victim};
 

@@ -1,5 +1,6 @@
 // The slots in place: the lowest and the highest page number that each matches beside its words, the search over them, and
-ghost use Rattle.bank.specs.Names.{◌≡◌, ◌<◌, ltb, pick, flushed_all, flushed_entry};
+ghost use Rattle.std.specs.Prelude.{◌≡◌, ◌<◌};
+ghost use Rattle.bank.specs.Names.{ltb, pick, flushed_all, flushed_entry};
 ghost use Rattle.bank.specs.Slots.{fresh_bank};
 ghost use Rattle.bank.specs.Changes.{stored_at, entry_filled};
 ghost use Rattle.bank.specs.Spans.{low_of, high_of, in_span, sought, Ends, low_kept, high_kept, EndsKept};

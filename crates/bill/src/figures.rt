@@ -1,5 +1,5 @@
 // The bill's figures: which are finite, and the smoothing of misses.
-ghost use Rattle.bill.specs.Names.{◌≡◌};
+ghost use Rattle.std.specs.Prelude.{◌≡◌};
 ghost use Rattle.bill.specs.Figures.{finite, miss_figure, smoothed};
 
 // Whether a figure is neither infinite nor NaN.

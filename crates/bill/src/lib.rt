@@ -2,7 +2,7 @@
 // The walk bill: a running total and a smoothed miss figure in f64, and what it keeps of each memory.
 mod figures;
 
-ghost use Rattle.bill.specs.Names.{◌≡◌};
+ghost use Rattle.std.specs.Prelude.{◌≡◌};
 ghost use Rattle.bill.specs.Bill.{bill_ok, word_posted, attempt_posted, seen_posted, fresh_bill};
 
 use memory::{Place, Source};

@@ -1,5 +1,6 @@
 -- What the builder answers, and what it leaves in the lent memory (01, "The builder"; "When the unit says no", 4, 10, 11, 12).
-use Rattle.builder.specs.Names.{ℕ, ◌%◌, Bool, not, List, ◌++◌, eqb, ltb, length, drop, pick, ◌and◌, memory_ok, Mapping, Checked, mappings}
+use Rattle.std.specs.Prelude.{◌%◌, ◌++◌}
+use Rattle.builder.specs.Names.{ℕ, Bool, not, List, eqb, ltb, length, drop, pick, ◌and◌, memory_ok, Mapping, Checked, mappings}
 use Rattle.builder.specs.Names.{megabytes, checked, image_length, Built}
 use Rattle.builder.specs.Image.{image}
 

@@ -1,5 +1,6 @@
 -- The bytes of an image, and a memory that it is written into (01, "The builder").
-use Rattle.builder.specs.Names.{ℕ, ◌/◌, List, ◌++◌, ltb, length, drop, pick, Mapping, megabytes, image_length, image_word, bytes_by}
+use Rattle.std.specs.Prelude.{◌/◌, ◌++◌}
+use Rattle.builder.specs.Names.{ℕ, List, ltb, length, drop, pick, Mapping, megabytes, image_length, image_word, bytes_by}
 
 -- the bytes of the image at a base
 unfoldable pub image : ℕ → List Mapping → ℕ → List ℕ

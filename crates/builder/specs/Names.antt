@@ -1,7 +1,8 @@
 -- What the definitions of this crate are written with.
+pub use Rattle.std.specs.Prelude.{◌%◌, ◌*◌, ◌++◌, ◌+◌, ◌-◌, ◌/◌, ◌<◌, ◌^◌, ◌≡◌, ◌≤◌}
 pub use Rattle.builder.specs.declared.Built.{Built}
 unfoldable pub use Rattle.memory.specs.Memory.{memory_ok}
-pub use Rattle.page.specs.Ground.{Bool, List, [], ◌%◌, ◌*◌, ◌++◌, ◌+◌, ◌-◌, ◌/◌, ◌<◌, ◌^◌, ◌≡◌, ◌≤◌, drop, eqb, get_or, leb, length, ltb, not, suc, zero, ℕ}
+pub use Rattle.page.specs.Ground.{Bool, List, [], drop, eqb, get_or, leb, length, ltb, not, suc, zero, ℕ}
 unfoldable pub use Rattle.page.specs.Pick.{◌and◌, pick}
 pub use Rattle.page.specs.Words.{megabytes, virtual}
 unfoldable pub use Rattle.records.specs.Mappings.{mappings}

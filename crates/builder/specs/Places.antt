@@ -1,5 +1,6 @@
 -- The first level of a list's tables, kept for a base of 0 while the image is written (01, "The builder").
-use Rattle.builder.specs.Names.{ℕ, ◌+◌, ◌-◌, ◌*◌, ◌%◌, ◌<◌, ◌≤◌, ◌≡◌, Bool, List, eqb, length, get_or, pick, megabytes, Mapping, Held, Second}
+use Rattle.std.specs.Prelude.{◌+◌, ◌-◌, ◌*◌, ◌%◌, ◌<◌, ◌≤◌, ◌≡◌}
+use Rattle.builder.specs.Names.{ℕ, Bool, List, eqb, length, get_or, pick, megabytes, Mapping, Held, Second}
 use Rattle.builder.specs.Names.{table_of, table_size, table_start, image_length, Kinds, first_by}
 
 -- the words are those of a list's tables, zero where a megabyte has none

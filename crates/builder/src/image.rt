@@ -1,5 +1,6 @@
 // The image of a list, written into a lent memory.
-ghost use Rattle.builder.specs.Names.{◌≡◌, ℕ, ◌+◌, ◌*◌, ◌/◌, ◌^◌, ◌<◌, ◌≤◌, length, get_or, [], Second, mappings, megabytes, image_length, Kinds};
+ghost use Rattle.std.specs.Prelude.{◌≡◌, ◌+◌, ◌*◌, ◌/◌, ◌^◌, ◌<◌, ◌≤◌};
+ghost use Rattle.builder.specs.Names.{ℕ, length, get_or, [], Second, mappings, megabytes, image_length, Kinds};
 ghost use Rattle.builder.specs.Names.{Held, page_word, word_in, words_in, spliced};
 ghost use Rattle.builder.specs.Image.{written};
 ghost use Rattle.builder.specs.Parts.{Turned, Filled};

@@ -3,7 +3,7 @@
 mod image;
 mod places;
 
-ghost use Rattle.builder.specs.Names.{◌≡◌};
+ghost use Rattle.std.specs.Prelude.{◌≡◌};
 ghost use Rattle.builder.specs.Build.{room_ok, outcome, build_of};
 
 use page::PhysicalAddress;

@@ -1,5 +1,6 @@
 // Where the tables of the noted kinds lie.
-ghost use Rattle.builder.specs.Names.{◌≡◌, ◌<◌, ◌≤◌, length, megabytes, Held, has_table, table_by, first_by};
+ghost use Rattle.std.specs.Prelude.{◌≡◌, ◌<◌, ◌≤◌};
+ghost use Rattle.builder.specs.Names.{length, megabytes, Held, has_table, table_by, first_by};
 ghost use Rattle.builder.specs.Places.{Placed};
 
 use page::MEGABYTES;

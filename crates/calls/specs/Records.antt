@@ -1,5 +1,6 @@
 -- Calls as records of 12 bytes (02, P1): kind, offset or access, two zero bytes, address word, value word.
-use Rattle.calls.specs.Names.{ℕ, zero, suc, ◌+◌, ◌*◌, ◌/◌, ◌%◌, Bool, true, List, [], ◌∷◌, eqb, leb, length, get_or, take, drop, pick, ◌and◌, word_of, Call}
+use Rattle.std.specs.Prelude.{◌+◌, ◌*◌, ◌/◌, ◌%◌, ◌∷◌}
+use Rattle.calls.specs.Names.{ℕ, zero, suc, Bool, true, List, [], eqb, leb, length, get_or, take, drop, pick, ◌and◌, word_of, Call}
 use Rattle.calls.specs.Kinds.{call_from}
 pub use Rattle.calls.specs.Kinds.{is_good}
 

@@ -1,5 +1,6 @@
 // Each form of a call, from the fields of a record.
-ghost use Rattle.calls.specs.Names.{◌≡◌, true};
+ghost use Rattle.std.specs.Prelude.{◌≡◌};
+ghost use Rattle.calls.specs.Names.{true};
 ghost use Rattle.calls.specs.Forms.{access_of, write_by, read_by, request_by, drop_by, report_by};
 ghost use Rattle.calls.specs.Kinds.{call_by, call_from, is_good};
 

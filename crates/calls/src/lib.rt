@@ -2,7 +2,8 @@
 // A call as a record of 12 bytes.
 pub mod forms;
 
-ghost use Rattle.calls.specs.Names.{◌≡◌, true, ◌≤◌, length};
+ghost use Rattle.std.specs.Prelude.{◌≡◌, ◌≤◌};
+ghost use Rattle.calls.specs.Names.{true, length};
 ghost use Rattle.calls.specs.Records.{call_size, call_of, call_at, call_count, is_good, all_good};
 
 use page::{Access, VirtualAddress};

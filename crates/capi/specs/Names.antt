@@ -1,5 +1,5 @@
 -- What the definitions of this crate are written with.
-pub use Rattle.std.specs.Prelude.{Float}
+pub use Rattle.std.specs.Prelude.{Float, ◌%◌, ◌*◌, ◌++◌, ◌+◌, ◌^◌, ◌∷◌, ◌≡◌, ◌≤◌}
 unfoldable pub use Rattle.audit.specs.Check.{check_of}
 pub use Rattle.audit.specs.Check.{verdict_number, verdict_value}
 unfoldable pub use Rattle.audit.specs.List.{list_of}
@@ -13,7 +13,7 @@ unfoldable pub use Rattle.crc.specs.Crc.{crc32}
 pub use Rattle.memory.specs.Memory.{Lent, fetched_in, lent}
 unfoldable pub use Rattle.memory.specs.Memory.{place_in}
 pub use Rattle.memory.specs.declared.Place.{Place}
-pub use Rattle.page.specs.Ground.{List, ◌%◌, ◌*◌, ◌++◌, ◌+◌, ◌^◌, ◌∷◌, ◌≡◌, ◌≤◌, leb, length, ℕ}
+pub use Rattle.page.specs.Ground.{List, leb, length, ℕ}
 unfoldable pub use Rattle.page.specs.Pick.{pick}
 pub use Rattle.page.specs.Words.{megabytes}
 pub use Rattle.parting.specs.Parting.{comparison_number, comparison_owner, comparison_start, comparison_words, owner_number}

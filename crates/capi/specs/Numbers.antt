@@ -1,5 +1,6 @@
 -- What the byte boundary answers in one number, or in six words.
-use Rattle.capi.specs.Names.{ℕ, ◌+◌, ◌*◌, ◌%◌, ◌^◌, List, ◌∷◌, ◌++◌, wide, Place, place_code, Built, built_number, built_value, Verdict, verdict_number, verdict_value}
+use Rattle.std.specs.Prelude.{◌+◌, ◌*◌, ◌%◌, ◌^◌, ◌∷◌, ◌++◌}
+use Rattle.capi.specs.Names.{ℕ, List, wide, Place, place_code, Built, built_number, built_value, Verdict, verdict_number, verdict_value}
 use Rattle.capi.specs.Names.{Inventory, inventory_number, inventory_value, Owner, owner_number, Comparison, comparison_number, comparison_owner, comparison_start, comparison_words}
 use Rattle.capi.specs.Names.{Written, written_number, written_value}
 

@@ -2,7 +2,8 @@
 // The byte boundary: the builder, images from elsewhere, two images compared, sessions, recordings and the fetch for callers that speak C, over numbers and bytes alone.
 mod numbers;
 
-ghost use Rattle.capi.specs.Names.{◌≡◌, megabytes, lent, prices_of, ran, check_of, crc32};
+ghost use Rattle.std.specs.Prelude.{◌≡◌};
+ghost use Rattle.capi.specs.Names.{megabytes, lent, prices_of, ran, check_of, crc32};
 ghost use Rattle.capi.specs.Boundary.{run_of, from_of, fetch_of, build_ran, list_ran, part_ran, record_ran, recorded_ran};
 ghost use Rattle.capi.specs.Numbers.{verdict_word};
 

@@ -1,5 +1,6 @@
 // What the byte boundary answers in one number: a build's answer, the verdict on an image, a list's answer, a recording's, a place with its word; and a comparison, in six words.
-ghost use Rattle.capi.specs.Names.{◌≡◌, ◌%◌, ◌^◌, ◌≤◌, cut_place, owner_number};
+ghost use Rattle.std.specs.Prelude.{◌≡◌, ◌%◌, ◌^◌, ◌≤◌};
+ghost use Rattle.capi.specs.Names.{cut_place, owner_number};
 ghost use Rattle.capi.specs.Numbers.{refused, place_number, built_word, cut_built, verdict_word, inventory_word, cut_inventory, parting_words, comparison_said, written_word, cut_written};
 
 use audit::{Inventory, Verdict};

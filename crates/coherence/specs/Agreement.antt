@@ -1,5 +1,6 @@
 -- What the slots hold never shows: the plain answer, and slots that agree with it (01, demand 3).
-use Rattle.coherence.specs.Names.{ℕ, ◌<◌, ◌≡◌, true, List, get_or, length, word_matches, word_access, word_address, limit, slots, is_on, is_walking}
+use Rattle.std.specs.Prelude.{◌<◌, ◌≡◌}
+use Rattle.coherence.specs.Names.{ℕ, true, List, get_or, length, word_matches, word_access, word_address, limit, slots, is_on, is_walking}
 use Rattle.coherence.specs.Names.{Pending, Look, Access, VirtualAddress, Answer, by_access, by_walk, Device}
 
 -- what the walk alone answers

@@ -1,5 +1,6 @@
 -- What keeps the promise from being hollow: a request or a retry that the paper does not refuse is answered (01, "When the unit says no").
-use Rattle.coherence.specs.Names.{ℕ, ◌%◌, ◌<◌, ◌≡◌, true, false, is_missing, money_ok, is_prefetch, is_refusal, limit, Pending, Access}
+use Rattle.std.specs.Prelude.{◌%◌, ◌<◌, ◌≡◌}
+use Rattle.coherence.specs.Names.{ℕ, true, false, is_missing, money_ok, is_prefetch, is_refusal, limit, Pending, Access}
 use Rattle.coherence.specs.Names.{VirtualAddress, Lent, lent_ok, Bill, Prices, Fault, Answer, Device, in_range, acknowledge_at, request_of, write_of}
 use Rattle.coherence.specs.Names.{Look}
 use Rattle.coherence.specs.Agreement.{plain, Coherent}

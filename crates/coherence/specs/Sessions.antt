@@ -1,5 +1,6 @@
 -- A session: any calls but writes to control or base, each with its own prices and bill, and what each asks (01, demand 3).
-use Rattle.coherence.specs.Names.{ℕ, ◌%◌, ◌<◌, ◌≡◌, Bool, true, false, not, List, [], ◌∷◌, eqb, pick, ◌and◌, physical, limit, Lent, Bill}
+use Rattle.std.specs.Prelude.{◌%◌, ◌<◌, ◌≡◌, ◌∷◌}
+use Rattle.coherence.specs.Names.{ℕ, Bool, true, false, not, List, [], eqb, pick, ◌and◌, physical, limit, Lent, Bill}
 use Rattle.coherence.specs.Names.{fresh_bank, is_prefetch, is_refusal, no_entry, Pending, Access, VirtualAddress, Answer, Device, control_at}
 use Rattle.coherence.specs.Names.{acknowledge_at, base_high_at, base_low_at, one_of, Call, request, write, read, drop-fault, shift, Said, step}
 use Rattle.coherence.specs.Agreement.{plain}

@@ -1,7 +1,8 @@
 -- Demand 2, what a request, a retry, a prefetch and a shift report answer (01, "The unit", "The walk", "Registers", "Meters and the walk
 -- bill").
-use Rattle.conduct.specs.Names.{ℕ, ◌%◌, ◌<◌, ◌≡◌, Bool, true, false, List, [], ◌∷◌, get_or, limit, physical, permits, word_access, word_matches}
-use Rattle.conduct.specs.Names.{word_address, ◌≢◌, ℤ, physical_of, distance_of, found_number, slots, is_prefetch, is_on, is_walking, Pending, Answer}
+use Rattle.std.specs.Prelude.{◌%◌, ◌<◌, ◌≡◌, ◌∷◌, ◌≢◌}
+use Rattle.conduct.specs.Names.{ℕ, Bool, true, false, List, [], get_or, limit, physical, permits, word_access, word_matches}
+use Rattle.conduct.specs.Names.{word_address, ℤ, physical_of, distance_of, found_number, slots, is_prefetch, is_on, is_walking, Pending, Answer}
 use Rattle.conduct.specs.Names.{page_at, shift_number, shift_values, prefetch_at, acknowledge_at, in_range, look, Call, write, drop-fault, shift}
 use Rattle.conduct.specs.Names.{Said, step, Access, VirtualAddress, Lent, lent_ok, Page, Found, Bill, Prices, Fault, Shift, Device}
 use Rattle.conduct.specs.Refused.{Accepted}

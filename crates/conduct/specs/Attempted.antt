@@ -1,5 +1,6 @@
 -- What a call asks of the slots, and what the plain walk gives for it (01, "The unit", "The walk", "Registers").
-use Rattle.conduct.specs.Names.{ℕ, ◌%◌, ◌≡◌, Bool, true, false, eqb, pick, ◌and◌, looked_up, is_prefetch, is_on, is_walking, page_at, look}
+use Rattle.std.specs.Prelude.{◌%◌, ◌≡◌}
+use Rattle.conduct.specs.Names.{ℕ, Bool, true, false, eqb, pick, ◌and◌, looked_up, is_prefetch, is_on, is_walking, page_at, look}
 use Rattle.conduct.specs.Names.{prefetch_at, acknowledge_at, no_match, may_walk, Call, request, write, read, drop-fault, shift, Access}
 use Rattle.conduct.specs.Names.{VirtualAddress, Lent, Reads, Pending, Device}
 

@@ -1,5 +1,6 @@
 -- Demand 2, the slots after each call that may walk (01, "The walk").
-use Rattle.conduct.specs.Names.{ℕ, ◌<◌, ◌≡◌, true, length, pick, made_words, ◌≢◌, slots, slot_at, next_slot, next_victim, Answer, Fault, look, Call}
+use Rattle.std.specs.Prelude.{◌<◌, ◌≡◌, ◌≢◌}
+use Rattle.conduct.specs.Names.{ℕ, true, length, pick, made_words, slots, slot_at, next_slot, next_victim, Answer, Fault, look, Call}
 use Rattle.conduct.specs.Names.{Said, step, VirtualAddress, Words, Lent, Found, Bill, Bank, Fill, Device}
 use Rattle.conduct.specs.Refused.{Accepted}
 use Rattle.conduct.specs.Attempted.{Attempted, nothing, attempt, prefetch, attempted, AttemptedAt, call_walks, walks_for}

@@ -1,5 +1,6 @@
 -- Demand 2, the slots after a write of a flush register (01, "Registers").
-use Rattle.conduct.specs.Names.{ℕ, ◌/◌, ◌%◌, ◌≡◌, Bool, true, not, get_or, ◌and◌, word_valid, word_preserved, word_matches, cam_address, in_range}
+use Rattle.std.specs.Prelude.{◌/◌, ◌%◌, ◌≡◌}
+use Rattle.conduct.specs.Names.{ℕ, Bool, true, not, get_or, ◌and◌, word_valid, word_preserved, word_matches, cam_address, in_range}
 use Rattle.conduct.specs.Names.{flush_at, entry_flush_at, write, step, Lent, Bill, Prices, Device}
 
 -- the CAM word of a slot

@@ -1,5 +1,6 @@
 -- Demand 2, the pending fault after each call (01, "Registers", "When the unit says no").
-use Rattle.conduct.specs.Names.{ℕ, ◌%◌, ◌≡◌, Bool, true, Answer, cleared, done_with, prefetch_at, acknowledge_at, Call, write, drop-fault, Said}
+use Rattle.std.specs.Prelude.{◌%◌, ◌≡◌}
+use Rattle.conduct.specs.Names.{ℕ, Bool, true, Answer, cleared, done_with, prefetch_at, acknowledge_at, Call, write, drop-fault, Said}
 use Rattle.conduct.specs.Names.{step_out, step, Access, VirtualAddress, PhysicalAddress, Lent, Bill, Prices, Fault, Pending, Device}
 use Rattle.conduct.specs.Refused.{said_refused, Accepted}
 use Rattle.conduct.specs.Attempted.{Attempted, attempt, prefetch, attempted}

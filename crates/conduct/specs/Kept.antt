@@ -1,5 +1,6 @@
 -- Demand 2, what each call leaves alone (01, "The unit", "Registers").
-use Rattle.conduct.specs.Names.{ℕ, ◌/◌, ◌%◌, ◌^◌, ◌<◌, ◌≡◌, Bool, false, eqb, ◌and◌, ◌≢◌, prefetch_at, control_at, base_high_at, base_low_at, lock_at}
+use Rattle.std.specs.Prelude.{◌/◌, ◌%◌, ◌^◌, ◌<◌, ◌≡◌, ◌≢◌}
+use Rattle.conduct.specs.Names.{ℕ, Bool, false, eqb, ◌and◌, prefetch_at, control_at, base_high_at, base_low_at, lock_at}
 use Rattle.conduct.specs.Names.{load_at, cam_high_at, cam_low_at, ram_high_at, ram_low_at, flush_at, entry_flush_at, may_walk, request, write, read}
 use Rattle.conduct.specs.Names.{drop-fault, shift, step, Access, VirtualAddress, Lent, Bill, Prices, Device}
 

@@ -1,5 +1,6 @@
 -- Demand 2, the meters and the bill after each call (01, "Meters and the walk bill").
-use Rattle.conduct.specs.Names.{ℕ, ◌+◌, ◌≡◌, true, false, List, [], ◌∷◌, pick, word_count, no_tally, posted, BelowStop, reads_posted, seen_posted}
+use Rattle.std.specs.Prelude.{◌+◌, ◌≡◌, ◌∷◌}
+use Rattle.conduct.specs.Names.{ℕ, true, false, List, [], pick, word_count, no_tally, posted, BelowStop, reads_posted, seen_posted}
 use Rattle.conduct.specs.Names.{looked_up, is_on, no_match, Call, request, write, read, drop-fault, shift, step, Bench, run, VirtualAddress, Lent}
 use Rattle.conduct.specs.Names.{Tally, Bill, Prices, Seen, Device}
 use Rattle.conduct.specs.Refused.{Accepted}

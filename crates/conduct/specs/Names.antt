@@ -4,7 +4,7 @@ pub use Rattle.unit.specs.Names.{Bank, Fill, Matched, Fault, Pending, Answer, De
 pub use Rattle.unit.specs.declared.Device.{Device}
 pub use Rattle.unit.specs.declared.Outcome.{Outcome}
 pub use Rattle.unit.specs.declared.Told.{Told}
-pub use Rattle.std.specs.Prelude.{ℤ, ◌≢◌, ◌⊎◌}
+pub use Rattle.std.specs.Prelude.{ℤ, ◌≢◌, ◌⊎◌, ◌%◌, ◌*◌, ◌+◌, ◌/◌, ◌<◌, ◌^◌, ◌∷◌, ◌≡◌}
 unfoldable pub use Rattle.bank.specs.Changes.{next_slot, next_victim}
 pub use Rattle.bank.specs.Slots.{slot_at}
 pub use Rattle.bill.specs.Bill.{Good, reads_posted, seen_posted}
@@ -14,7 +14,7 @@ pub use Rattle.memory.specs.Reads.{last_place, word_count}
 pub use Rattle.memory.specs.declared.Place.{Place}
 pub use Rattle.meters.specs.Posted.{BelowStop, no_tally}
 unfoldable pub use Rattle.meters.specs.Posted.{posted}
-pub use Rattle.page.specs.Ground.{Bool, List, [], ◌%◌, ◌*◌, ◌+◌, ◌/◌, ◌<◌, ◌^◌, ◌∷◌, ◌≡◌, eqb, false, get_or, length, not, true, ℕ}
+pub use Rattle.page.specs.Ground.{Bool, List, [], eqb, false, get_or, length, not, true, ℕ}
 unfoldable pub use Rattle.page.specs.Pick.{◌and◌, pick}
 pub use Rattle.page.specs.Words.{limit, made_words, permits, physical, word_access, word_preserved, word_valid}
 unfoldable pub use Rattle.page.specs.Words.{word_address, word_matches}

@@ -1,5 +1,6 @@
 -- Demand 2, where the last word of each call's walk comes from (02, P6).
-use Rattle.conduct.specs.Names.{◌≡◌, Bool, true, false, ◌⊎◌, Lent, lent_ok, Place, Reads, nowhere, moved_walked, LastLies}
+use Rattle.std.specs.Prelude.{◌≡◌, ◌⊎◌}
+use Rattle.conduct.specs.Names.{Bool, true, false, Lent, lent_ok, Place, Reads, nowhere, moved_walked, LastLies}
 use Rattle.conduct.specs.Names.{look, Call, request, write, read, drop-fault, shift, Step, step, VirtualAddress, Bill, Device}
 use Rattle.conduct.specs.Refused.{said_refused, Accepted}
 use Rattle.conduct.specs.Attempted.{Attempted, nothing, attempt, prefetch, attempted, walks_for, reads_for}

@@ -1,5 +1,6 @@
 -- Demand 1, for every call: a refusal comes exactly when the paper says, and then nothing changes; a device in range stays in range.
-use Rattle.conduct.specs.Names.{ℕ, ◌^◌, ◌<◌, ◌≡◌, Bool, true, false, [], ◌∷◌, get_or, Lent, no_tally, BelowStop, Bill, Good, is_refusal, Shift}
+use Rattle.std.specs.Prelude.{◌^◌, ◌<◌, ◌≡◌, ◌∷◌}
+use Rattle.conduct.specs.Names.{ℕ, Bool, true, false, [], get_or, Lent, no_tally, BelowStop, Bill, Good, is_refusal, Shift}
 use Rattle.conduct.specs.Names.{Device, Refusals, First, Clear, in_range, request_refusals, write_refusals, read_refusals, drop_refusals}
 use Rattle.conduct.specs.Names.{shift_refusals, Call, request, write, read, drop-fault, shift, Said, said_number, Step, step, Bench, run}
 

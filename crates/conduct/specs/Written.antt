@@ -1,5 +1,6 @@
 -- Demand 2, the registers: read back, reset, load and copy (01, "Registers").
-use Rattle.conduct.specs.Names.{ℕ, ◌+◌, ◌*◌, ◌/◌, ◌%◌, ◌^◌, ◌<◌, ◌≡◌, true, [], ◌∷◌, eqb, pick, ◌≢◌, no_tally, slot_at, fault_status, fault_address}
+use Rattle.std.specs.Prelude.{◌+◌, ◌*◌, ◌/◌, ◌%◌, ◌^◌, ◌<◌, ◌≡◌, ◌∷◌, ◌≢◌}
+use Rattle.conduct.specs.Names.{ℕ, true, [], eqb, pick, no_tally, slot_at, fault_status, fault_address}
 use Rattle.conduct.specs.Names.{words_of, entry_of, listed, Answer, fresh_device, in_range, prefetch_at, walk_status_at, control_at, fault_high_at}
 use Rattle.conduct.specs.Names.{fault_low_at, fault_status_at, acknowledge_at, base_high_at, base_low_at, lock_at, load_at, cam_high_at, cam_low_at, ram_high_at}
 use Rattle.conduct.specs.Names.{ram_low_at, flush_at, entry_flush_at, read_cam_high_at, read_cam_low_at, read_ram_high_at, read_ram_low_at, write, read, Said}

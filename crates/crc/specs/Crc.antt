@@ -1,5 +1,6 @@
 -- CRC-32 of IEEE 802.3, reflected, bit by bit (02, P1).
-use Rattle.crc.specs.Names.{ℕ, zero, suc, ◌+◌, ◌*◌, ◌-◌, ◌/◌, ◌%◌, ◌<◌, ◌≡◌, List, [], ◌∷◌, eqb, length, get_or, pick, bit_xor}
+use Rattle.std.specs.Prelude.{◌+◌, ◌*◌, ◌-◌, ◌/◌, ◌%◌, ◌<◌, ◌≡◌, ◌∷◌}
+use Rattle.crc.specs.Names.{ℕ, zero, suc, List, [], eqb, length, get_or, pick, bit_xor}
 
 -- the polynomial, its lowest power in the highest bit
 abbrev pub polynomial : ℕ

@@ -1,5 +1,6 @@
 -- What the laws of this crate say (02, P1).
-use Rattle.crc.specs.Names.{ℕ, ◌<◌, ◌^◌, ◌≡◌, List, [], ◌∷◌, ◌++◌, Bytes}
+use Rattle.std.specs.Prelude.{◌<◌, ◌^◌, ◌≡◌, ◌∷◌, ◌++◌}
+use Rattle.crc.specs.Names.{ℕ, List, [], Bytes}
 use Rattle.crc.specs.Crc.{crc32}
 
 -- a check has 32 bits

@@ -2,7 +2,8 @@
 // CRC-32 of IEEE 802.3, reflected: eight bytes at a time, by a table that is laid once for as many lists as one likes.
 mod words;
 
-ghost use Rattle.crc.specs.Names.{◌≡◌, ◌+◌, ◌/◌, ◌%◌, ◌<◌, ◌≤◌, length, take, drop};
+ghost use Rattle.std.specs.Prelude.{◌≡◌, ◌+◌, ◌/◌, ◌%◌, ◌<◌, ◌≤◌};
+ghost use Rattle.crc.specs.Names.{length, take, drop};
 ghost use Rattle.crc.specs.Crc.{behind, byte_step, crc_from, crc32, IsTable};
 
 // How many words the table has.

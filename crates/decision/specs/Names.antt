@@ -20,11 +20,11 @@ pub use Rattle.registers.specs.declared.Pending.{Pending}
 pub use Rattle.registers.specs.declared.Answer.{Answer}
 pub use Rattle.decision.specs.declared.Decision.{Decision}
 pub use Rattle.decision.specs.declared.Shift.{Shift}
-pub use Rattle.std.specs.Prelude.{ℤ}
+pub use Rattle.std.specs.Prelude.{ℤ, ◌%◌, ◌*◌, ◌^◌, ◌∷◌, ◌≡◌}
 pub use Rattle.bill.specs.Bill.{reads_posted, seen_posted}
 pub use Rattle.lanes.specs.Lanes.{looked_up}
 pub use Rattle.meters.specs.Posted.{no_tally}
-pub use Rattle.page.specs.Ground.{Bool, List, [], ◌%◌, ◌*◌, ◌^◌, ◌∷◌, ◌≡◌, false, get_or, true, ℕ}
+pub use Rattle.page.specs.Ground.{Bool, List, [], false, get_or, true, ℕ}
 unfoldable pub use Rattle.page.specs.Pick.{pick}
 pub use Rattle.page.specs.Words.{made_words, permits, physical, virtual, word_access}
 unfoldable pub use Rattle.page.specs.Words.{word_address}

@@ -1,5 +1,6 @@
 -- What a prefetch and a shift report come to (01, "Registers", "Meters and the walk bill").
-use Rattle.decision.specs.Names.{ℕ, ◌*◌, ◌%◌, ◌^◌, List, [], ◌∷◌, virtual, physical_of, distance_of, looked_up, Seen, Fault, ℤ, VirtualAddress}
+use Rattle.std.specs.Prelude.{◌*◌, ◌%◌, ◌^◌, ◌∷◌}
+use Rattle.decision.specs.Names.{ℕ, List, [], virtual, physical_of, distance_of, looked_up, Seen, Fault, ℤ, VirtualAddress}
 use Rattle.decision.specs.Names.{Reads, Found, Walked, Matched, Answer, Decision, Shift}
 use Rattle.decision.specs.Decisions.{plainly, missing_word, no_page, with_page}
 

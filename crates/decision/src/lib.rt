@@ -1,6 +1,6 @@
 #![tactic(auto)]
 // What an access and a matching slot come to, what an answer leaves, and the shift report.
-ghost use Rattle.decision.specs.Names.{◌≡◌};
+ghost use Rattle.std.specs.Prelude.{◌≡◌};
 ghost use Rattle.decision.specs.Decisions.{by_access, plainly, by_match, settled, metered_once, tally_of};
 ghost use Rattle.decision.specs.Prefetches.{prefetch_kept, shift_by};
 

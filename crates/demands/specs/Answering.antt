@@ -1,5 +1,6 @@
 -- What keeps demand 3 from being hollow: each request that the paper does not refuse is in fact answered, and so is each retry.
-use Rattle.demands.specs.Demands.Names.{megabytes, limit, ℕ, ◌%◌, ◌<◌, ◌≡◌, true, false, List, [], ◌∷◌, Lent, lent_ok, money_ok, mappings}
+use Rattle.std.specs.Prelude.{◌%◌, ◌<◌, ◌≡◌, ◌∷◌}
+use Rattle.demands.specs.Demands.Names.{megabytes, limit, ℕ, true, false, List, [], Lent, lent_ok, money_ok, mappings}
 use Rattle.demands.specs.Demands.Names.{meaning, Built, image, answer_of, is_prefetch, Pending, Access, VirtualAddress, Bill, Prices, Fault}
 use Rattle.demands.specs.Demands.Names.{Device, acknowledge_at, request_of, write_of, BytesFit, ValueFits, BilledCall, after, Admitted, TurnsOn}
 use Rattle.demands.specs.Demands.Names.{start, Bytes, Standing}

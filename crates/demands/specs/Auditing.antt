@@ -1,5 +1,6 @@
 -- The check and the list of an image, demand 1 (02, P4): each refusal, with the address or count beside it, exactly when the paper says, in the one order of words.
-use Rattle.demands.specs.Demands.Names.{megabytes, ℕ, zero, suc, ◌+◌, ◌-◌, ◌*◌, ◌≡◌, Bool, true, false, not, List, [], ◌∷◌, eqb, ltb, length, Refusing, First, Clear}
+use Rattle.std.specs.Prelude.{◌+◌, ◌-◌, ◌*◌, ◌≡◌, ◌∷◌}
+use Rattle.demands.specs.Demands.Names.{megabytes, ℕ, zero, suc, Bool, true, false, not, List, [], eqb, ltb, length, Refusing, First, Clear}
 use Rattle.demands.specs.Demands.Names.{Verdict, Inventory, check_of, list_of, pages_in, record_size, broken, image_ok, table_in, verdict_number, verdict_value}
 use Rattle.demands.specs.Demands.Names.{inventory_number, inventory_value, Entry, Table, index_limit, first_of, word_at}
 

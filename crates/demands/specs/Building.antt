@@ -1,6 +1,7 @@
 -- The builder, demand 1: each refusal, with its index or count, exactly when the paper says (01, "When the unit says no"); and demand 2:
 -- what an accepted build answers and leaves (01, "The builder").
-use Rattle.demands.specs.Demands.Names.{megabytes, ℕ, zero, suc, ◌≡◌, Bool, true, false, not, List, [], ◌∷◌, ◌++◌, eqb, ltb, length, drop}
+use Rattle.std.specs.Prelude.{◌≡◌, ◌∷◌, ◌++◌}
+use Rattle.demands.specs.Demands.Names.{megabytes, ℕ, zero, suc, Bool, true, false, not, List, [], eqb, ltb, length, drop}
 use Rattle.demands.specs.Demands.Names.{mappings, bad, overlapping, begun, image_length, image, Built, room_ok, answer_of, build_of, built_number}
 use Rattle.demands.specs.Demands.Names.{built_value, Refusing, First, Clear}
 

@@ -1,5 +1,6 @@
 -- Demand 3 in the buyer's order: build a list into a memory, lend that memory, start, call. And a session with list A.
-use Rattle.demands.specs.Demands.Names.{lock_at, virtual, physical, ℕ, ◌≡◌, false, List, [], ◌∷◌, replicate, PhysicalAddress, Lent, LentAt, lent_alone, f1}
+use Rattle.std.specs.Prelude.{◌≡◌, ◌∷◌}
+use Rattle.demands.specs.Demands.Names.{lock_at, virtual, physical, ℕ, false, List, [], replicate, PhysicalAddress, Lent, LentAt, lent_alone, f1}
 use Rattle.demands.specs.Demands.Names.{fresh_bill, mappings, meaning, Built, build_of, Price, is_refusal, Access, VirtualAddress, Bill, Prices}
 use Rattle.demands.specs.Demands.Names.{Answer, Device, prefetch_at, acknowledge_at, request_of, Call, request, write, read, drop-fault, Said}
 use Rattle.demands.specs.Demands.Names.{step, BilledCall, after, Admitted, asked, asks, TurnsOn, start, Bytes, records_a, base_a}

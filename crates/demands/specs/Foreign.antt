@@ -1,5 +1,6 @@
 -- Images that were not built here (02, P4): demand 3 with the plain walk of the image in the place of the list, and what its listed pages mean.
-use Rattle.demands.specs.Demands.Names.{megabytes, limit, ℕ, ◌<◌, ◌≡◌, false, List, length, Lent, LentAt, lent_alone, meaning, mappings, Built, build_of}
+use Rattle.std.specs.Prelude.{◌<◌, ◌≡◌}
+use Rattle.demands.specs.Demands.Names.{megabytes, limit, ℕ, false, List, length, Lent, LentAt, lent_alone, meaning, mappings, Built, build_of}
 use Rattle.demands.specs.Demands.Names.{is_refusal, Access, VirtualAddress, Bill, Prices, Answer, Call, Said, step, BilledCall, after, Admitted, asked}
 use Rattle.demands.specs.Demands.Names.{asks, TurnsOn, start, Bytes, Verdict, check_of, pages_in, records_of, plain, look_in, AcceptedExactly}
 use Rattle.demands.specs.Demands.{meant_as, AsList}

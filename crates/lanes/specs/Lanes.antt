@@ -1,5 +1,6 @@
 -- One lane of the slots' words: the search, what is in range, the flushes (01, "The unit", "Registers").
-use Rattle.lanes.specs.Names.{ℕ, zero, suc, ◌+◌, ◌%◌, ◌^◌, Bool, true, List, map, eqb, ltb, get_or, pick, ◌and◌}
+use Rattle.std.specs.Prelude.{◌+◌, ◌%◌, ◌^◌}
+use Rattle.lanes.specs.Names.{ℕ, zero, suc, Bool, true, List, map, eqb, ltb, get_or, pick, ◌and◌}
 use Rattle.page.specs.Words.{word_matches, word_flushed, word_flushed_at}
 use Rattle.page.specs.declared.VirtualAddress.{VirtualAddress}
 use Rattle.lanes.specs.declared.Matched.{Matched}

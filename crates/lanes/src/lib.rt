@@ -1,6 +1,6 @@
 #![tactic(auto)]
 // One lane of the slots' words: the flushes, and what is in range.
-ghost use Rattle.lanes.specs.Names.{◌≡◌};
+ghost use Rattle.std.specs.Prelude.{◌≡◌};
 ghost use Rattle.lanes.specs.Lanes.{ram_ok, cams_ok, rams_ok, flushed_all, flushed_entry};
 
 use page::VirtualAddress;

@@ -1,5 +1,6 @@
 -- A text with all that a line may have, and what it is read to: comments, a tab, blanks, 0x, a CRLF end, a last line without an end.
-use Rattle.listing.specs.Names.{ℕ, ◌*◌, ◌≤◌, ◌≡◌, List, [], ◌∷◌, ◌++◌, length, set, Kind, Mapping, record_size, most, Wrong, Listed}
+use Rattle.std.specs.Prelude.{◌*◌, ◌≤◌, ◌≡◌, ◌∷◌, ◌++◌}
+use Rattle.listing.specs.Names.{ℕ, List, [], length, set, Kind, Mapping, record_size, most, Wrong, Listed}
 use Rattle.listing.specs.Lines.{mapping}
 use Rattle.listing.specs.Purposes.{span, purpose_of}
 use Rattle.listing.specs.Texts.{reading, read_text}

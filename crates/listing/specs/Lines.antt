@@ -1,5 +1,6 @@
 -- What a line says: nothing, a mapping, or the first thing that is wrong, its words from left to right.
-use Rattle.listing.specs.Names.{ℕ, ◌-◌, List, eqb, ltb, leb, length, get_or, take, pick, virtual, physical, limit, Kind, Mapping, multiple, Class}
+use Rattle.std.specs.Prelude.{◌-◌}
+use Rattle.listing.specs.Names.{ℕ, List, eqb, ltb, leb, length, get_or, take, pick, virtual, physical, limit, Kind, Mapping, multiple, Class}
 use Rattle.listing.specs.Names.{Number, Named, Address, Wrong, Said}
 use Rattle.listing.specs.Numbers.{end, hex_number}
 use Rattle.listing.specs.Words.{run_length, word, rest, kind_named, access_named}

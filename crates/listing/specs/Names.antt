@@ -1,4 +1,5 @@
 -- What the definitions of this crate are written with.
+pub use Rattle.std.specs.Prelude.{◌%◌, ◌*◌, ◌++◌, ◌+◌, ◌-◌, ◌/◌, ◌<◌, ◌^◌, ◌∷◌, ◌≡◌, ◌≤◌}
 pub use Rattle.listing.specs.declared.Address.{Address}
 pub use Rattle.listing.specs.declared.Class.{Class}
 pub use Rattle.listing.specs.declared.Listed.{Listed}
@@ -8,7 +9,7 @@ pub use Rattle.listing.specs.declared.Printed.{Printed}
 pub use Rattle.listing.specs.declared.Said.{Said}
 pub use Rattle.listing.specs.declared.Span.{Span}
 pub use Rattle.listing.specs.declared.Wrong.{Wrong}
-pub use Rattle.page.specs.Ground.{Bool, List, [], ◌%◌, ◌*◌, ◌++◌, ◌+◌, ◌-◌, ◌/◌, ◌<◌, ◌^◌, ◌∷◌, ◌≡◌, ◌≤◌, drop, eqb, false, get_or, leb, length, ltb}
+pub use Rattle.page.specs.Ground.{Bool, List, [], drop, eqb, false, get_or, leb, length, ltb}
 pub use Rattle.page.specs.Ground.{not, set, suc, take, true, zero, ℕ}
 unfoldable pub use Rattle.page.specs.Pick.{◌and◌, ◌or◌, pick}
 pub use Rattle.page.specs.Words.{limit, megabytes, physical, type_of, virtual}

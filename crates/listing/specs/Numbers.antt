@@ -1,5 +1,6 @@
 -- A word as a number in hex: upper or lower case, with or without 0x.
-use Rattle.listing.specs.Names.{ℕ, ◌+◌, ◌-◌, ◌*◌, ◌^◌, Bool, List, [], ◌∷◌, eqb, ltb, leb, length, get_or, drop, pick, ◌and◌, ◌or◌, Number}
+use Rattle.std.specs.Prelude.{◌+◌, ◌-◌, ◌*◌, ◌^◌, ◌∷◌}
+use Rattle.listing.specs.Names.{ℕ, Bool, List, [], eqb, ltb, leb, length, get_or, drop, pick, ◌and◌, ◌or◌, Number}
 
 -- a byte between two others
 unfoldable pub within : ℕ → ℕ → ℕ → Bool

@@ -1,5 +1,6 @@
 -- A list of records as text: a line for each, as reading takes it.
-use Rattle.listing.specs.Names.{ℕ, zero, suc, ◌+◌, ◌*◌, ◌/◌, ◌%◌, Bool, true, List, [], ◌∷◌, ◌++◌, eqb, ltb, leb, length, pick, ◌and◌}
+use Rattle.std.specs.Prelude.{◌+◌, ◌*◌, ◌/◌, ◌%◌, ◌∷◌, ◌++◌}
+use Rattle.listing.specs.Names.{ℕ, zero, suc, Bool, true, List, [], eqb, ltb, leb, length, pick, ◌and◌}
 use Rattle.listing.specs.Names.{megabytes, Kind, Mapping, record_size, record_at, mappings, well_formed, most, Printed}
 use Rattle.listing.specs.Words.{kind_text, read_only_text, both_text}
 use Rattle.wire.specs.Words.{pasted, shown, Shown}

@@ -1,5 +1,6 @@
 -- What a line's mapping is for: the words of its comment, as a part of the text.
-use Rattle.listing.specs.Names.{ℕ, zero, suc, ◌+◌, ◌-◌, List, eqb, ltb, length, get_or, take, drop, pick, ◌or◌, Class, Span}
+use Rattle.std.specs.Prelude.{◌+◌, ◌-◌}
+use Rattle.listing.specs.Names.{ℕ, zero, suc, List, eqb, ltb, length, get_or, take, drop, pick, ◌or◌, Class, Span}
 use Rattle.listing.specs.Words.{blank, run_length}
 use Rattle.listing.specs.Lines.{body}
 use Rattle.listing.specs.Texts.{longest_text}

@@ -1,5 +1,6 @@
 -- A text as lines, and its mappings as the builder's records (01, "The builder"), up to the first bad line.
-use Rattle.listing.specs.Names.{ℕ, suc, ◌*◌, ◌≤◌, List, [], ◌∷◌, eqb, ltb, leb, length, set, pick, ◌or◌, Mapping, record_size}
+use Rattle.std.specs.Prelude.{◌*◌, ◌≤◌, ◌∷◌}
+use Rattle.listing.specs.Names.{ℕ, suc, List, [], eqb, ltb, leb, length, set, pick, ◌or◌, Mapping, record_size}
 use Rattle.listing.specs.Names.{most, Wrong, Said, Listed}
 use Rattle.listing.specs.Lines.{parsed}
 use Rattle.records.specs.Mappings.{record_of}

@@ -1,5 +1,6 @@
 -- What reading and printing promise together, and what reading promises the builder.
-use Rattle.listing.specs.Names.{ℕ, ◌+◌, ◌*◌, ◌/◌, ◌<◌, ◌≤◌, ◌≡◌, true, List, length, get_or, take, megabytes, record_size, mappings, Checked, most}
+use Rattle.std.specs.Prelude.{◌+◌, ◌*◌, ◌/◌, ◌<◌, ◌≤◌, ◌≡◌}
+use Rattle.listing.specs.Names.{ℕ, true, List, length, get_or, take, megabytes, record_size, mappings, Checked, most}
 use Rattle.listing.specs.Names.{checked, Listed, Printed}
 use Rattle.listing.specs.Texts.{read_text}
 use Rattle.wire.specs.Words.{pasted}

@@ -1,5 +1,6 @@
 -- A line's words: what stands between blanks, and the words of kinds and accesses.
-use Rattle.listing.specs.Names.{ℕ, suc, ◌+◌, Bool, true, false, not, List, [], ◌∷◌, eqb, take, drop, pick, ◌and◌, ◌or◌, Kind, Class, Span, Named}
+use Rattle.std.specs.Prelude.{◌+◌, ◌∷◌}
+use Rattle.listing.specs.Names.{ℕ, suc, Bool, true, false, not, List, [], eqb, take, drop, pick, ◌and◌, ◌or◌, Kind, Class, Span, Named}
 
 -- a blank or a tab
 unfoldable pub blank : ℕ → Bool

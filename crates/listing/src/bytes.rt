@@ -1,5 +1,6 @@
 // Bytes put into a memory, and a mapping as a record's bytes.
-ghost use Rattle.listing.specs.Names.{◌≡◌, ◌+◌, ◌≤◌, length, type_of};
+ghost use Rattle.std.specs.Prelude.{◌≡◌, ◌+◌, ◌≤◌};
+ghost use Rattle.listing.specs.Names.{length, type_of};
 ghost use Rattle.records.specs.Mappings.{record_of};
 ghost use Rattle.wire.specs.Words.{pasted};
 

@@ -1,5 +1,6 @@
 // Numbers in hex: a digit, a word of digits.
-ghost use Rattle.listing.specs.Names.{◌≡◌, ◌+◌, ◌*◌, ◌<◌, ltb, pick};
+ghost use Rattle.std.specs.Prelude.{◌≡◌, ◌+◌, ◌*◌, ◌<◌};
+ghost use Rattle.listing.specs.Names.{ltb, pick};
 ghost use Rattle.listing.specs.Numbers.{end, within, digit, read_on, hex_digits, prefixed, hex_number};
 
 use crate::Number;

@@ -1,6 +1,6 @@
 #![tactic(auto)]
 // A list of mappings as text: a line for each mapping, read into the builder's records and printed from them.
-ghost use Rattle.listing.specs.Names.{◌≡◌};
+ghost use Rattle.std.specs.Prelude.{◌≡◌};
 ghost use Rattle.listing.specs.Prints.{printing, print_text};
 ghost use Rattle.listing.specs.Purposes.{purpose_of};
 ghost use Rattle.listing.specs.Texts.{reading, read_text};

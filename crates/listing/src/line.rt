@@ -1,5 +1,6 @@
 // One line: what its words say, from left to right.
-ghost use Rattle.listing.specs.Names.{◌≡◌, multiple};
+ghost use Rattle.std.specs.Prelude.{◌≡◌};
+ghost use Rattle.listing.specs.Names.{multiple};
 ghost use Rattle.listing.specs.Lines.{address_in, line_ended, from_access, from_physical, from_virtual, from_kind, body_length, parsed};
 
 use crate::{Address, Class, Named, Number, Said, Wrong, hex, tokens};

@@ -1,5 +1,6 @@
 // The comment of a line, and where a line starts.
-ghost use Rattle.listing.specs.Names.{◌≡◌, ◌≤◌, length};
+ghost use Rattle.std.specs.Prelude.{◌≡◌, ◌≤◌};
+ghost use Rattle.listing.specs.Names.{length};
 ghost use Rattle.listing.specs.Lines.{body};
 ghost use Rattle.listing.specs.Texts.{longest_text};
 ghost use Rattle.listing.specs.Purposes.{start_of, solid_to, comment_of};

@@ -1,5 +1,6 @@
 // A list's lines, printed one after the other.
-ghost use Rattle.listing.specs.Names.{◌≡◌, ◌+◌, ◌*◌, ◌<◌, ◌≤◌, length, record_size, mappings};
+ghost use Rattle.std.specs.Prelude.{◌≡◌, ◌+◌, ◌*◌, ◌<◌, ◌≤◌};
+ghost use Rattle.listing.specs.Names.{length, record_size, mappings};
 ghost use Rattle.wire.specs.Words.{pasted, shown};
 ghost use Rattle.listing.specs.Prints.{glyph, kind_column, hex_column, access_column, line_text, widest, printed, formed, formed_from, shown_at};
 

@@ -1,5 +1,5 @@
 // A text's lines, read one after the other.
-ghost use Rattle.listing.specs.Names.{◌≡◌};
+ghost use Rattle.std.specs.Prelude.{◌≡◌};
 ghost use Rattle.listing.specs.Texts.{Rooms, reading, lines_of, read_lines};
 
 use crate::{Class, Listed, Said, Wrong, bytes, line, tokens};

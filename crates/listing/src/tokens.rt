@@ -1,5 +1,5 @@
 // A line's words: where the first one lies, and what it names.
-ghost use Rattle.listing.specs.Names.{◌≡◌};
+ghost use Rattle.std.specs.Prelude.{◌≡◌};
 ghost use Rattle.listing.specs.Words.{blank, belongs, run_length, word_span, same_bytes, kind_named, access_named};
 
 use crate::{Class, Named, Span};

@@ -1,7 +1,8 @@
 -- The two lent memories (01, "The unit", third paragraph; "When the unit says no", 4): which are refused,
 -- where a descriptor's four bytes lie, and the part that they are.
+use Rattle.std.specs.Prelude.{◌+◌, ◌-◌, ◌≤◌, ◌≡◌, ◌⊎◌}
 use Rattle.std.specs.Borrow.{Bor}
-use Rattle.memory.specs.Names.{ℕ, ◌+◌, ◌-◌, ◌≤◌, ◌≡◌, Bool, List, [], length, take, drop, pick, Bor, Place, ◌⊎◌}
+use Rattle.memory.specs.Names.{ℕ, Bool, List, [], length, take, drop, pick, Bor, Place}
 pub use Rattle.memory.specs.Spans.{longest}
 unfoldable pub use Rattle.memory.specs.Spans.{memory_ok, apart, memories_ok, lies_in}
 

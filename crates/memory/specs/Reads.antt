@@ -1,5 +1,6 @@
 -- The words that a walk read, in order (01, "The walk", "Meters and the walk bill").
-use Rattle.memory.specs.Names.{ℕ, List, [], ◌∷◌, length, Place, Source, Reads}
+use Rattle.std.specs.Prelude.{◌∷◌}
+use Rattle.memory.specs.Names.{ℕ, List, [], length, Place, Source, Reads}
 
 abbrev pub sources : Reads → List Source
 sources Reads.Nothing = []

@@ -1,6 +1,7 @@
 -- Spans of addresses (01, "The unit", third paragraph; "When the unit says no", 4): which memories are refused,
 -- and which bytes a memory holds.
-use Rattle.memory.specs.Names.{ℕ, ◌+◌, ◌%◌, ◌^◌, Bool, eqb, leb, ◌and◌, ◌or◌}
+use Rattle.std.specs.Prelude.{◌+◌, ◌%◌, ◌^◌}
+use Rattle.memory.specs.Names.{ℕ, Bool, eqb, leb, ◌and◌, ◌or◌}
 
 -- the greatest length of a memory
 abbrev pub longest : ℕ

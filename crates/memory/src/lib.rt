@@ -2,7 +2,8 @@
 // The two lent memories, where a descriptor's four bytes lie, and the part that holds them.
 mod spans;
 
-ghost use Rattle.memory.specs.Names.{◌≡◌, ◌+◌, ◌≤◌, length, take, drop};
+ghost use Rattle.std.specs.Prelude.{◌≡◌, ◌+◌, ◌≤◌};
+ghost use Rattle.memory.specs.Names.{length, take, drop};
 ghost use Rattle.memory.specs.Reads.{word_count, last_place};
 ghost use Rattle.memory.specs.Memory.{memory_ok, lent, lent_ok, place_of, place_within, place_in, fetched_within, fetched_in, source_of};
 

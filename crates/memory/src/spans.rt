@@ -1,5 +1,5 @@
 // Spans of addresses: which memories may be lent, and whether one holds four bytes.
-ghost use Rattle.memory.specs.Names.{◌≡◌, ◌≤◌};
+ghost use Rattle.std.specs.Prelude.{◌≡◌, ◌≤◌};
 ghost use Rattle.memory.specs.Spans.{longest, memory_ok, apart, memories_ok, lies_in};
 
 use crate::LONGEST;

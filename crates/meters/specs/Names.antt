@@ -1,2 +1,3 @@
 -- What the definitions of this crate are written with.
-pub use Rattle.page.specs.Ground.{◌+◌, ◌≡◌, ◌≤◌, min, ℕ}
+pub use Rattle.std.specs.Prelude.{◌+◌, ◌≡◌, ◌≤◌}
+pub use Rattle.page.specs.Ground.{min, ℕ}

@@ -1,5 +1,6 @@
 -- What the meters hold after a posting (01, "Meters and the walk bill").
-use Rattle.meters.specs.Names.{ℕ, ◌+◌, ◌≤◌, min}
+use Rattle.std.specs.Prelude.{◌+◌, ◌≤◌}
+use Rattle.meters.specs.Names.{ℕ, min}
 use Rattle.meters.specs.declared.Meters.{Meters}
 use Rattle.meters.specs.declared.Tally.{Tally}
 

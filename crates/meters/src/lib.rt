@@ -1,6 +1,6 @@
 #![tactic(auto)]
 // The meters: three counts, each of which stops at 4,294,967,295, and one posting to them.
-ghost use Rattle.meters.specs.Names.{◌≡◌};
+ghost use Rattle.std.specs.Prelude.{◌≡◌};
 ghost use Rattle.meters.specs.Posted.{stopped, no_meters, no_tally, posted};
 
 // Where a meter stops.

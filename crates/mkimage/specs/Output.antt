@@ -1,5 +1,6 @@
 -- What mkimage writes (01, "The builder", the program).
-use Rattle.mkimage.specs.Names.{ℕ, zero, suc, ◌+◌, ◌/◌, ◌%◌, List, [], ◌∷◌, ◌++◌, ltb, length, drop, pick}
+use Rattle.std.specs.Prelude.{◌+◌, ◌/◌, ◌%◌, ◌∷◌, ◌++◌}
+use Rattle.mkimage.specs.Names.{ℕ, zero, suc, List, [], ltb, length, drop, pick}
 use Rattle.page.specs.Words.{megabytes}
 use Rattle.records.specs.Mappings.{mappings}
 use Rattle.builder.specs.declared.Built.{Built}

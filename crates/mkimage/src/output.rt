@@ -1,5 +1,6 @@
 // What mkimage writes for a list of records: its image, or a refusal's message.
-ghost use Rattle.mkimage.specs.Names.{◌≡◌, ◌+◌, ◌≤◌, length};
+ghost use Rattle.std.specs.Prelude.{◌≡◌, ◌+◌, ◌≤◌};
+ghost use Rattle.mkimage.specs.Names.{length};
 ghost use Rattle.mkimage.specs.Output.{decimal, message, shown_in, output_of};
 ghost use Rattle.wire.specs.Words.{pasted, shown};
 

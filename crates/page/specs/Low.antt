@@ -1,5 +1,6 @@
 -- An address's upper bits and its n lower ones, for any n.
-use Rattle.page.specs.Ground.{ℕ, ◌+◌, ◌*◌, ◌/◌, ◌%◌, ◌^◌, Bool, eqb}
+use Rattle.std.specs.Prelude.{◌+◌, ◌*◌, ◌/◌, ◌%◌, ◌^◌}
+use Rattle.page.specs.Ground.{ℕ, Bool, eqb}
 
 -- x with its n lower bits zero: where its page of 2^n bytes starts
 unfoldable pub upper : ℕ → ℕ → ℕ

@@ -1,6 +1,7 @@
 -- The kinds of page, access rights, and the two words of a slot in register layout (01, "The unit", "Registers"):
 -- CAM has the tag in 17:4 (address bits 23:10), P in 3, V in 2, the type in 1:0; RAM has the frame in 31:10, access in 9:8.
-use Rattle.page.specs.Ground.{ℕ, ◌+◌, ◌-◌, ◌*◌, ◌/◌, ◌%◌, ◌^◌, Bool, eqb, leb}
+use Rattle.std.specs.Prelude.{◌+◌, ◌-◌, ◌*◌, ◌/◌, ◌%◌, ◌^◌}
+use Rattle.page.specs.Ground.{ℕ, Bool, eqb, leb}
 use Rattle.page.specs.Pick.{pick, ◌and◌}
 use Rattle.page.specs.Low.{upper, agree, joined}
 use Rattle.page.specs.declared.Access.{Access}

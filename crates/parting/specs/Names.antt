@@ -1,7 +1,7 @@
 -- What the definitions of this crate are written with.
 pub use Rattle.std.specs.Borrow.{Bor, MutBor}
-pub use Rattle.std.specs.Prelude.{◌⊎◌}
-pub use Rattle.page.specs.Ground.{Bool, List, [], ◌%◌, ◌*◌, ◌+◌, ◌-◌, ◌/◌, ◌<◌, ◌∷◌, ◌≡◌, ◌≤◌, drop, eqb, false, length, ltb, min, not, suc, take, true, zero, ℕ}
+pub use Rattle.std.specs.Prelude.{◌⊎◌, ◌%◌, ◌*◌, ◌+◌, ◌-◌, ◌/◌, ◌<◌, ◌∷◌, ◌≡◌, ◌≤◌}
+pub use Rattle.page.specs.Ground.{Bool, List, [], drop, eqb, false, length, ltb, min, not, suc, take, true, zero, ℕ}
 unfoldable pub use Rattle.page.specs.Pick.{◌and◌, pick}
 pub use Rattle.parting.specs.declared.Comparison.{Comparison}
 pub use Rattle.parting.specs.declared.Owner.{Owner}

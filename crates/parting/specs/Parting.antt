@@ -1,5 +1,6 @@
 -- Where two images part (02, P14): the first word that differs, whose the part is that remains, and how many words differ.
-use Rattle.parting.specs.Names.{ℕ, zero, suc, ◌+◌, ◌*◌, ◌/◌, ◌%◌, Bool, not, List, eqb, ltb, length, drop, min, ◌and◌, pick, Bor, word_at, Owner, Comparison}
+use Rattle.std.specs.Prelude.{◌+◌, ◌*◌, ◌/◌, ◌%◌}
+use Rattle.parting.specs.Names.{ℕ, zero, suc, Bool, not, List, eqb, ltb, length, drop, min, ◌and◌, pick, Bor, word_at, Owner, Comparison}
 
 -- refusal 4 asks of two lengths that they are multiples of 4
 unfoldable pub whole_words : ℕ → ℕ → Bool

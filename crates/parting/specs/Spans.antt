@@ -1,5 +1,6 @@
 -- What the code's loops over two images rest on.
-use Rattle.parting.specs.Names.{ℕ, ◌*◌, ◌≤◌, List, length}
+use Rattle.std.specs.Prelude.{◌*◌, ◌≤◌}
+use Rattle.parting.specs.Names.{ℕ, List, length}
 
 -- both images have n words
 abbrev pub HaveWords : List ℕ → List ℕ → ℕ → Type 0

@@ -1,5 +1,6 @@
 -- What the laws of this crate say (02, P14): when the part is empty, what comes before it, where it begins, and when no word differs.
-use Rattle.parting.specs.Names.{ℕ, ◌*◌, ◌%◌, ◌<◌, ◌≤◌, ◌≡◌, List, [], ◌∷◌, length, take, ◌⊎◌, Bytes, bytes_of, word_at, Owner, Comparison}
+use Rattle.std.specs.Prelude.{◌*◌, ◌%◌, ◌<◌, ◌≤◌, ◌≡◌, ◌∷◌, ◌⊎◌}
+use Rattle.parting.specs.Names.{ℕ, List, [], length, take, Bytes, bytes_of, word_at, Owner, Comparison}
 use Rattle.parting.specs.Parting.{common, differing, owner_of, start_of, part_bytes, comparison_of, comparison_owner, comparison_start}
 
 -- refused exactly where a length is no multiple of 4

@@ -2,7 +2,8 @@
 // Where two images part: what remains of one from the first word that differs, and how many words do.
 mod words;
 
-ghost use Rattle.parting.specs.Names.{◌≡◌, ◌/◌, ◌≤◌, drop, length, min};
+ghost use Rattle.std.specs.Prelude.{◌≡◌, ◌/◌, ◌≤◌};
+ghost use Rattle.parting.specs.Names.{drop, length, min};
 ghost use Rattle.parting.specs.Parting.{whole_words, owner_at, start_in, part_bytes, part_source, comparison_of};
 
 // The image that a part is of.

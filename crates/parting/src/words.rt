@@ -1,5 +1,6 @@
 // The words of two images, compared: how many differ, and the first that does.
-ghost use Rattle.parting.specs.Names.{◌≡◌, ◌+◌, ◌-◌, ◌*◌, ◌≤◌, length};
+ghost use Rattle.std.specs.Prelude.{◌≡◌, ◌+◌, ◌-◌, ◌*◌, ◌≤◌};
+ghost use Rattle.parting.specs.Names.{length};
 ghost use Rattle.parting.specs.Parting.{differs_at, differing, first_differing};
 ghost use Rattle.parting.specs.Spans.{HaveWords, block};
 

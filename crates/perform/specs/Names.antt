@@ -1,4 +1,5 @@
 -- What the definitions of this crate are written with.
+pub use Rattle.std.specs.Prelude.{◌%◌, ◌/◌, ◌<◌, ◌≡◌}
 pub use Rattle.bank.specs.Changes.{bank_flushed, bank_flushed_at, copied, entry_filled, loaded, locked_at}
 pub use Rattle.bank.specs.InPlace.{Spanned, bank_of}
 pub use Rattle.bank.specs.Slots.{fresh_bank}
@@ -22,7 +23,7 @@ pub use Rattle.memory.specs.Reads.{last_place, word_count}
 pub use Rattle.memory.specs.declared.Place.{Place}
 pub use Rattle.meters.specs.Posted.{no_tally}
 pub use Rattle.meters.specs.declared.Tally.{Tally}
-pub use Rattle.page.specs.Ground.{Bool, List, ◌%◌, ◌/◌, ◌<◌, ◌≡◌, false, true, ℕ}
+pub use Rattle.page.specs.Ground.{Bool, List, false, true, ℕ}
 unfoldable pub use Rattle.page.specs.Pick.{pick}
 pub use Rattle.page.specs.Words.{limit, made_words}
 pub use Rattle.page.specs.declared.Access.{Access}

@@ -1,6 +1,7 @@
 -- What a plan leaves of a device's parts, and says (01, "The unit", "The walk", "Registers").
 -- Internal, for the code: the machine that is signed is unit/specs/Calls.antt and Machine.antt.
-use Rattle.perform.specs.Names.{ℕ, ◌<◌, ◌≡◌, ◌/◌, ◌%◌, List, true, false, limit, Access, VirtualAddress, Lent, Place, word_count, last_place, no_tally, Tally}
+use Rattle.std.specs.Prelude.{◌<◌, ◌≡◌, ◌/◌, ◌%◌}
+use Rattle.perform.specs.Names.{ℕ, List, true, false, limit, Access, VirtualAddress, Lent, Place, word_count, last_place, no_tally, Tally}
 use Rattle.perform.specs.Names.{Prices, Bill, cam_limit, cams_ok, fresh_bank, entry_filled, locked_at, bank_flushed, bank_flushed_at, loaded, copied}
 use Rattle.perform.specs.Names.{Bank, walk_within, Walked, is_on, is_walking, fresh_registers, setting, with_prefetch, with_copied, words_of, entry_of}
 use Rattle.perform.specs.Names.{cam_address, value_at, Answer, Pending, Registers, decided, settled, tally_of, billed, prefetch_decided}

@@ -1,5 +1,6 @@
 // An attempt that nothing but 3 refuses, by the slots as they lie: what it puts into them and all that it leaves besides.
-ghost use Rattle.perform.specs.Names.{◌≡◌, lent, walk_within};
+ghost use Rattle.std.specs.Prelude.{◌≡◌};
+ghost use Rattle.perform.specs.Names.{lent, walk_within};
 ghost use Rattle.perform.specs.Performed.{tally_for, registers_for, decided_for};
 ghost use Rattle.perform.specs.Attempts.{fetches_ahead, Searchable, Sighted, after_of, wordless_of, walked_of, matched_for, missed_for, fault_for, answer_for};
 

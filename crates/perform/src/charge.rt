@@ -1,5 +1,6 @@
 // The plain walk, each word charged to the bill as it is read.
-ghost use Rattle.perform.specs.Names.{◌≡◌, lent, word_posted, Room, read_within, after_second, by_first, walk_within};
+ghost use Rattle.std.specs.Prelude.{◌≡◌};
+ghost use Rattle.perform.specs.Names.{lent, word_posted, Room, read_within, after_second, by_first, walk_within};
 ghost use Rattle.perform.specs.Charged.{charged_of};
 
 use crate::Charged;

@@ -1,6 +1,7 @@
 #![tactic(auto)]
 // A plan performed: on the lanes of the slots in place, on the rest of the parts by value.
-ghost use Rattle.perform.specs.Names.{◌≡◌, lent, setting, bank_of, Spanned, setting_at};
+ghost use Rattle.std.specs.Prelude.{◌≡◌};
+ghost use Rattle.perform.specs.Names.{lent, setting, bank_of, Spanned, setting_at};
 ghost use Rattle.perform.specs.Performed.{performed, uncharged_performed, quiet_performed, Fit, Performs};
 
 use bank::Fill;

@@ -1,7 +1,8 @@
 -- What a call is to do: its refusals but 3, one after the other, then the thing itself (01, "Registers", "When the unit says no").
 -- Each takes what was tested: ok that the device is in range, l that the memories are not refused, o that prices and bill are not.
 -- Internal, for the code: the machine that is signed is unit/specs/Calls.antt and Machine.antt.
-use Rattle.plan.specs.Names.{ℕ, ◌/◌, ◌%◌, ◌^◌, Bool, eqb, leb, pick}
+use Rattle.std.specs.Prelude.{◌/◌, ◌%◌, ◌^◌}
+use Rattle.plan.specs.Names.{ℕ, Bool, eqb, leb, pick}
 use Rattle.page.specs.Words.{limit}
 use Rattle.page.specs.declared.Access.{Access}
 use Rattle.page.specs.declared.VirtualAddress.{VirtualAddress}

@@ -1,6 +1,7 @@
 #![tactic(auto)]
 // What a call is to do, by the registers, the pending fault and what was tested: refused with a number, or one thing to be performed.
-ghost use Rattle.plan.specs.Names.{◌≡◌, ◌and◌};
+ghost use Rattle.std.specs.Prelude.{◌≡◌};
+ghost use Rattle.plan.specs.Names.{◌and◌};
 ghost use Rattle.bill.specs.Bill.{bill_ok};
 ghost use Rattle.registers.specs.Table.{command_of};
 ghost use Rattle.plan.specs.Plans.{lent_refusal, request_refusal, request_plan, prefetch_plan, retry_plan, pending_plan, acknowledge_plan};

@@ -1,5 +1,6 @@
 -- What a word costs (01, "Meters and the walk bill", and refusal 9). Figures are binary64 values.
-use Rattle.prices.specs.Names.{ℕ, ◌/◌, Bool, eqb, pick, ◌and◌, Float, binary64, PhysicalAddress, Price, Prices, LastRow, Side}
+use Rattle.std.specs.Prelude.{◌/◌}
+use Rattle.prices.specs.Names.{ℕ, Bool, eqb, pick, ◌and◌, Float, binary64, PhysicalAddress, Price, Prices, LastRow, Side}
 use Rattle.std.specs.Float.Ieee.{of_bits, le}
 
 -- 0 and 4,096 as bit patterns of an f64

@@ -1,6 +1,6 @@
 #![tactic(auto)]
 // What a word costs: a memory's price, flat or by row, and what is kept of a memory to tell its row.
-ghost use Rattle.prices.specs.Names.{◌≡◌};
+ghost use Rattle.std.specs.Prelude.{◌≡◌};
 ghost use Rattle.prices.specs.Prices.{figure_ok, price_ok, prices_ok, row_of, row_price, word_price, side_read, fresh_side};
 
 use page::PhysicalAddress;

@@ -1,6 +1,7 @@
 -- A block of a recording (02, P1): 512 bytes, which are the number of its calls and its own number (2 bytes each), 42 records of
 -- 12 bytes, and the check of all that (4 bytes).
-use Rattle.recording.specs.Names.{ℕ, zero, suc, ◌+◌, ◌-◌, ◌*◌, List, [], ◌++◌, length, take, drop, replicate, call_size, call_count, word_bytes, halves, word_at, low_at, high_at, crc32}
+use Rattle.std.specs.Prelude.{◌+◌, ◌-◌, ◌*◌, ◌++◌}
+use Rattle.recording.specs.Names.{ℕ, zero, suc, List, [], length, take, drop, replicate, call_size, call_count, word_bytes, halves, word_at, low_at, high_at, crc32}
 
 abbrev pub block_size : ℕ
 block_size = 512

@@ -1,5 +1,6 @@
 -- A recording read (02, P1): block by block with what is carried from one to the next; refusal 16 with the index of the first bad block, then 12 with the bytes needed.
-use Rattle.recording.specs.Names.{ℕ, zero, suc, ◌+◌, ◌*◌, ◌/◌, Bool, not, List, [], ◌∷◌, eqb, leb, ltb, length, take, drop, pick, ◌and◌, all_good, crc32, true, ◌<◌, ◌≤◌, ◌≡◌, IsTable}
+use Rattle.std.specs.Prelude.{◌+◌, ◌*◌, ◌/◌, ◌∷◌, ◌<◌, ◌≤◌, ◌≡◌}
+use Rattle.recording.specs.Names.{ℕ, zero, suc, Bool, not, List, [], eqb, leb, ltb, length, take, drop, pick, ◌and◌, all_good, crc32, true, IsTable}
 use Rattle.recording.specs.Names.{Flaw, Heard, Progress, Taken, Written}
 use Rattle.recording.specs.Blocks.{block_size, full_block, checked_size, most_blocks, count_in, number_in, check_in, calls_of, unused_of, pieces}
 use Rattle.recording.specs.Writing.{Wrote, wrote, filled_with}

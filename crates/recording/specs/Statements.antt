@@ -1,7 +1,7 @@
 -- What the laws of this crate say (02, P1): what is written is read back, there is one recording for each list of calls, a damaged block is refused,
 -- and what is carried from block to block is all that the blocks before it say.
-use Rattle.std.specs.Prelude.{◌⊎◌}
-use Rattle.recording.specs.Names.{ℕ, ◌*◌, ◌%◌, ◌<◌, ◌≤◌, ◌≡◌, false, true, List, [], ◌∷◌, ◌++◌, length, take, get_or, set, replicate, Bytes}
+use Rattle.std.specs.Prelude.{◌⊎◌, ◌*◌, ◌%◌, ◌<◌, ◌≤◌, ◌≡◌, ◌∷◌, ◌++◌}
+use Rattle.recording.specs.Names.{ℕ, false, true, List, [], length, take, get_or, set, replicate, Bytes}
 use Rattle.recording.specs.Names.{call_at, call_count, call_size, is_good, Flaw, Heard, Progress, Taken, Written}
 use Rattle.recording.specs.Blocks.{block_size, most_calls}
 use Rattle.recording.specs.Writing.{records_in, bad_call, blocks_for, recording_of, filled_with, recording_written, written_number}

@@ -1,5 +1,6 @@
 -- Calls as a recording (02, P1): refusal 16 with the index of the first call that is not as said or past the most, then 12 with the bytes needed.
-use Rattle.recording.specs.Names.{ℕ, zero, suc, ◌+◌, ◌*◌, ◌/◌, ◌%◌, ◌<◌, ◌≤◌, ◌≡◌, List, eqb, leb, ltb, length, take, drop, min, pick, ◌and◌}
+use Rattle.std.specs.Prelude.{◌+◌, ◌*◌, ◌/◌, ◌%◌, ◌<◌, ◌≤◌, ◌≡◌}
+use Rattle.recording.specs.Names.{ℕ, zero, suc, List, eqb, leb, ltb, length, take, drop, min, pick, ◌and◌}
 use Rattle.recording.specs.Names.{call_size, call_at, is_good, pasted, IsTable, Written}
 use Rattle.recording.specs.Blocks.{block_size, call_room, most_blocks, most_calls, block_of, pieces}
 

@@ -3,7 +3,8 @@
 mod reader;
 mod writer;
 
-ghost use Rattle.recording.specs.Names.{◌≡◌, take, drop};
+ghost use Rattle.std.specs.Prelude.{◌≡◌};
+ghost use Rattle.recording.specs.Names.{take, drop};
 ghost use Rattle.recording.specs.Blocks.{calls_of};
 ghost use Rattle.recording.specs.Writing.{wrote, block_written, recording_written};
 ghost use Rattle.recording.specs.Reading.{progress, block_taken, recording_read};

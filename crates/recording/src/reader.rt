@@ -1,5 +1,6 @@
 // Blocks read: each tested with what is carried from the one before, and their calls.
-ghost use Rattle.recording.specs.Names.{◌≡◌, length, pasted, IsTable};
+ghost use Rattle.std.specs.Prelude.{◌≡◌};
+ghost use Rattle.recording.specs.Names.{length, pasted, IsTable};
 ghost use Rattle.recording.specs.Blocks.{pieces};
 ghost use Rattle.recording.specs.Reading.{all_zero, block_judged, block_taken, heard, calls_at, Judgeable, Fillable};
 

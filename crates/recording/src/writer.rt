@@ -1,5 +1,6 @@
 // Calls written as blocks.
-ghost use Rattle.recording.specs.Names.{◌≡◌, length, min, pasted};
+ghost use Rattle.std.specs.Prelude.{◌≡◌};
+ghost use Rattle.recording.specs.Names.{length, min, pasted};
 ghost use Rattle.recording.specs.Blocks.{most_calls, block_of};
 ghost use Rattle.recording.specs.Writing.{first_bad, recording_of, BlockFits, BlocksFit};
 

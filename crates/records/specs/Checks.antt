@@ -1,5 +1,6 @@
 -- What makes a record proper (01, "The builder"; "When the unit says no", 10).
-use Rattle.records.specs.Names.{ℕ, ◌*◌, ◌%◌, ◌^◌, Bool, List, eqb, ltb, leb, length, get_or, ◌and◌, ◌or◌, low_bits, Kind, Mapping}
+use Rattle.std.specs.Prelude.{◌*◌, ◌%◌, ◌^◌}
+use Rattle.records.specs.Names.{ℕ, Bool, List, eqb, ltb, leb, length, get_or, ◌and◌, ◌or◌, low_bits, Kind, Mapping}
 use Rattle.records.specs.Mappings.{record_size, mapping_of}
 
 -- x is a multiple of the page's size

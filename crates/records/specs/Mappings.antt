@@ -1,5 +1,6 @@
 -- A record of the builder's input as a mapping, and a mapping as a record (01, "The builder").
-use Rattle.records.specs.Names.{ℕ, zero, suc, ◌*◌, ◌/◌, ◌%◌, Bool, List, [], ◌∷◌, ◌++◌, length, get_or, take, drop, ◌or◌, agree, joined, virtual}
+use Rattle.std.specs.Prelude.{◌*◌, ◌/◌, ◌%◌, ◌∷◌, ◌++◌}
+use Rattle.records.specs.Names.{ℕ, zero, suc, Bool, List, [], length, get_or, take, drop, ◌or◌, agree, joined, virtual}
 use Rattle.records.specs.Names.{physical, low_bits, kind_of, type_of, Kind, VirtualAddress, PhysicalAddress, word_of, word_bytes, Mapping}
 
 -- the bytes of a record

@@ -1,5 +1,6 @@
 -- What a list of mappings means at an address (01, demand 3).
-use Rattle.records.specs.Names.{ℕ, List, [], ◌∷◌, pick, permits, Access, VirtualAddress, Mapping, Held, Meaning}
+use Rattle.std.specs.Prelude.{◌∷◌}
+use Rattle.records.specs.Names.{ℕ, List, [], pick, permits, Access, VirtualAddress, Mapping, Held, Meaning}
 use Rattle.records.specs.Mappings.{holds, byte_of}
 
 -- the first mapping of a list whose region has the address

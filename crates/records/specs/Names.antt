@@ -1,5 +1,6 @@
 -- What the definitions of this crate are written with.
-pub use Rattle.page.specs.Ground.{Bool, List, [], ◌%◌, ◌*◌, ◌++◌, ◌+◌, ◌/◌, ◌<◌, ◌^◌, ◌∷◌, ◌≡◌, ◌≤◌, drop, eqb, false, get_or, leb, length, ltb, not}
+pub use Rattle.std.specs.Prelude.{◌%◌, ◌*◌, ◌++◌, ◌+◌, ◌/◌, ◌<◌, ◌^◌, ◌∷◌, ◌≡◌, ◌≤◌}
+pub use Rattle.page.specs.Ground.{Bool, List, [], drop, eqb, false, get_or, leb, length, ltb, not}
 pub use Rattle.page.specs.Ground.{replicate, set, suc, take, true, zero, ℕ}
 pub use Rattle.page.specs.Low.{agree}
 unfoldable pub use Rattle.page.specs.Low.{joined}

@@ -1,5 +1,6 @@
 -- Which kinds of page stand in which megabyte, noted in one pass over a list (01, "The builder").
-use Rattle.records.specs.Names.{ℕ, ◌/◌, ◌^◌, Bool, false, List, [], ◌∷◌, eqb, ◌+◌, ◌*◌, ◌<◌, ◌≡◌, get_or, ◌and◌, ◌or◌, type_of, megabytes, Kind}
+use Rattle.std.specs.Prelude.{◌/◌, ◌^◌, ◌∷◌, ◌+◌, ◌*◌, ◌<◌, ◌≡◌}
+use Rattle.records.specs.Names.{ℕ, Bool, false, List, [], eqb, get_or, ◌and◌, ◌or◌, type_of, megabytes, Kind}
 use Rattle.records.specs.Names.{Mapping, replicate}
 
 -- a mapping is a page of kind k in megabyte i

@@ -1,5 +1,6 @@
 -- Which records of a list are refused (01, "The builder"; "When the unit says no", 10 and 11).
-use Rattle.records.specs.Names.{ℕ, zero, suc, ◌+◌, ◌/◌, Bool, false, not, List, [], ◌∷◌, leb, length, pick, ◌or◌, Mapping, Checked}
+use Rattle.std.specs.Prelude.{◌+◌, ◌/◌, ◌∷◌}
+use Rattle.records.specs.Names.{ℕ, zero, suc, Bool, false, not, List, [], leb, length, pick, ◌or◌, Mapping, Checked}
 use Rattle.records.specs.Mappings.{record_size, record_at, mapping_of, mappings_from, overlap}
 use Rattle.records.specs.Checks.{well_formed}
 

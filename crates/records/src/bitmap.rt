@@ -1,5 +1,6 @@
 // Which tiny pages are taken: a bit for each of the 16,384, 64 to a word.
-ghost use Rattle.records.specs.Names.{◌≡◌, ◌+◌, ◌*◌, ◌<◌, ◌≤◌, length};
+ghost use Rattle.std.specs.Prelude.{◌≡◌, ◌+◌, ◌*◌, ◌<◌, ◌≤◌};
+ghost use Rattle.records.specs.Names.{length};
 ghost use Rattle.records.specs.Bitmap.{Says, Untaken, Free, Full, Covered};
 
 use crate::Mapping;

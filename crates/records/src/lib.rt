@@ -3,7 +3,8 @@
 mod bitmap;
 pub mod lists;
 
-ghost use Rattle.records.specs.Names.{◌≡◌, megabytes, ◌+◌, ◌*◌, ◌<◌, ◌≤◌, length, get_or, take, drop, word_of};
+ghost use Rattle.std.specs.Prelude.{◌≡◌, ◌+◌, ◌*◌, ◌<◌, ◌≤◌};
+ghost use Rattle.records.specs.Names.{megabytes, length, get_or, take, drop, word_of};
 ghost use Rattle.records.specs.Mappings.{record_size, record_at, mapping_of, mappings, no_mapping, holds, byte_of};
 ghost use Rattle.records.specs.Checks.{well_formed};
 

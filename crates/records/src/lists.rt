@@ -1,5 +1,6 @@
 // Lists of records: which of them are refused, which record holds an address, and what a list means there.
-ghost use Rattle.records.specs.Names.{◌≡◌, ◌*◌, ◌<◌, ◌≤◌, true, length, set, megabytes, Checked};
+ghost use Rattle.std.specs.Prelude.{◌≡◌, ◌*◌, ◌<◌, ◌≤◌};
+ghost use Rattle.records.specs.Names.{true, length, set, megabytes, Checked};
 ghost use Rattle.records.specs.Mappings.{record_size, mappings};
 ghost use Rattle.records.specs.Noted.{Blank, note_at, Kinds};
 ghost use Rattle.records.specs.Refusals.{bad, checked};

@@ -1,5 +1,6 @@
 -- Answers and pending faults, with the paper's numbers (01, "When the unit says no", "Registers").
-use Rattle.registers.specs.Names.{ℕ, Bool, true, false, List, [], ◌∷◌, Fault, Pending, Answer}
+use Rattle.std.specs.Prelude.{◌∷◌}
+use Rattle.registers.specs.Names.{ℕ, Bool, true, false, List, [], Fault, Pending, Answer}
 
 -- the paper's number of a fault
 abbrev pub fault_number : Fault → ℕ

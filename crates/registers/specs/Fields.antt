@@ -1,5 +1,6 @@
 -- The registers' fields: control bits, a slot in register form, ranges, settings (01, "Registers", "The unit").
-use Rattle.registers.specs.Names.{ℕ, ◌+◌, ◌*◌, ◌/◌, ◌%◌, ◌^◌, Bool, true, eqb, ltb, ◌and◌, virtual, physical, limit, VirtualAddress, Words}
+use Rattle.std.specs.Prelude.{◌+◌, ◌*◌, ◌/◌, ◌%◌, ◌^◌}
+use Rattle.registers.specs.Names.{ℕ, Bool, true, eqb, ltb, ◌and◌, virtual, physical, limit, VirtualAddress, Words}
 use Rattle.registers.specs.Names.{Entry, Registers, Pending, Setting}
 
 -- control: 1 enable, 2 walk

@@ -1,8 +1,9 @@
 -- What the definitions of this crate are written with.
+pub use Rattle.std.specs.Prelude.{◌%◌, ◌*◌, ◌+◌, ◌/◌, ◌^◌, ◌∷◌, ◌≡◌}
 pub use Rattle.bank.specs.Changes.{bank_flushed, bank_flushed_at, locked_at}
 pub use Rattle.bank.specs.declared.Bank.{Bank}
 pub use Rattle.lanes.specs.Lanes.{slots}
-pub use Rattle.page.specs.Ground.{Bool, List, [], ◌%◌, ◌*◌, ◌+◌, ◌/◌, ◌^◌, ◌∷◌, ◌≡◌, eqb, false, leb, ltb, not, true, ℕ}
+pub use Rattle.page.specs.Ground.{Bool, List, [], eqb, false, leb, ltb, not, true, ℕ}
 unfoldable pub use Rattle.page.specs.Pick.{◌and◌, pick}
 pub use Rattle.page.specs.Words.{limit, physical, virtual}
 pub use Rattle.page.specs.declared.VirtualAddress.{VirtualAddress}

@@ -1,5 +1,6 @@
 -- The 21 registers in the order of Table 3 of 000: what a write asks for, and what a read shows (01, "Registers").
-use Rattle.registers.specs.Names.{ℕ, ◌+◌, ◌*◌, ◌/◌, ◌%◌, Bool, not, List, [], ◌∷◌, eqb, ltb, leb, pick, ◌and◌, slots, locked_at, bank_flushed}
+use Rattle.std.specs.Prelude.{◌+◌, ◌*◌, ◌/◌, ◌%◌, ◌∷◌}
+use Rattle.registers.specs.Names.{ℕ, Bool, not, List, [], eqb, ltb, leb, pick, ◌and◌, slots, locked_at, bank_flushed}
 use Rattle.registers.specs.Names.{bank_flushed_at, Bank, Pending, Entry, Registers, Answer, Setting, Tending, Command}
 use Rattle.registers.specs.Answers.{fault_status, fault_address}
 use Rattle.registers.specs.Fields.{cam_address}

@@ -3,7 +3,7 @@
 pub mod offsets;
 pub mod values;
 
-ghost use Rattle.registers.specs.Names.{◌≡◌};
+ghost use Rattle.std.specs.Prelude.{◌≡◌};
 ghost use Rattle.registers.specs.Answers.{fault_bit, is_prefetch, idle};
 ghost use Rattle.registers.specs.Fields.{is_on, is_walking, fresh_registers, entry_ok, registers_ok, pending_ok, words_of, entry_of, cam_address};
 

@@ -1,5 +1,5 @@
 // What a read shows.
-ghost use Rattle.registers.specs.Names.{◌≡◌};
+ghost use Rattle.std.specs.Prelude.{◌≡◌};
 ghost use Rattle.registers.specs.Answers.{fault_status, fault_address};
 ghost use Rattle.registers.specs.Table.{value_at};
 

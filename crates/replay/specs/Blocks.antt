@@ -1,6 +1,7 @@
 -- A recording replayed block by block (02, P1), and its calls as the machine's.
 use Rattle.unit.specs.Machine
-use Rattle.replay.specs.Names.{ℕ, zero, suc, ◌+◌, List, [], ◌∷◌, ◌++◌, Lent, Prices, calls_in, Call, calls_at, Bench, state_words}
+use Rattle.std.specs.Prelude.{◌+◌, ◌∷◌, ◌++◌}
+use Rattle.replay.specs.Names.{ℕ, zero, suc, List, [], Lent, Prices, calls_in, Call, calls_at, Bench, state_words}
 use Rattle.replay.specs.Replay.{bench_behind, answers_of}
 
 -- k blocks from block i on: the answers of each from the bench that the one before it left, then the state (02, P1)

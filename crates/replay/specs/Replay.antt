@@ -1,5 +1,6 @@
 -- Calls replayed (02, P1): made on a bench one after another, with the same memories and prices, each answer as 16 bytes.
-use Rattle.replay.specs.Names.{ℕ, ◌*◌, List, [], ◌∷◌, ◌++◌, leb, length, pick, Lent, Prices, call_count, calls_in, Call, said_words, answer_size, stepped, Bench, placed}
+use Rattle.std.specs.Prelude.{◌*◌, ◌∷◌, ◌++◌}
+use Rattle.replay.specs.Names.{ℕ, List, [], leb, length, pick, Lent, Prices, call_count, calls_in, Call, said_words, answer_size, stepped, Bench, placed}
 
 -- the bench behind the calls (02, P1)
 unfoldable pub bench_behind : Lent → Prices → Bench → List Call → Bench

@@ -1,9 +1,10 @@
 -- What the law of this crate says (02, P1): replaying a recording block by block is running its calls one after another.
+use Rattle.std.specs.Prelude.{◌≡◌}
 use Rattle.recording.specs.Writing.{blocks_for, recording_of}
 use Rattle.recording.specs.Statements.{Writable}
 use Rattle.wire.specs.Words.{Bytes}
 use Rattle.unit.specs.Machine
-use Rattle.replay.specs.Names.{ℕ, List, true, ◌≡◌, Lent, Prices, calls_in, all_good, heard, blocks_in, call_bytes, Heard, Progress, Bench, session_words}
+use Rattle.replay.specs.Names.{ℕ, List, true, Lent, Prices, calls_in, all_good, heard, blocks_in, call_bytes, Heard, Progress, Bench, session_words}
 use Rattle.replay.specs.Replay.{bench_behind}
 use Rattle.replay.specs.Blocks.{block_words, block_bench, machine_bench, machine_calls}
 

@@ -1,6 +1,7 @@
 #![tactic(auto)]
 // A recorded session replayed: the calls of a block made on a bench, one after another, and what each says.
-ghost use Rattle.replay.specs.Names.{◌≡◌, lent};
+ghost use Rattle.std.specs.Prelude.{◌≡◌};
+ghost use Rattle.replay.specs.Names.{lent};
 ghost use Rattle.replay.specs.Replay.{replayed, replay_of};
 
 use page::PhysicalAddress;

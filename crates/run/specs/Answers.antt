@@ -1,5 +1,6 @@
 -- What a call said as 16 bytes: a number, where the last word of its walk lies (02, P6), and a value of 8 bytes in two's complement.
-use Rattle.run.specs.Names.{ℕ, ◌+◌, ◌*◌, ◌%◌, ◌^◌, List, ◌∷◌, Place, answer_number, shift_number, Answer, Shift, Said, twos, wide}
+use Rattle.std.specs.Prelude.{◌+◌, ◌*◌, ◌%◌, ◌^◌, ◌∷◌}
+use Rattle.run.specs.Names.{ℕ, List, Place, answer_number, shift_number, Answer, Shift, Said, twos, wide}
 
 -- the numbers of what the paper gives none: a physical address, a register's value, a distance
 abbrev pub an_address : ℕ

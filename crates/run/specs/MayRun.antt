@@ -1,5 +1,6 @@
 -- Which runs are answered.
-use Rattle.run.specs.Names.{ℕ, ◌+◌, ◌*◌, Bool, List, leb, ◌and◌, call_count, all_good, state_size}
+use Rattle.std.specs.Prelude.{◌+◌, ◌*◌}
+use Rattle.run.specs.Names.{ℕ, Bool, List, leb, ◌and◌, call_count, all_good, state_size}
 
 -- the bytes of an answer, and of a state
 abbrev pub answer_size : ℕ

@@ -1,4 +1,5 @@
 -- What the definitions of this crate are written with.
+pub use Rattle.std.specs.Prelude.{◌%◌, ◌*◌, ◌++◌, ◌+◌, ◌^◌, ◌∷◌, ◌≡◌, ◌≤◌}
 pub use Rattle.bank.specs.declared.Bank.{Bank}
 pub use Rattle.bill.specs.Bill.{bill_ok}
 pub use Rattle.bill.specs.declared.Bill.{Bill}
@@ -11,7 +12,7 @@ pub use Rattle.memory.specs.Memory.{Lent, lent}
 unfoldable pub use Rattle.meters.specs.Posted.{posted}
 pub use Rattle.meters.specs.declared.Meters.{Meters}
 pub use Rattle.memory.specs.declared.Place.{Place}
-pub use Rattle.page.specs.Ground.{Bool, List, [], ◌%◌, ◌*◌, ◌++◌, ◌+◌, ◌^◌, ◌∷◌, ◌≡◌, ◌≤◌, leb, length, true, ℕ}
+pub use Rattle.page.specs.Ground.{Bool, List, [], leb, length, true, ℕ}
 unfoldable pub use Rattle.page.specs.Pick.{◌and◌, pick}
 pub use Rattle.perform.specs.Performed.{Done}
 pub use Rattle.plan.specs.Plans.{drop_plan, read_plan, request_plan, shift_plan, write_plan}

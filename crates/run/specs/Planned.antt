@@ -1,6 +1,7 @@
 -- The plan of a call of a record, and the bench that a plan leaves.
 -- Internal, for the code: the machine that is signed is unit/specs/Calls.antt and Machine.antt.
-use Rattle.run.specs.Names.{ℕ, ◌≤◌, ◌≡◌, Bool, true, List, length, posted, Meters, Bill, Bank, command_of, Pending, Registers, request_plan}
+use Rattle.std.specs.Prelude.{◌≤◌, ◌≡◌}
+use Rattle.run.specs.Names.{ℕ, Bool, true, List, length, posted, Meters, Bill, Bank, command_of, Pending, Registers, request_plan}
 use Rattle.run.specs.Names.{write_plan, read_plan, drop_plan, shift_plan, Plan, Done, in_range, Call, all_good, Bench, Stepped}
 use Rattle.run.specs.MayRun.{run_size}
 

@@ -1,5 +1,6 @@
 -- What a run writes and answers.
-use Rattle.run.specs.Names.{ℕ, List, [], ◌∷◌, ◌++◌, length, pick, Lent, Prices, calls_in, Call, stepped, Bench, placed, state_words}
+use Rattle.std.specs.Prelude.{◌∷◌, ◌++◌}
+use Rattle.run.specs.Names.{ℕ, List, [], length, pick, Lent, Prices, calls_in, Call, stepped, Bench, placed, state_words}
 use Rattle.run.specs.Answers.{said_words}
 use Rattle.run.specs.MayRun.{run_size, may_run}
 

@@ -1,5 +1,6 @@
 // What a call said as 16 bytes: a number, where the last word of its walk lies, and a value.
-ghost use Rattle.run.specs.Names.{◌≡◌, fault_number, words_put};
+ghost use Rattle.std.specs.Prelude.{◌≡◌};
+ghost use Rattle.run.specs.Names.{fault_number, words_put};
 ghost use Rattle.run.specs.Answers.{answer_code, answer_word, shift_code, shift_word, place_code, cut_place, answer_words, said_words};
 
 use decision::{Said, Shift};

@@ -2,7 +2,8 @@
 // A run: every call of a list in order, its answers and the state after the last one written.
 pub mod answers;
 
-ghost use Rattle.run.specs.Names.{◌≡◌, ◌and◌, lent, bill_ok};
+ghost use Rattle.std.specs.Prelude.{◌≡◌};
+ghost use Rattle.run.specs.Names.{◌and◌, lent, bill_ok};
 ghost use Rattle.run.specs.Planned.{plan_of, Runnable};
 ghost use Rattle.run.specs.Run.{ran, ran_from, run_with};
 ghost use Rattle.run.specs.MayRun.{may_run};

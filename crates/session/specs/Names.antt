@@ -1,2 +1,2 @@
 -- What the definitions of this crate are written with.
-pub use Rattle.page.specs.Ground.{◌≡◌}
+pub use Rattle.std.specs.Prelude.{◌≡◌}

@@ -1,6 +1,6 @@
 #![tactic(auto)]
 // A session on the bench: a device, a bill and meters, and one call after another.
-ghost use Rattle.session.specs.Names.{◌≡◌};
+ghost use Rattle.std.specs.Prelude.{◌≡◌};
 ghost use Rattle.memory.specs.Memory.{lent};
 ghost use Rattle.unit.specs.Machine.{step_out, step_told};
 ghost use Rattle.session.specs.Bench.{fresh_bench, made, stepped};

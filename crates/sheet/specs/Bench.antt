@@ -1,5 +1,6 @@
 -- The bench that the sheet's lines start from (01, "Bench sheet"): a list built in a memory, and the device that demand 3 starts.
-use Rattle.sheet.specs.Names.{ℕ, ◌+◌, ◌*◌, List, replicate, Lent, build_of, fresh_bill, Device, lock_at, write_of, base_a, room_a, prices_a}
+use Rattle.std.specs.Prelude.{◌+◌, ◌*◌}
+use Rattle.sheet.specs.Names.{ℕ, List, replicate, Lent, build_of, fresh_bill, Device, lock_at, write_of, base_a, room_a, prices_a}
 use Rattle.sheet.specs.Names.{lent_alone, start_a}
 
 -- what the builder leaves of a list in a memory that just holds list A

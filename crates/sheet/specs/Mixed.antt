@@ -1,5 +1,6 @@
 -- A megabyte of large, small and tiny pages (02, P3): the lines that a sheet would have for it, worked out by hand.
-use Rattle.sheet.specs.Names.{ℕ, List, [], ◌∷◌, ◌++◌, replicate, Access}
+use Rattle.std.specs.Prelude.{◌∷◌, ◌++◌}
+use Rattle.sheet.specs.Names.{ℕ, List, [], replicate, Access}
 use Rattle.sheet.specs.Sheet.{Line, word, fine, request, last_word, slot, line, both, address, fault}
 
 -- large 510000 to 10020000, read; small 501000 to 10003000, both; tiny 500400 to 10000C00, both

@@ -1,4 +1,5 @@
 -- What the definitions of this crate are written with.
+pub use Rattle.std.specs.Prelude.{◌*◌, ◌++◌, ◌+◌, ◌-◌, ◌/◌, ◌∷◌, ◌≡◌}
 pub use Rattle.bill.specs.Bill.{fresh_bill}
 unfoldable pub use Rattle.builder.specs.Build.{answer_of, build_of}
 pub use Rattle.builder.specs.Build.{built_number, built_value}
@@ -8,7 +9,7 @@ pub use Rattle.memory.specs.Memory.{lent_alone}
 pub use Rattle.lanes.specs.Lanes.{slots}
 pub use Rattle.memory.specs.Memory.{Lent}
 pub use Rattle.memory.specs.declared.Place.{Place}
-pub use Rattle.page.specs.Ground.{Bool, List, [], ◌*◌, ◌++◌, ◌+◌, ◌-◌, ◌/◌, ◌∷◌, ◌≡◌, drop, eqb, false, get_or, replicate, suc, take, true, zero, ℕ}
+pub use Rattle.page.specs.Ground.{Bool, List, [], drop, eqb, false, get_or, replicate, suc, take, true, zero, ℕ}
 unfoldable pub use Rattle.page.specs.Pick.{◌and◌}
 pub use Rattle.page.specs.Words.{virtual, word_valid}
 pub use Rattle.registers.specs.Answers.{answer_number, answer_values}

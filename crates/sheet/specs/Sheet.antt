@@ -1,5 +1,6 @@
 -- The proved lines of the bench sheet as one table (01, "Bench sheet"): a question to the bench, and the numbers that answer it.
-use Rattle.sheet.specs.Names.{ℕ, zero, suc, ◌+◌, ◌-◌, ◌*◌, ◌/◌, ◌≡◌, Bool, true, false, List, [], ◌∷◌, ◌++◌, eqb, get_or, take, drop, replicate}
+use Rattle.std.specs.Prelude.{◌+◌, ◌-◌, ◌*◌, ◌/◌, ◌≡◌, ◌∷◌, ◌++◌}
+use Rattle.sheet.specs.Names.{ℕ, zero, suc, Bool, true, false, List, [], eqb, get_or, take, drop, replicate}
 use Rattle.sheet.specs.Names.{◌and◌, virtual, word_valid, word_of, Lent, Place, first_of, First, Built, answer_of, built_number, built_value}
 use Rattle.sheet.specs.Names.{fresh_bill, slots, answer_number, answer_values, entry_of, Access, Bank, Answer, Entry, Device, Outcome}
 use Rattle.sheet.specs.Names.{request_of, records_a, base_a, prices_a, start_a}

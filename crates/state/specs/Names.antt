@@ -1,12 +1,12 @@
 -- What the definitions of this crate are written with.
-pub use Rattle.std.specs.Prelude.{Float}
+pub use Rattle.std.specs.Prelude.{Float, ◌%◌, ◌*◌, ◌++◌, ◌+◌, ◌/◌, ◌∷◌, ◌≡◌, ◌≤◌}
 pub use Rattle.std.specs.Float.{binary64}
 pub use Rattle.bank.specs.declared.Bank.{Bank}
 pub use Rattle.bill.specs.declared.Bill.{Bill}
 unfoldable pub use Rattle.calls.specs.Forms.{access_of}
 pub use Rattle.lanes.specs.Lanes.{slots}
 pub use Rattle.meters.specs.declared.Meters.{Meters}
-pub use Rattle.page.specs.Ground.{Bool, List, [], ◌%◌, ◌*◌, ◌++◌, ◌+◌, ◌/◌, ◌∷◌, ◌≡◌, ◌≤◌, eqb, get_or, leb, length, ltb, suc, zero, ℕ}
+pub use Rattle.page.specs.Ground.{Bool, List, [], eqb, get_or, leb, length, ltb, suc, zero, ℕ}
 unfoldable pub use Rattle.page.specs.Pick.{◌and◌, ◌or◌, pick}
 pub use Rattle.page.specs.Words.{physical, virtual}
 pub use Rattle.page.specs.declared.Access.{Access}

@@ -1,5 +1,6 @@
 -- Parts of a state as words.
-use Rattle.state.specs.Names.{ℕ, ◌/◌, ◌%◌, List, [], ◌∷◌, ◌++◌, ltb, pick, ◌and◌, Meters, Bill, LastRow, Entry, binary64, wide, halves}
+use Rattle.std.specs.Prelude.{◌/◌, ◌%◌, ◌∷◌, ◌++◌}
+use Rattle.state.specs.Names.{ℕ, List, [], ltb, pick, ◌and◌, Meters, Bill, LastRow, Entry, binary64, wide, halves}
 use Rattle.std.specs.Float.Ieee.{to_bits}
 
 -- CAM high, CAM low, RAM high, RAM low

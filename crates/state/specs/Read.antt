@@ -1,5 +1,6 @@
 -- A bench from a handed-in state: register images and slots as they stand; and prices of a kind.
-use Rattle.state.specs.Names.{ℕ, zero, suc, ◌+◌, ◌*◌, Bool, List, [], ◌∷◌, eqb, leb, length, get_or, pick, ◌and◌, ◌or◌, physical, Meters, Bill}
+use Rattle.std.specs.Prelude.{◌+◌, ◌*◌, ◌∷◌}
+use Rattle.state.specs.Names.{ℕ, zero, suc, Bool, List, [], eqb, leb, length, get_or, pick, ◌and◌, ◌or◌, physical, Meters, Bill}
 use Rattle.state.specs.Names.{Side, LastRow, Price, Prices, Bank, slots, Entry, Registers, Device, Bench, Float, swapped, word_at, low_at, high_at}
 use Rattle.state.specs.Names.{ltb, virtual, Fault, Pending, access_of}
 use Rattle.state.specs.Parts.{no_row}

@@ -1,5 +1,6 @@
 -- The state of a bench as 82 words.
-use Rattle.state.specs.Names.{ℕ, zero, suc, ◌+◌, ◌*◌, List, [], ◌∷◌, ◌++◌, get_or, Access, slots, fault_bit, Registers, Pending, Device, Bench}
+use Rattle.std.specs.Prelude.{◌+◌, ◌*◌, ◌∷◌, ◌++◌}
+use Rattle.state.specs.Names.{ℕ, zero, suc, List, [], get_or, Access, slots, fault_bit, Registers, Pending, Device, Bench}
 use Rattle.state.specs.Names.{halves, swapped}
 use Rattle.state.specs.Parts.{entry_words, lock_word, meter_words, bill_words}
 

@@ -3,7 +3,8 @@
 mod layout;
 pub mod read;
 
-ghost use Rattle.state.specs.Names.{◌≡◌, ◌+◌, ◌≤◌, length, slots, placed, words_put, ◌++◌, binary64};
+ghost use Rattle.std.specs.Prelude.{◌≡◌, ◌+◌, ◌≤◌, ◌++◌};
+ghost use Rattle.state.specs.Names.{length, slots, placed, words_put, binary64};
 ghost use Rattle.state.specs.State.{register_words, slot_words, access_number, pending_words, device_words, state_words};
 ghost use Rattle.std.specs.Float.Ieee.{to_bits};
 ghost use Rattle.state.specs.Parts.{entry_words, lock_word, meter_words, row_word, bill_words};

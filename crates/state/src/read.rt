@@ -1,5 +1,6 @@
 // Numbers of a handed-in state as a device takes them: lock base, victim and the pending fault.
-ghost use Rattle.state.specs.Names.{◌≡◌, ◌≤◌, slots};
+ghost use Rattle.std.specs.Prelude.{◌≡◌, ◌≤◌};
+ghost use Rattle.state.specs.Names.{slots};
 ghost use Rattle.state.specs.Read.{narrowed, lock_taken, victim_taken, pending_of, is_status, is_state, entry_at, registers_in, lane_from, bank_in};
 ghost use Rattle.state.specs.Read.{meters_in, side_of, bill_in, device_in, bench_in, lock_in, price_of, prices_of};
 

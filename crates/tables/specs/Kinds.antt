@@ -1,5 +1,6 @@
 -- Which kinds of page stand in which megabyte, noted in one pass over a list, and the tables that the notes give (01, "The builder").
-use Rattle.tables.specs.Names.{ℕ, ◌+◌, Bool, false, List, get_or, pick, ◌or◌, Second}
+use Rattle.std.specs.Prelude.{◌+◌}
+use Rattle.tables.specs.Names.{ℕ, Bool, false, List, get_or, pick, ◌or◌, Second}
 
 -- the table that the notes give megabyte i
 unfoldable pub table_by : List Bool → ℕ → Second

@@ -1,5 +1,6 @@
 -- What the definitions of this crate are written with.
-pub use Rattle.page.specs.Ground.{Bool, List, ◌%◌, ◌*◌, ◌+◌, ◌-◌, ◌/◌, ◌^◌, ◌≡◌, eqb, false, get_or, leb, ltb, suc, zero, ℕ}
+pub use Rattle.std.specs.Prelude.{◌%◌, ◌*◌, ◌+◌, ◌-◌, ◌/◌, ◌^◌, ◌≡◌}
+pub use Rattle.page.specs.Ground.{Bool, List, eqb, false, get_or, leb, ltb, suc, zero, ℕ}
 unfoldable pub use Rattle.page.specs.Low.{upper}
 unfoldable pub use Rattle.page.specs.Pick.{◌and◌, ◌or◌, pick}
 pub use Rattle.page.specs.Words.{low_bits, type_of, virtual}

@@ -1,5 +1,6 @@
 -- Where the tables of a list lie, under a first level of n words (01, "The builder").
-use Rattle.tables.specs.Names.{ℕ, zero, suc, ◌+◌, ◌-◌, ◌*◌, ◌/◌, List, pick, ◌or◌, Kind, Mapping, Second, has_kind}
+use Rattle.std.specs.Prelude.{◌+◌, ◌-◌, ◌*◌, ◌/◌}
+use Rattle.tables.specs.Names.{ℕ, zero, suc, List, pick, ◌or◌, Kind, Mapping, Second, has_kind}
 
 -- the table of megabyte i: fine where it holds a tiny page, else coarse where it holds large or small ones
 unfoldable pub table_of : List Mapping → ℕ → Second

@@ -1,5 +1,6 @@
 -- Which word stands where in the image of a list, under a first level of n words (01, "The builder", "The walk"; 02, P3).
-use Rattle.tables.specs.Names.{ℕ, zero, suc, ◌+◌, ◌-◌, ◌*◌, ◌/◌, ◌%◌, ◌^◌, List, eqb, ltb, leb, pick, ◌and◌, upper, virtual, low_bits, type_of}
+use Rattle.std.specs.Prelude.{◌+◌, ◌-◌, ◌*◌, ◌/◌, ◌%◌, ◌^◌}
+use Rattle.tables.specs.Names.{ℕ, zero, suc, List, eqb, ltb, leb, pick, ◌and◌, upper, virtual, low_bits, type_of}
 use Rattle.tables.specs.Names.{VirtualAddress, Mapping, Held, holder, Second}
 use Rattle.tables.specs.Tables.{table_of, table_end, table_start}
 

@@ -2,7 +2,7 @@
 // Where the tables of a list lie.
 pub mod words;
 
-ghost use Rattle.tables.specs.Names.{◌≡◌};
+ghost use Rattle.std.specs.Prelude.{◌≡◌};
 ghost use Rattle.tables.specs.Tables.{table_size, start_after};
 
 // The second-level table of a megabyte.

@@ -1,5 +1,6 @@
 // Which word stands where in the image of a list.
-ghost use Rattle.tables.specs.Names.{◌≡◌, ◌+◌, ◌^◌, Held};
+ghost use Rattle.std.specs.Prelude.{◌≡◌, ◌+◌, ◌^◌};
+ghost use Rattle.tables.specs.Names.{Held};
 ghost use Rattle.tables.specs.Words.{section_word, page_word, step_bits, word_in};
 
 use crate::Second;

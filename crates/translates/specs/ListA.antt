@@ -1,5 +1,6 @@
 -- List A of the bench sheet (01, "Bench sheet"), as the builder reads it.
-use Rattle.translates.specs.Names.{ℕ, List, [], ◌∷◌}
+use Rattle.std.specs.Prelude.{◌∷◌}
+use Rattle.translates.specs.Names.{ℕ, List, []}
 
 abbrev pub records_a : List ℕ
 records_a =

@@ -1,12 +1,12 @@
 -- What the definitions of this crate are written with.
-pub use Rattle.std.specs.Prelude.{◌⊎◌}
+pub use Rattle.std.specs.Prelude.{◌⊎◌, ◌++◌, ◌+◌, ◌-◌, ◌<◌, ◌∷◌, ◌≡◌, ◌≤◌}
 unfoldable pub use Rattle.builder.specs.Build.{answer_of, build_of}
 unfoldable pub use Rattle.builder.specs.Image.{image}
 pub use Rattle.builder.specs.declared.Built.{Built}
 pub use Rattle.memory.specs.Memory.{Lent, lent_ok}
 pub use Rattle.memory.specs.declared.Reads.{Reads}
 pub use Rattle.memory.specs.declared.Source.{Source}
-pub use Rattle.page.specs.Ground.{List, [], ◌++◌, ◌+◌, ◌-◌, ◌<◌, ◌∷◌, ◌≡◌, ◌≤◌, drop, length, take, true, ℕ}
+pub use Rattle.page.specs.Ground.{List, [], drop, length, take, true, ℕ}
 pub use Rattle.page.specs.Words.{limit, megabytes}
 pub use Rattle.page.specs.declared.VirtualAddress.{VirtualAddress}
 unfoldable pub use Rattle.records.specs.Mappings.{byte_of, mappings}

@@ -1,8 +1,9 @@
 -- What the image of an accepted list owes (01, demand 3): the plain walk over it finds what the list says, the same over a
 -- page's whole range, and needs no word outside it.
-use Rattle.translates.specs.Names.{ℕ, ◌+◌, ◌-◌, ◌<◌, ◌≤◌, ◌≡◌, true, List, ◌++◌, length, take, drop, megabytes, limit, VirtualAddress}
+use Rattle.std.specs.Prelude.{◌+◌, ◌-◌, ◌<◌, ◌≤◌, ◌≡◌, ◌++◌, ◌⊎◌}
+use Rattle.translates.specs.Names.{ℕ, true, List, length, take, drop, megabytes, limit, VirtualAddress}
 use Rattle.translates.specs.Names.{Lent, lent_ok, Source, Reads, Page, Found, Uniform, physical_of, Mapping, Held, mappings, byte_of, holder}
-use Rattle.translates.specs.Names.{Built, image_length, image, answer_of, build_of, Bytes, ◌⊎◌}
+use Rattle.translates.specs.Names.{Built, image_length, image, answer_of, build_of, Bytes}
 use Rattle.walk.specs.Uniform.{look_in}
 
 -- what is found has the byte and the access of the mapping that holds the address; where none does, no page is found

@@ -1,5 +1,6 @@
 -- Each call: its refusals in the paper's order, then what it does (01, "Registers", "When the unit says no").
-use Rattle.unit.specs.Names.{ℕ, ◌/◌, ◌%◌, ◌^◌, Bool, true, false, not, List, [], ◌∷◌, eqb, leb, pick, ◌and◌, ◌or◌, Place, word_count, last_place, is_missing, loaded}
+use Rattle.std.specs.Prelude.{◌/◌, ◌%◌, ◌^◌, ◌∷◌}
+use Rattle.unit.specs.Names.{ℕ, Bool, true, false, not, List, [], eqb, leb, pick, ◌and◌, ◌or◌, Place, word_count, last_place, is_missing, loaded}
 use Rattle.unit.specs.Names.{copied, money_ok, slots, looked_up, idle, is_prefetch, limit, is_on, is_walking, setting, with_prefetch, with_copied}
 use Rattle.unit.specs.Names.{words_of, entry_of, no_register, command_of, value_at, tended, Answer, billed, page_at, prefetch_decided, prefetch_kept}
 use Rattle.unit.specs.Names.{shift_by, Access, VirtualAddress, Lent, lent_ok, Bill, Prices, Matched, Fault, Pending, Decision, Shift, Command}

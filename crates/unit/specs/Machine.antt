@@ -1,5 +1,6 @@
 -- The whole machine: any calls in any order, with the bill and the meters that they are posted to (01, demands 2 and 3).
-use Rattle.unit.specs.Names.{ℕ, List, [], ◌∷◌, no_tally, posted, Meters, answer_number, shift_number, Access, VirtualAddress, Lent, Place, Bill, Prices, Tally}
+use Rattle.std.specs.Prelude.{◌∷◌}
+use Rattle.unit.specs.Names.{ℕ, List, [], no_tally, posted, Meters, answer_number, shift_number, Access, VirtualAddress, Lent, Place, Bill, Prices, Tally}
 use Rattle.unit.specs.Names.{Device, Outcome, Told}
 use Rattle.unit.specs.Calls.{request_of, write_of, read_of, drop_of, shift_of, shift_from}
 pub use Rattle.decision.specs.declared.Said.{Said}

@@ -12,7 +12,7 @@ pub use Rattle.unit.specs.declared.Device.{Device}
 pub use Rattle.unit.specs.declared.Outcome.{Outcome}
 pub use Rattle.unit.specs.declared.Told.{Told}
 pub use Rattle.unit.specs.declared.Reported.{Reported}
-pub use Rattle.std.specs.Prelude.{◌⊎◌}
+pub use Rattle.std.specs.Prelude.{◌⊎◌, ◌%◌, ◌/◌, ◌^◌, ◌∷◌, ◌≡◌}
 pub use Rattle.bank.specs.Changes.{copied, entry_filled, loaded}
 unfoldable pub use Rattle.bank.specs.Slots.{bank_ok}
 pub use Rattle.bank.specs.Slots.{fresh_bank}
@@ -28,7 +28,7 @@ pub use Rattle.memory.specs.declared.Place.{Place}
 pub use Rattle.meters.specs.Posted.{no_tally}
 unfoldable pub use Rattle.meters.specs.Posted.{posted}
 pub use Rattle.meters.specs.declared.Meters.{Meters}
-pub use Rattle.page.specs.Ground.{Bool, List, [], ◌%◌, ◌/◌, ◌^◌, ◌∷◌, ◌≡◌, eqb, false, leb, not, true, ℕ}
+pub use Rattle.page.specs.Ground.{Bool, List, [], eqb, false, leb, not, true, ℕ}
 unfoldable pub use Rattle.page.specs.Pick.{◌and◌, ◌or◌, pick}
 pub use Rattle.page.specs.Words.{limit}
 pub use Rattle.perform.specs.Performed.{Done, Fit, performed, quietly, uncharged}

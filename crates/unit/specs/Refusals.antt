@@ -1,6 +1,7 @@
 -- The refusals of a call are one list of conditions and what each answers, in the paper's order: the first that holds is answered
 -- (01, "When the unit says no"). A call of the unit answers a number alone, the builder its number with an index or a count.
-use Rattle.unit.specs.Names.{ℕ, ◌≡◌, Bool, true, false, List, [], ◌∷◌, pick, ◌⊎◌}
+use Rattle.std.specs.Prelude.{◌≡◌, ◌∷◌, ◌⊎◌}
+use Rattle.unit.specs.Names.{ℕ, Bool, true, false, List, [], pick}
 
 abbrev pub Refusing : Type 0 → Type 0
 Refusing K = List (Bool × K)

@@ -1,6 +1,7 @@
 #![tactic(auto)]
 // The device and its calls.
-ghost use Rattle.unit.specs.Names.{◌≡◌, lent, performed};
+ghost use Rattle.std.specs.Prelude.{◌≡◌};
+ghost use Rattle.unit.specs.Names.{lent, performed};
 ghost use Rattle.unit.specs.Device.{fresh_device, in_range, reported};
 ghost use Rattle.unit.specs.Acts.{done_acted, answer_in, shift_in, outcome_of, told_of, Fitted, Alone};
 ghost use Rattle.unit.specs.Calls.{request_of, write_of, read_of, drop_of, shift_of, shift_from};

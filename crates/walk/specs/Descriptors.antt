@@ -1,6 +1,7 @@
 -- What the words of the tables say (01, "The walk"), and the distance (01, "Meters and the walk bill").
-use Rattle.walk.specs.Names.{ℕ, ◌+◌, ◌/◌, ◌%◌, ◌^◌, ◌<◌, eqb, pick, upper, joined, physical, low_bits, Kind, VirtualAddress, PhysicalAddress}
-use Rattle.walk.specs.Names.{Page, First, Table, Found, ℤ, pos, ◌-ℤ◌}
+use Rattle.std.specs.Prelude.{◌+◌, ◌/◌, ◌%◌, ◌^◌, ◌<◌, ◌-ℤ◌}
+use Rattle.walk.specs.Names.{ℕ, eqb, pick, upper, joined, physical, low_bits, Kind, VirtualAddress, PhysicalAddress}
+use Rattle.walk.specs.Names.{Page, First, Table, Found, ℤ, pos}
 
 -- a section's word: base in bits 31:20, access in 11:10
 abbrev pub section_of : ℕ → Page

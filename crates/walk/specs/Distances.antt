@@ -1,5 +1,6 @@
 -- What the laws of the descriptors speak of (01, "The walk").
-use Rattle.walk.specs.Names.{◌<◌, ◌≡◌, Bool, true, false, upper, low_bits, Page, First, Found}
+use Rattle.std.specs.Prelude.{◌<◌, ◌≡◌}
+use Rattle.walk.specs.Names.{Bool, true, false, upper, low_bits, Page, First, Found}
 
 -- a page starts at its frame and has two bits of access
 abbrev pub ProperPage : Page → Type 0

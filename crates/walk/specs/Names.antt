@@ -1,11 +1,11 @@
 -- What the definitions of this crate are written with.
-pub use Rattle.std.specs.Prelude.{◌-ℤ◌, pos, ℤ}
+pub use Rattle.std.specs.Prelude.{◌-ℤ◌, pos, ℤ, ◌%◌, ◌*◌, ◌+◌, ◌-◌, ◌/◌, ◌<◌, ◌^◌, ◌≡◌}
 pub use Rattle.memory.specs.Memory.{Lent, fetched_in, fetched_within, lent}
 unfoldable pub use Rattle.memory.specs.Memory.{place_in, place_within}
 pub use Rattle.memory.specs.declared.Place.{Place}
 pub use Rattle.memory.specs.declared.Reads.{Reads}
 pub use Rattle.memory.specs.declared.Source.{Source}
-pub use Rattle.page.specs.Ground.{Bool, ◌%◌, ◌*◌, ◌+◌, ◌-◌, ◌/◌, ◌<◌, ◌^◌, ◌≡◌, eqb, false, true, ℕ}
+pub use Rattle.page.specs.Ground.{Bool, eqb, false, true, ℕ}
 unfoldable pub use Rattle.page.specs.Low.{joined, upper}
 unfoldable pub use Rattle.page.specs.Pick.{pick}
 pub use Rattle.page.specs.Words.{low_bits, megabytes, physical}

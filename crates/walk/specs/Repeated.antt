@@ -1,5 +1,6 @@
 -- Words that are repeated (02, P3 and P4): a page that has more addresses than a word of its table stands there several times over.
-use Rattle.walk.specs.Names.{ℕ, ◌+◌, ◌-◌, ◌*◌, ◌/◌, ◌^◌, ◌<◌, ◌≡◌, low_bits, Kind, Page, First, Table, Found, Read}
+use Rattle.std.specs.Prelude.{◌+◌, ◌-◌, ◌*◌, ◌/◌, ◌^◌, ◌<◌, ◌≡◌}
+use Rattle.walk.specs.Names.{ℕ, low_bits, Kind, Page, First, Table, Found, Read}
 use Rattle.walk.specs.Descriptors.{second_of}
 use Rattle.walk.specs.Statements.{bare}
 

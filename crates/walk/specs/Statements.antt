@@ -1,5 +1,6 @@
 -- What the laws of the plain walk speak of (01, "The walk").
-use Rattle.walk.specs.Names.{ℕ, ◌≡◌, Lent, word_of, Place, Source, Reads, First, Read, Walked}
+use Rattle.std.specs.Prelude.{◌≡◌}
+use Rattle.walk.specs.Names.{ℕ, Lent, word_of, Place, Source, Reads, First, Read, Walked}
 use Rattle.memory.specs.Memory.{Inside, part_at}
 use Rattle.walk.specs.Walk.{coarse_at, fine_at, read_in}
 

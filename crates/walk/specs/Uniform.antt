@@ -1,5 +1,6 @@
 -- A walk that finds a page finds it at every address of that page (01, demand 3: what makes a slot as good as a walk).
-use Rattle.walk.specs.Names.{ℕ, ◌/◌, ◌^◌, ◌<◌, ◌≡◌, low_bits, VirtualAddress, Page, Found, Walked}
+use Rattle.std.specs.Prelude.{◌/◌, ◌^◌, ◌<◌, ◌≡◌}
+use Rattle.walk.specs.Names.{ℕ, low_bits, VirtualAddress, Page, Found, Walked}
 use Rattle.memory.specs.Memory.{Lent}
 use Rattle.walk.specs.Walk.{walk_in}
 

@@ -1,5 +1,6 @@
 -- The plain walk (01, "The walk").
-use Rattle.walk.specs.Names.{ℕ, ◌+◌, ◌*◌, ◌/◌, ◌%◌, ◌^◌, upper, physical, megabytes, PhysicalAddress, Lent, place_within, place_in, fetched_within}
+use Rattle.std.specs.Prelude.{◌+◌, ◌*◌, ◌/◌, ◌%◌, ◌^◌}
+use Rattle.walk.specs.Names.{ℕ, upper, physical, megabytes, PhysicalAddress, Lent, place_within, place_in, fetched_within}
 use Rattle.walk.specs.Names.{fetched_in, word_of, Place, Source, Reads, First, Table, Found, Read, Walked}
 use Rattle.walk.specs.Descriptors.{first_of, second_of}
 

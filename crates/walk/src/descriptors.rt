@@ -1,5 +1,5 @@
 // What the words of the tables say, the physical address that a page gives, and the distance that a shift report gives.
-ghost use Rattle.walk.specs.Names.{◌≡◌};
+ghost use Rattle.std.specs.Prelude.{◌≡◌};
 ghost use Rattle.walk.specs.Descriptors.{section_of, first_of, page_of, second_of, physical_of, distance_of};
 
 use crate::{First, Found, Page, Table};

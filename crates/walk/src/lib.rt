@@ -2,7 +2,8 @@
 // The plain walk of two lent memories.
 pub mod descriptors;
 
-ghost use Rattle.walk.specs.Names.{◌≡◌, lent};
+ghost use Rattle.std.specs.Prelude.{◌≡◌};
+ghost use Rattle.walk.specs.Names.{lent};
 ghost use Rattle.walk.specs.Descriptors.{Room};
 ghost use Rattle.walk.specs.Walk.{missing, ended, read_within, after_second, by_first, walk_in, walk_within};
 

@@ -1,5 +1,6 @@
 -- Words given by a function of their number, as bytes and in a memory.
-use Rattle.wire.specs.Names.{ℕ, zero, suc, ◌+◌, ◌*◌, List, [], ◌++◌, leb, length, take, drop, pick}
+use Rattle.std.specs.Prelude.{◌+◌, ◌*◌, ◌++◌}
+use Rattle.wire.specs.Names.{ℕ, zero, suc, List, [], leb, length, take, drop, pick}
 use Rattle.wire.specs.Words.{word_bytes}
 
 -- the bytes of the first k words of f

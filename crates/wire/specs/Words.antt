@@ -1,5 +1,6 @@
 -- Words and bytes in a buffer; all numbers are little-endian.
-use Rattle.wire.specs.Names.{ℕ, ◌+◌, ◌*◌, ◌/◌, ◌%◌, ◌^◌, ◌<◌, List, [], ◌∷◌, ◌++◌, leb, length, take, drop, get_or, pick}
+use Rattle.std.specs.Prelude.{◌+◌, ◌*◌, ◌/◌, ◌%◌, ◌^◌, ◌<◌, ◌∷◌, ◌++◌}
+use Rattle.wire.specs.Names.{ℕ, List, [], leb, length, take, drop, get_or, pick}
 
 -- four bytes as a number, little-endian
 abbrev pub little_endian : ℕ → ℕ → ℕ → ℕ → ℕ

@@ -1,6 +1,7 @@
 #![tactic(auto)]
 // Numbers as little-endian bytes: words put into a buffer and read from one.
-ghost use Rattle.wire.specs.Names.{◌≡◌, ℕ, [], ◌∷◌, ◌+◌, ◌*◌, ◌≤◌, leb, length, get_or};
+ghost use Rattle.std.specs.Prelude.{◌≡◌, ◌∷◌, ◌+◌, ◌*◌, ◌≤◌};
+ghost use Rattle.wire.specs.Names.{ℕ, [], leb, length, get_or};
 ghost use Rattle.wire.specs.Words.{little_endian, word_of, placed, words_put, pasted, bytes_put, halves, swapped, word_at, low_at, high_at};
 ghost use Rattle.wire.specs.Signed.{twos};
 ghost use Rattle.wire.specs.Spliced.{spliced, run_put};

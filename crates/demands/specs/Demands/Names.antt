@@ -1,4 +1,5 @@
 -- What the definitions of this crate are written with.
+pub use Rattle.std.specs.Prelude.{◌%◌, ◌*◌, ◌++◌, ◌+◌, ◌-◌, ◌<◌, ◌∷◌, ◌≡◌}
 unfoldable pub use Rattle.audit.specs.Check.{check_of, image_ok, table_in}
 pub use Rattle.audit.specs.Check.{verdict_number, verdict_value}
 unfoldable pub use Rattle.audit.specs.Groups.{broken}
@@ -28,7 +29,7 @@ pub use Rattle.conduct.specs.Refused.{AcceptedWhen, BenchStays, BytesFit, Exactl
 pub use Rattle.conduct.specs.Written.{LoadCopied, LoadThenCopy, ReadBack, ReadShown, ResetFresh}
 pub use Rattle.decision.specs.Names.{Access, Answer, Bill, Fault, PhysicalAddress, Prices, VirtualAddress}
 pub use Rattle.memory.specs.Memory.{Lent, LentAt, lent_alone, lent_ok}
-pub use Rattle.page.specs.Ground.{Bool, List, [], ◌%◌, ◌*◌, ◌++◌, ◌+◌, ◌-◌, ◌<◌, ◌∷◌, ◌≡◌, drop, eqb, false, length, ltb, not, replicate, suc, true, zero, ℕ}
+pub use Rattle.page.specs.Ground.{Bool, List, [], drop, eqb, false, length, ltb, not, replicate, suc, true, zero, ℕ}
 pub use Rattle.page.specs.Words.{limit, megabytes, physical, virtual}
 pub use Rattle.prices.specs.declared.Price.{Price}
 unfoldable pub use Rattle.records.specs.Mappings.{mappings, records_of}
