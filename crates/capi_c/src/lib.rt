@@ -1,6 +1,7 @@
 #![tactic(auto)]
 // The C functions: each calls the byte boundary's function of its name, and promises what that one promises.
-ghost use Rattle.capi.specs.Names.{◌≡◌, megabytes, lent, prices_of, ran, check_of, crc32};
+ghost use Rattle.std.specs.Prelude.{◌≡◌};
+ghost use Rattle.capi.specs.Names.{megabytes, lent, prices_of, ran, check_of, crc32};
 ghost use Rattle.capi.specs.Boundary.{run_of, from_of, fetch_of, build_ran, list_ran, part_ran, record_ran, recorded_ran};
 ghost use Rattle.capi.specs.Numbers.{verdict_word};
 
