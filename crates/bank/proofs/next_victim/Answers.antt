@@ -1,4 +1,4 @@
-use Rattle.bank.proofs.Names.{next_victim, sym, pick_yes, pick_no, lt-ltb, le-ltb, rules}
+use Rattle.bank.proofs.Names.{next_victim, sym, pick_yes, pick_no, lt-ltb, le-ltb}
 use Rattle.bank.proofs.next_victim.Goals as goal
 
 pub returns-then-at-lt-SLOTS : goal.returns-then-at-lt-SLOTS

@@ -1,7 +1,6 @@
-use Rattle.lanes.specs.Names.{◌and◌, get_or, true, ℕ}
-use Rattle.lanes.proofs.Names.{cam_ok, ◌&&◌, sym, ◌∙◌, rules, ◌-◌}
-use Rattle.lanes.proofs.Loops.{Scanning, scanning_starts, scanning_turns, scanning_ends}
-use Rattle.lanes.proofs.Ranges.{ok_with, ok_turns, ok_ends}
+use Rattle.lanes.proofs.Names.{cam_ok, ◌-◌}
+use Rattle.lanes.proofs.Loops.{Scanning}
+use Rattle.lanes.proofs.Ranges.{ok_with}
 use Rattle.lanes.specs.Lanes.{cams_ok}
 use Rattle.lanes.proofs.cams_ok.Given as goal
 

@@ -1,5 +1,5 @@
-use Rattle.lanes.proofs.Names.{word_flushed, flushed_all, rules, ◌-◌}
-use Rattle.lanes.proofs.Loops.{Mapping, mapping_starts, mapping_turns, mapping-ends}
+use Rattle.lanes.proofs.Names.{word_flushed, flushed_all, rules}
+use Rattle.lanes.proofs.Loops.{mapping_starts, mapping_turns, mapping-ends}
 use Rattle.lanes.proofs.flush_all.Goals as goal
 
 pub loop-i-init : goal.loop-i-init

@@ -1,5 +1,5 @@
-use Rattle.lanes.proofs.Names.{word_flushed, flushed_all, rules, ◌-◌}
-use Rattle.lanes.proofs.Loops.{Mapping, mapping_starts, mapping_turns, mapping-ends}
+use Rattle.lanes.proofs.Names.{word_flushed, ◌-◌}
+use Rattle.lanes.proofs.Loops.{Mapping}
 use Rattle.lanes.proofs.flush_all.Given as goal
 
 abbrev pub invariant-loop-i : goal.invariant-loop-i

@@ -1,5 +1,5 @@
-use Rattle.lanes.proofs.Names.{word_flushed_at, flushed_entry, rules, ◌-◌}
-use Rattle.lanes.proofs.Loops.{Mapping, mapping_starts, mapping_turns, mapping-ends}
+use Rattle.lanes.proofs.Names.{word_flushed_at, ◌-◌}
+use Rattle.lanes.proofs.Loops.{Mapping}
 use Rattle.lanes.proofs.flush_entry.Given as goal
 
 abbrev pub invariant-loop-i : goal.invariant-loop-i

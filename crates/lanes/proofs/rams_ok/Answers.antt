@@ -1,8 +1,7 @@
 use Rattle.lanes.specs.Names.{◌and◌, Bool, true, ℕ, ◌+◌}
-use Rattle.lanes.proofs.Names.{ram_ok, ◌&&◌, sym, ap, ◌∙◌, rules, ◌-◌}
-use Rattle.lanes.proofs.Loops.{Scanning, scanning_starts, scanning_turns, scanning_ends}
+use Rattle.lanes.proofs.Names.{ram_ok, ◌&&◌, sym, ap, ◌∙◌}
+use Rattle.lanes.proofs.Loops.{scanning_starts, scanning_turns, scanning_ends}
 use Rattle.lanes.proofs.Ranges.{ok_with, ok_turns, ok_ends}
-use Rattle.lanes.specs.Lanes.{rams_ok}
 use Rattle.lanes.proofs.rams_ok.Goals as goal
 
 pub loop-i-init : goal.loop-i-init

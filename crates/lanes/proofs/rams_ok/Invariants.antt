@@ -1,7 +1,6 @@
-use Rattle.lanes.specs.Names.{◌and◌, Bool, true, ℕ, ◌+◌}
-use Rattle.lanes.proofs.Names.{ram_ok, ◌&&◌, sym, ap, ◌∙◌, rules, ◌-◌}
-use Rattle.lanes.proofs.Loops.{Scanning, scanning_starts, scanning_turns, scanning_ends}
-use Rattle.lanes.proofs.Ranges.{ok_with, ok_turns, ok_ends}
+use Rattle.lanes.proofs.Names.{ram_ok, ◌-◌}
+use Rattle.lanes.proofs.Loops.{Scanning}
+use Rattle.lanes.proofs.Ranges.{ok_with}
 use Rattle.lanes.specs.Lanes.{rams_ok}
 use Rattle.lanes.proofs.rams_ok.Given as goal
 

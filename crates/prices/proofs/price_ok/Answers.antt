@@ -1,4 +1,4 @@
-use Rattle.prices.proofs.Names.{every, sym, ◌∙◌, ap, ap₂, ◌&&◌, and_is, rules}
+use Rattle.prices.proofs.Names.{every, sym, ◌∙◌, ap, ap₂, ◌&&◌, and_is}
 use Rattle.prices.specs.Prices.{price_ok}
 use Rattle.prices.proofs.price_ok.Goals as goal
 

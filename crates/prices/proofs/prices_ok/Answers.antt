@@ -1,4 +1,4 @@
-use Rattle.prices.proofs.Names.{◌∙◌, ap₂, ◌&&◌, and_is, rules}
+use Rattle.prices.proofs.Names.{◌∙◌, ap₂, ◌&&◌, and_is}
 use Rattle.prices.proofs.prices_ok.Goals as goal
 
 pub returns : goal.returns

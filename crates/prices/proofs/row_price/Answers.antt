@@ -1,4 +1,4 @@
-use Rattle.prices.proofs.Names.{row_price, sym, pick_yes, pick_no, eq-eqb, ne_eqb, rules}
+use Rattle.prices.proofs.Names.{row_price, sym, pick_yes, pick_no, eq-eqb, ne_eqb}
 use Rattle.prices.proofs.row_price.Goals as goal
 
 pub returns-in-Never : goal.returns-in-Never

@@ -1,4 +1,4 @@
-use Rattle.prices.proofs.Names.{word_price, rules}
+use Rattle.prices.proofs.Names.{word_price}
 use Rattle.prices.proofs.word_price.Goals as goal
 
 pub returns-in-Flat : goal.returns-in-Flat

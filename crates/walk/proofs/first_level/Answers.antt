@@ -1,5 +1,5 @@
 use Rattle.walk.specs.Names.{lent}
-use Rattle.walk.proofs.Names.{read_within, by_first, coarse_at, fine_at, Room, sym, ◌∙◌, ap, subst, arith, rules}
+use Rattle.walk.proofs.Names.{read_within, by_first, coarse_at, fine_at, Room, sym, ◌∙◌, ap, subst, arith}
 use Rattle.walk.proofs.first_level.Goals as goal
 
 pub returns-in-Fault : goal.returns-in-Fault

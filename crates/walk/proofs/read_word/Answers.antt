@@ -1,5 +1,5 @@
 use Rattle.walk.specs.Names.{word_of}
-use Rattle.walk.proofs.Names.{read_at, read_within, ap₂, sym, ◌∙◌, ap, rules}
+use Rattle.walk.proofs.Names.{read_at, read_within, ap₂, sym, ◌∙◌, ap}
 use Rattle.walk.proofs.read_word.Goals as goal
 
 pub returns-in-OnChip : goal.returns-in-OnChip

@@ -1,5 +1,5 @@
 use Rattle.walk.specs.Names.{Reads, Found}
-use Rattle.walk.proofs.Names.{after_second, source_at, sym, ◌∙◌, ap, rules}
+use Rattle.walk.proofs.Names.{after_second, source_at, sym, ◌∙◌, ap}
 use Rattle.walk.proofs.second_level.Goals as goal
 
 pub returns-in-Missing : goal.returns-in-Missing

@@ -1,4 +1,4 @@
-use Rattle.walk.proofs.Names.{sym, ◌∙◌, rules}
+use Rattle.walk.proofs.Names.{sym, ◌∙◌}
 use Rattle.walk.proofs.Walks.{walk_ok, walk_refused}
 use borrow.Author.Tests.{not-true, not-false}
 use Rattle.walk.proofs.walk.Goals as goal

@@ -1,6 +1,6 @@
 use Rattle.walk.specs.Names.{megabytes, lent, upper}
 use Rattle.walk.proofs.Names.{Room, first_of, base_bits, first_at, read_within, source_at, by_first, after_first, walk_from, sym, ◌∙◌, ap, subst}
-use Rattle.walk.proofs.Names.{arith, rules}
+use Rattle.walk.proofs.Names.{arith}
 use Rattle.walk.proofs.Laws.{room}
 use Rattle.walk.proofs.walk_within.Goals as goal
 

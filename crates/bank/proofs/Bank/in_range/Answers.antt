@@ -1,4 +1,3 @@
-use Rattle.bank.proofs.Names.{rules}
 use Rattle.bank.proofs.Ranges.{ok_is}
 use Rattle.bank.proofs.Bank.in_range.Goals as goal
 

@@ -1,4 +1,4 @@
-use Rattle.bank.proofs.Names.{rules, sym, ◌∙◌, eq-eqb, ne_eqb, pick_yes, pick_no, high_of}
+use Rattle.bank.proofs.Names.{sym, ◌∙◌, eq-eqb, ne_eqb, pick_yes, pick_no, high_of}
 use Rattle.bank.proofs.Ends.{by_1, by_2}
 use Rattle.bank.proofs.slots.high_of.Goals as goal
 

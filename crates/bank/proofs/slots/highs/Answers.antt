@@ -1,5 +1,5 @@
-use Rattle.bank.proofs.Names.{rules, ◌-◌, arith, high_of}
-use Rattle.bank.proofs.Ends.{Filling, filling_turns, filling_ends}
+use Rattle.bank.proofs.Names.{rules, arith, high_of}
+use Rattle.bank.proofs.Ends.{filling_turns, filling_ends}
 use Rattle.bank.proofs.slots.highs.Goals as goal
 
 pub loop-i-init : goal.loop-i-init

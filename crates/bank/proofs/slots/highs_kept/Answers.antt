@@ -1,5 +1,5 @@
-use Rattle.bank.proofs.Names.{rules, ◌-◌, high_kept}
-use Rattle.bank.proofs.Ends.{Keeping, keeping_starts, keeping_turns, keeping_ends}
+use Rattle.bank.proofs.Names.{rules, high_kept}
+use Rattle.bank.proofs.Ends.{keeping_starts, keeping_turns, keeping_ends}
 use Rattle.bank.proofs.slots.highs_kept.Goals as goal
 
 pub loop-i-init : goal.loop-i-init

@@ -1,5 +1,5 @@
-use Rattle.bank.proofs.Names.{rules, ◌-◌, arith, low_of}
-use Rattle.bank.proofs.Ends.{Filling, filling_turns, filling_ends}
+use Rattle.bank.proofs.Names.{◌-◌, low_of}
+use Rattle.bank.proofs.Ends.{Filling}
 use Rattle.bank.proofs.slots.lows.Given as goal
 
 abbrev pub invariant-loop-i : goal.invariant-loop-i

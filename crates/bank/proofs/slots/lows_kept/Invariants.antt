@@ -1,5 +1,5 @@
-use Rattle.bank.proofs.Names.{rules, ◌-◌, low_kept}
-use Rattle.bank.proofs.Ends.{Keeping, keeping_starts, keeping_turns, keeping_ends}
+use Rattle.bank.proofs.Names.{◌-◌, low_kept}
+use Rattle.bank.proofs.Ends.{Keeping}
 use Rattle.bank.proofs.slots.lows_kept.Given as goal
 
 abbrev pub invariant-loop-i : goal.invariant-loop-i

@@ -1,5 +1,4 @@
-use Rattle.bank.proofs.Names.{rules, ◌-◌}
-use Rattle.bank.proofs.Seeking.{Seeking, seeking_starts, seeking_turns, seeking_finds, seeking_misses}
+use Rattle.bank.proofs.Seeking.{seeking_starts, seeking_turns, seeking_finds, seeking_misses}
 use Rattle.bank.proofs.slots.search.Goals as goal
 
 pub loop-i-init : goal.loop-i-init

@@ -1,5 +1,5 @@
-use Rattle.bank.proofs.Names.{rules, ◌-◌}
-use Rattle.bank.proofs.Seeking.{Seeking, seeking_starts, seeking_turns, seeking_finds, seeking_misses}
+use Rattle.bank.proofs.Names.{◌-◌}
+use Rattle.bank.proofs.Seeking.{Seeking}
 use Rattle.bank.proofs.slots.search.Given as goal
 
 abbrev pub invariant-loop-i : goal.invariant-loop-i

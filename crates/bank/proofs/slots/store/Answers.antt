@@ -1,4 +1,4 @@
-use Rattle.bank.proofs.Names.{refl, rules}
+use Rattle.bank.proofs.Names.{refl}
 use Rattle.bank.proofs.Changed.{stored}
 use Rattle.bank.proofs.slots.store.Goals as goal
 

@@ -1,4 +1,4 @@
-use Rattle.bank.proofs.Names.{refl, rules}
+use Rattle.bank.proofs.Names.{refl}
 use Rattle.bank.proofs.Changed.{filled_none, filled-slot}
 use Rattle.bank.proofs.slots.take.Goals as goal
 

@@ -1,4 +1,3 @@
-use Rattle.bill.proofs.Names.{rules}
 use Rattle.bill.proofs.Bill.fresh.Goals as goal
 
 pub returns : goal.returns

@@ -1,4 +1,4 @@
-use Rattle.bill.proofs.Names.{◌∙◌, ◌&&◌, rules}
+use Rattle.bill.proofs.Names.{◌∙◌, ◌&&◌}
 use mathlib.Core.Path.{ap₂}
 use Rattle.page.proofs.Picks.{and_is}
 use Rattle.bill.proofs.Bill.ok.Goals as goal

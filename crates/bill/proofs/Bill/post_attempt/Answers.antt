@@ -1,4 +1,4 @@
-use Rattle.bill.proofs.Names.{attempt_posted, rules}
+use Rattle.bill.proofs.Names.{attempt_posted}
 use Rattle.bill.proofs.Bill.post_attempt.Goals as goal
 
 pub returns : goal.returns

@@ -1,4 +1,4 @@
-use Rattle.bill.proofs.Names.{seen_posted, sym, ◌∙◌, ap, rules}
+use Rattle.bill.proofs.Names.{seen_posted, sym, ◌∙◌, ap}
 use Rattle.bill.proofs.Bill.post_seen.Goals as goal
 
 pub returns-in-Nothing : goal.returns-in-Nothing

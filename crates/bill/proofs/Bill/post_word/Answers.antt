@@ -1,4 +1,4 @@
-use Rattle.bill.proofs.Names.{place_posted, rules}
+use Rattle.bill.proofs.Names.{place_posted}
 use Rattle.bill.proofs.Bill.post_word.Goals as goal
 
 pub returns-in-OnChip : goal.returns-in-OnChip

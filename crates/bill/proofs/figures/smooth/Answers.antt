@@ -1,4 +1,4 @@
-use Rattle.bill.proofs.Names.{smoothed, rules}
+use Rattle.bill.proofs.Names.{smoothed}
 use Rattle.bill.proofs.figures.smooth.Goals as goal
 
 pub returns : goal.returns

@@ -1,6 +1,5 @@
 -- `meters::Meters::posted` meets its contract: each field is what `sum_to_stop` ensures. Assumes nothing.
 use Rattle.meters.proofs.Names.{posted}
-use borrow.Author.Rules.{rules}
 use Rattle.meters.proofs.Meters.posted.Goals as goal
 
 pub returns : goal.returns

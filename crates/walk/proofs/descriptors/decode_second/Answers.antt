@@ -1,5 +1,5 @@
 use Rattle.walk.specs.Names.{Found, Table}
-use Rattle.walk.proofs.Names.{second_of, sym, ◌∙◌, ap, pick_yes, eq-eqb, rules}
+use Rattle.walk.proofs.Names.{second_of, sym, ◌∙◌, ap, pick_yes, eq-eqb}
 use Rattle.page.proofs.Picks.{bits_01, bits_10, bits_11}
 use Rattle.walk.proofs.Laws.{coarse-none}
 use Rattle.walk.proofs.descriptors.decode_second.Goals as goal

@@ -1,4 +1,4 @@
-use Rattle.walk.proofs.Names.{arith, rules}
+use Rattle.walk.proofs.Names.{arith}
 use Rattle.walk.proofs.Difference.{difference, difference_fits}
 use Rattle.walk.proofs.descriptors.distance.Goals as goal
 

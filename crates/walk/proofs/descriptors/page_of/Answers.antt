@@ -1,5 +1,5 @@
 use Rattle.walk.specs.Names.{physical, ℕ, ◌/◌, ◌%◌, ◌^◌}
-use Rattle.walk.proofs.Names.{ap, rules}
+use Rattle.walk.proofs.Names.{ap}
 use Rattle.walk.proofs.descriptors.page_of.Goals as goal
 
 pub returns : goal.returns
