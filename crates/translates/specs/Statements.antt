@@ -2,7 +2,7 @@
 -- page's whole range, and needs no word outside it.
 use Rattle.std.specs.Prelude.{◌+◌, ◌-◌, ◌<◌, ◌≤◌, ◌≡◌, ◌++◌, ◌⊎◌}
 use Rattle.translates.specs.Names.{ℕ, true, List, length, take, drop, megabytes, limit, VirtualAddress}
-use Rattle.translates.specs.Names.{Lent, lent_ok, Source, Reads, Page, Found, Uniform, physical_of, Mapping, Held, mappings, byte_of, holder}
+use Rattle.translates.specs.Names.{Lent, lent_ok, Source, Reads, Found, Uniform, physical_of, Mapping, Held, mappings, byte_of, holder}
 use Rattle.translates.specs.Names.{Built, image_length, image, answer_of, build_of, Bytes}
 use Rattle.walk.specs.Uniform.{look_in}
 
