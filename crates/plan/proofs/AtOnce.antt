@@ -1,11 +1,20 @@
 -- Tests made at once and one after the other come to the same. Assumes nothing.
-use Rattle.plan.specs.Names.{◌≡◌, Bool, ℕ, pick, ◌and◌}
-use Rattle.plan.proofs.Names.{sym, ◌∙◌, ap, ◌&&◌, Plan}
+use Rattle.plan.specs.Names.{◌≡◌, Bool, ℕ, leb, pick, ◌and◌}
+use Rattle.plan.proofs.Names.{sym, ◌∙◌, ap, ◌&&◌, le-leb, lt-leb, Plan}
 use mathlib.Core.Path.{refl}
 use mathlib.Core.Bool.{true, false, true≢false, false≢true}
 use native.Mathlib.Omega.{arith}
 use Rattle.page.proofs.Picks.{and_is}
-use Rattle.plan.specs.Plans.{lent_refusal}
+use Rattle.plan.specs.Plans.{lent_refusal, request_plan, request_refusal}
+use Rattle.plan.specs.declared.Reason.{Reason}
+use borrow.Author.Tests.{ltb-true, ltb-false}
+use lib.Dec.{ltb}
+use Rattle.bill.specs.Bill.{bill_ok}
+use Rattle.bill.specs.declared.Bill.{Bill}
+use Rattle.page.specs.declared.Access.{Access}
+use Rattle.page.specs.declared.VirtualAddress.{VirtualAddress}
+use Rattle.registers.specs.Answers.{idle}
+use Rattle.registers.specs.declared.Pending.{Pending}
 
 -- the machine's test of two, the second by what it says
 pub both : (p q r : Bool) → q ≡ r → (p and r) ≡ (p && q)
@@ -53,3 +62,12 @@ unfolding pick
 lent_none false o k e h = absurd (let f : ⊥ = omega arith in f)
 lent_none true false k e h = absurd (let f : ⊥ = omega arith in f)
 lent_none true true k e h = refl
+
+-- a request by its six tests, as the code makes them
+module _ (ok l o : Bool) (b : Bill) (p : Pending) (va : VirtualAddress) (a : Access) where
+  pub request_tried : (((((ok && l) && o) && ltb va.0 16777216) && idle p) && bill_ok b) ≡ true → Plan.Attempt a Reason.Request va ≡ request_plan ok l (o and bill_ok b) p va a
+  request_tried h = attempted ok l o (ltb va.0 16777216) (idle p) (bill_ok b) (leb 16777216 va.0) _ (λ q. lt-leb 16777216 va.0 (ltb-true _ _ q)) h
+
+  pub request_stopped : (((((ok && l) && o) && ltb va.0 16777216) && idle p) && bill_ok b) ≡ false
+      → Plan.Refused (request_refusal ok l (o and bill_ok b) va) ≡ request_plan ok l (o and bill_ok b) p va a
+  request_stopped h = refused ok l o (ltb va.0 16777216) (idle p) (bill_ok b) (leb 16777216 va.0) (Plan.Attempt a Reason.Request va) (λ q. le-leb 16777216 va.0 (ltb-false _ _ q)) h
