@@ -1,6 +1,6 @@
 -- Texts at the front of a memory. Assumes nothing.
-use Rattle.mkimage.specs.Names.{◌≡◌, List, [], ◌∷◌, ◌++◌, ℕ, zero, suc, ◌+◌, ◌/◌, ◌%◌, ◌≤◌, length, take, drop}
-use Rattle.mkimage.proofs.Names.{refl, sym, ap, ◌∙◌, ◌-◌, arith, paste, Built, outcome, decimal, shown}
+use Rattle.mkimage.specs.Names.{◌≡◌, List, [], ◌∷◌, ◌++◌, ℕ, zero, suc, ◌+◌, ◌/◌, ◌%◌, ◌≤◌, length, drop}
+use Rattle.mkimage.proofs.Names.{refl, sym, ap, ◌∙◌, ◌-◌, arith, Built, outcome, decimal, shown}
 use Rattle.page.specs.Words.{megabytes}
 use mathlib.Core.Path.{ap₂, subst}
 use Prim.Native.Nat.{◌*◌, ◌^◌, ◌<◌}
@@ -9,7 +9,7 @@ use native.Mathlib.Decide.{dec_le}
 use borrow.Author.Tests.{lt-ltb, le-ltb}
 use lib.Dec.{lit<}
 use lib.ListN.{length-append}
-use lib.Seq.{take_at, take-length, drop-append-add, drop-drop}
+use lib.Seq.{take_at, drop-append-add, drop-drop}
 use Rattle.io.specs.Digits.{hex_digit_ascii, last_digits, IsDigitCount}
 use Rattle.page.proofs.Picks.{pick_yes, pick_no, pick_by}
 use Rattle.records.specs.Mappings.{mappings}

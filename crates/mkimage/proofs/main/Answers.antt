@@ -1,4 +1,4 @@
-use Rattle.mkimage.proofs.Names.{sym, rules}
+use Rattle.mkimage.proofs.Names.{sym}
 use Rattle.mkimage.proofs.Texts.{shown_fits}
 use lib.Seq.{length-take-le}
 use Rattle.mkimage.proofs.main.Goals as goal

@@ -1,4 +1,4 @@
-use Rattle.mkimage.proofs.Names.{Built, outcome, refl, sym, ◌∙◌, ap, rules}
+use Rattle.mkimage.proofs.Names.{Built, outcome, refl, sym, ◌∙◌, ap}
 use Rattle.mkimage.proofs.Texts.{shown-nothing, shown-image, shown_refusal}
 use Rattle.mkimage.proofs.output.output.Goals as goal
 

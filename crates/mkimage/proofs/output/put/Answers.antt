@@ -1,5 +1,5 @@
 use Rattle.mkimage.specs.Names.{length, ◌+◌}
-use Rattle.mkimage.proofs.Names.{◌∙◌, ap, shown, rules}
+use Rattle.mkimage.proofs.Names.{◌∙◌, ap, shown}
 use Rattle.wire.proofs.Pastes.{bytes_fit}
 use Rattle.mkimage.proofs.output.put.Goals as goal
 

@@ -1,5 +1,5 @@
 use Rattle.mkimage.specs.Names.{take}
-use Rattle.mkimage.proofs.Names.{decimal, ◌∙◌, arith, rules}
+use Rattle.mkimage.proofs.Names.{decimal, ◌∙◌, arith}
 use Rattle.mkimage.proofs.Texts.{pasted-taken, digits_are, fewest_twenty}
 use Rattle.mkimage.proofs.output.put_decimal.Goals as goal
 

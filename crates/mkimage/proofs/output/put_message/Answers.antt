@@ -1,4 +1,4 @@
-use Rattle.mkimage.proofs.Names.{arith, rules}
+use Rattle.mkimage.proofs.Names.{arith}
 use Rattle.mkimage.proofs.Texts.{count_of, decimal-length, message-is}
 use Rattle.mkimage.proofs.output.put_message.Goals as goal
 
