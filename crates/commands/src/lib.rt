@@ -46,14 +46,7 @@ pub(crate) fn control_command(v: u16) -> Command
 }
 
 // A write of the lock register.
-#[tactic(
-    auto,
-    using(
-        crate::proofs::Locks::base_refused,
-        crate::proofs::Locks::victim_refused,
-        crate::proofs::Locks::locked
-    )
-)]
+#[tactic(auto, using(crate::proofs::Locks::base_refused, crate::proofs::Locks::victim_refused, crate::proofs::Locks::locked))]
 pub(crate) fn lock_command(v: u16) -> Command
     ensures { result ≡ lock_command v }
 {

@@ -1,4 +1,4 @@
-use Rattle.commands.proofs.Names.{sym, ◌∙◌, rules}
+use Rattle.commands.proofs.Names.{sym, ◌∙◌}
 use Rattle.registers.proofs.Rows.{command_at, command_elsewhere, none-is-no_register}
 use Rattle.registers.specs.Table.{listed, command_of}
 use Rattle.page.specs.Pick.{pick}

@@ -1,4 +1,4 @@
-use Rattle.commands.proofs.Names.{sym, pick_yes, pick_no, eq-eqb, ne_eqb, rules}
+use Rattle.commands.proofs.Names.{sym, pick_yes, pick_no, eq-eqb, ne_eqb}
 use Rattle.registers.specs.Table.{control_command}
 use Rattle.commands.proofs.control_command.Goals as goal
 

@@ -1,5 +1,5 @@
 use Rattle.registers.specs.Names.{Words, virtual, ◌*◌, ◌/◌, ◌%◌, ◌^◌}
-use Rattle.registers.proofs.Names.{cam_address, ap, rules}
+use Rattle.registers.proofs.Names.{cam_address, ap}
 use Rattle.registers.proofs.cam_address.Goals as goal
 
 pub returns : goal.returns

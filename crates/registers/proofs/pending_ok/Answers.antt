@@ -1,4 +1,4 @@
-use Rattle.registers.proofs.Names.{sym, ap, rules}
+use Rattle.registers.proofs.Names.{sym, ap}
 use Rattle.registers.specs.Fields.{pending_ok}
 use Rattle.registers.proofs.pending_ok.Goals as goal
 

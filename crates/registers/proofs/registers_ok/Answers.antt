@@ -1,4 +1,4 @@
-use Rattle.registers.proofs.Names.{registers_ok, sym, ◌∙◌, and_yes, and_no, eq-eqb, lt-ltb, le-ltb, not-true, not-false, rules}
+use Rattle.registers.proofs.Names.{registers_ok, sym, ◌∙◌, and_yes, and_no, eq-eqb, lt-ltb, le-ltb, not-true, not-false}
 use borrow.Author.Tests.{ne_eqb}
 use Rattle.registers.proofs.registers_ok.Goals as goal
 

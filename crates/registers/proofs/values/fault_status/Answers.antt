@@ -1,4 +1,4 @@
-use Rattle.registers.proofs.Names.{sym, ◌∙◌, ap, rules}
+use Rattle.registers.proofs.Names.{sym, ◌∙◌, ap}
 use Rattle.registers.specs.Answers.{fault_status}
 use Rattle.registers.proofs.values.fault_status.Goals as goal
 

@@ -1,5 +1,5 @@
 use Rattle.registers.specs.Names.{Answer, Registers, Pending, pick, ◌≡◌, ℕ, ◌*◌, ◌/◌, ◌%◌}
-use Rattle.registers.proofs.Names.{listed, value_at, sym, ◌∙◌, ap, rules}
+use Rattle.registers.proofs.Names.{listed, value_at, sym, ◌∙◌, ap}
 use Rattle.registers.proofs.Rows.{value_elsewhere, none-is-no_register}
 use Rattle.registers.proofs.values.value_at.Goals as goal
 
