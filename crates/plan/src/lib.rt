@@ -69,13 +69,7 @@ fn request_refusal(ok: bool, memories: bool, prices: bool, bill: Bill, va: Virtu
 }
 
 // A request: ok says that the device is in range, memories and prices that these are not refused.
-#[tactic(
-    auto,
-    using(
-        crate::proofs::AtOnce::request_tried,
-        crate::proofs::AtOnce::request_stopped
-    )
-)]
+#[tactic(auto, using(crate::proofs::AtOnce::request_tried, crate::proofs::AtOnce::request_stopped))]
 pub fn request(
     ok: bool,
     memories: bool,

@@ -1,4 +1,4 @@
-use Rattle.decision.proofs.Names.{by_access, sym, ◌∙◌, pick_yes, pick_no, rules}
+use Rattle.decision.proofs.Names.{by_access, sym, ◌∙◌, pick_yes, pick_no}
 use Rattle.decision.proofs.by_access.Goals as goal
 
 pub returns-then-permitted : goal.returns-then-permitted

@@ -1,5 +1,5 @@
 use Rattle.decision.specs.Names.{Seen, Answer, PhysicalAddress, ℕ}
-use Rattle.decision.proofs.Names.{by_access, plainly, ◌∙◌, ap, rules}
+use Rattle.decision.proofs.Names.{by_access, plainly, ◌∙◌, ap}
 use mathlib.Core.Path.{ap₂}
 use Rattle.decision.proofs.by_match.Goals as goal
 

@@ -1,4 +1,4 @@
-use Rattle.decision.proofs.Names.{sym, ap, rules}
+use Rattle.decision.proofs.Names.{sym, ap}
 use Rattle.decision.specs.Decisions.{settled}
 use Rattle.decision.proofs.settle.Goals as goal
 

@@ -1,5 +1,5 @@
 use Rattle.decision.specs.Names.{distance_of, Shift, PhysicalAddress}
-use Rattle.decision.proofs.Names.{sym, ◌∙◌, ap, rules}
+use Rattle.decision.proofs.Names.{sym, ◌∙◌, ap}
 use mir.Syntax.{w64}
 use mir.Facts.{to_z-of_z}
 use Rattle.decision.specs.Prefetches.{shift_by}

@@ -1,4 +1,4 @@
-use Rattle.decision.proofs.Names.{sym, ◌∙◌, ap, rules}
+use Rattle.decision.proofs.Names.{sym, ◌∙◌, ap}
 use Rattle.decision.specs.Decisions.{tally_of}
 use Rattle.decision.proofs.tally_of.Goals as goal
 

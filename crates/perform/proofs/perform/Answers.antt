@@ -1,5 +1,5 @@
 use Rattle.perform.specs.Names.{lent, bank_of, ◌≡◌, ℕ, ◌%◌, ◌<◌, Place, Bank, with_copied, entry_of, Shift, Answer, Said}
-use Rattle.perform.proofs.Names.{done_of, quiet_performed, quietly, Fit, refl, ◌∙◌, ap, subst, arith, get_or, rules}
+use Rattle.perform.proofs.Names.{done_of, quiet_performed, quietly, Fit, refl, ◌∙◌, ap, subst, arith, get_or}
 use mathlib.Core.Path.{ap₂}
 use Rattle.perform.specs.Performed.{uncharged, report_done}
 use Rattle.perform.proofs.Doing.{plan_performs, attempt_performs, reset_performs}

@@ -1,5 +1,5 @@
 use Rattle.perform.specs.Names.{Registers, setting_at, setting, pick, ◌≡◌, ℕ}
-use Rattle.perform.proofs.Names.{pick_no, sym, ◌∙◌, ap, rules}
+use Rattle.perform.proofs.Names.{pick_no, sym, ◌∙◌, ap}
 use borrow.Author.Tests.{ne_eqb}
 use Rattle.perform.proofs.set.Goals as goal
 

@@ -1,5 +1,5 @@
 use Rattle.plan.specs.Names.{◌and◌, ℕ}
-use Rattle.plan.proofs.Names.{sym, ◌∙◌, ap, command_plan, rules}
+use Rattle.plan.proofs.Names.{sym, ◌∙◌, ap, command_plan}
 use Rattle.bill.specs.Bill.{bill_ok}
 use Rattle.plan.specs.Plans.{prefetch_plan, acknowledge_plan}
 use Rattle.plan.proofs.command.Goals as goal

@@ -1,4 +1,4 @@
-use Rattle.plan.proofs.Names.{sym, ◌∙◌, pick_yes, pick_no, not-true, not-false, rules}
+use Rattle.plan.proofs.Names.{sym, ◌∙◌, pick_yes, pick_no, not-true, not-false}
 use Rattle.plan.proofs.drop.Goals as goal
 
 pub returns-then-not-ok : goal.returns-then-not-ok

@@ -1,4 +1,4 @@
-use Rattle.plan.proofs.Names.{sym, ◌∙◌, ap, rules}
+use Rattle.plan.proofs.Names.{sym, ◌∙◌, ap}
 use Rattle.plan.specs.Plans.{pending_plan}
 use Rattle.plan.proofs.pending.Goals as goal
 

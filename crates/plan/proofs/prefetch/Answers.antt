@@ -1,4 +1,4 @@
-use Rattle.plan.proofs.Names.{sym, ◌∙◌, pick_yes, pick_no, eq-eqb, ne_eqb, not-true, not-false, rules}
+use Rattle.plan.proofs.Names.{sym, ◌∙◌, pick_yes, pick_no, eq-eqb, ne_eqb, not-true, not-false}
 use Rattle.plan.proofs.prefetch.Goals as goal
 
 pub returns-then-k-ne0 : goal.returns-then-k-ne0

@@ -1,4 +1,4 @@
-use Rattle.plan.proofs.Names.{sym, ◌∙◌, pick_yes, pick_no, le-leb, lt-leb, not-true, not-false, rules}
+use Rattle.plan.proofs.Names.{sym, ◌∙◌, pick_yes, pick_no, le-leb, lt-leb, not-true, not-false}
 use Rattle.plan.proofs.AtOnce.{lent-kept, lent_none}
 use Rattle.plan.proofs.request_refusal.Goals as goal
 

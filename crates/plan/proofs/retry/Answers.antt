@@ -1,4 +1,4 @@
-use Rattle.plan.proofs.Names.{sym, ◌∙◌, pick_yes, pick_no, rules}
+use Rattle.plan.proofs.Names.{sym, ◌∙◌, pick_yes, pick_no}
 use Rattle.plan.proofs.retry.Goals as goal
 
 pub returns-then-is_prefetch : goal.returns-then-is_prefetch

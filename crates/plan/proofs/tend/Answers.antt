@@ -1,4 +1,4 @@
-use Rattle.plan.proofs.Names.{sym, ap, rules}
+use Rattle.plan.proofs.Names.{sym, ap}
 use Rattle.plan.specs.Plans.{tend_plan}
 use Rattle.plan.proofs.tend.Goals as goal
 

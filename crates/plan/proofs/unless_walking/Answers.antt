@@ -1,4 +1,4 @@
-use Rattle.plan.proofs.Names.{sym, ◌∙◌, pick_yes, pick_no, rules}
+use Rattle.plan.proofs.Names.{sym, ◌∙◌, pick_yes, pick_no}
 use Rattle.plan.proofs.unless_walking.Goals as goal
 
 pub returns-then-is_walking : goal.returns-then-is_walking

@@ -1,4 +1,4 @@
-use Rattle.plan.proofs.Names.{sym, ◌∙◌, ap, pick_yes, pick_no, not-true, not-false, command_plan, rules}
+use Rattle.plan.proofs.Names.{sym, ◌∙◌, ap, pick_yes, pick_no, not-true, not-false, command_plan}
 use Rattle.plan.proofs.write.Goals as goal
 
 pub returns-then-not-ok : goal.returns-then-not-ok

@@ -1,4 +1,3 @@
-use Rattle.unit.proofs.Names.{rules}
 use Rattle.unit.proofs.act_alone.Goals as goal
 
 pub returns : goal.returns

@@ -1,5 +1,5 @@
 use Rattle.perform.specs.Names.{lent, walk_within, Charged}
-use Rattle.perform.proofs.Names.{wordless_of, walked_of, sym, ◌∙◌, ap, arith, rules}
+use Rattle.perform.proofs.Names.{wordless_of, walked_of, sym, ◌∙◌, ap, arith}
 use Rattle.perform.proofs.Joins.{off-after, match-after, miss-after, walk_after}
 use borrow.Author.Tests.{not-true, not-false}
 use Rattle.perform.proofs.attempt.attempt.Goals as goal

@@ -1,4 +1,4 @@
-use Rattle.perform.proofs.Names.{sym, ◌∙◌, rules}
+use Rattle.perform.proofs.Names.{sym, ◌∙◌}
 use Rattle.bank.proofs.Seeking.{sought-lt}
 use Rattle.bank.proofs.Matching.{sought_looked}
 use Rattle.perform.proofs.attempt.find.Goals as goal

@@ -1,4 +1,4 @@
-use Rattle.perform.proofs.Names.{sym, ◌∙◌, pick_yes, pick_no, rules}
+use Rattle.perform.proofs.Names.{sym, ◌∙◌, pick_yes, pick_no}
 use Rattle.perform.proofs.attempt.missed.Goals as goal
 
 pub returns-then-fetches_ahead : goal.returns-then-fetches_ahead

@@ -1,5 +1,5 @@
 use Rattle.perform.specs.Names.{Reason, with_prefetch}
-use Rattle.perform.proofs.Names.{registers_for, sym, ◌∙◌, ap, rules}
+use Rattle.perform.proofs.Names.{registers_for, sym, ◌∙◌, ap}
 use Rattle.perform.proofs.attempt.registers_after.Goals as goal
 
 pub returns-in-Prefetch : goal.returns-in-Prefetch

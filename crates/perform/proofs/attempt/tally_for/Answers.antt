@@ -1,5 +1,5 @@
 use Rattle.perform.specs.Names.{Reason}
-use Rattle.perform.proofs.Names.{sym, ◌∙◌, ap, rules}
+use Rattle.perform.proofs.Names.{sym, ◌∙◌, ap}
 use Rattle.perform.specs.Performed.{tally_for}
 use Rattle.perform.proofs.attempt.tally_for.Goals as goal
 

@@ -1,4 +1,3 @@
-use Rattle.perform.proofs.Names.{rules}
 use Rattle.perform.proofs.attempt.walked.Goals as goal
 
 pub returns-in-Missing : goal.returns-in-Missing

@@ -1,4 +1,3 @@
-use Rattle.perform.proofs.Names.{rules}
 use Rattle.perform.proofs.attempt.wordless.Goals as goal
 
 pub returns : goal.returns

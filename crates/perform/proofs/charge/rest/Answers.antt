@@ -1,5 +1,5 @@
 use Rattle.perform.specs.Names.{by_first, read_within, lent, Found, Room, Bill}
-use Rattle.perform.proofs.Names.{charged_of, First, sym, ◌∙◌, ap, subst, arith, rules}
+use Rattle.perform.proofs.Names.{charged_of, First, sym, ◌∙◌, ap, subst, arith}
 use Rattle.walk.specs.Walk.{coarse_at, fine_at}
 use Rattle.perform.proofs.charge.rest.Goals as goal
 

@@ -1,5 +1,5 @@
 use Rattle.perform.specs.Names.{after_second, Found, word_posted, Bill}
-use Rattle.perform.proofs.Names.{charged_of, source_at, Read, sym, ◌∙◌, ap, rules}
+use Rattle.perform.proofs.Names.{charged_of, source_at, Read, sym, ◌∙◌, ap}
 use mathlib.Core.Path.{ap₂}
 use Rattle.perform.proofs.charge.second.Goals as goal
 

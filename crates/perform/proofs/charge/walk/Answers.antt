@@ -1,5 +1,5 @@
 use Rattle.perform.specs.Names.{read_within, by_first, lent, Room}
-use Rattle.perform.proofs.Names.{charged_of, source_at, Read, First, sym, ◌∙◌, ap, subst, arith, rules}
+use Rattle.perform.proofs.Names.{charged_of, source_at, Read, First, sym, ◌∙◌, ap, subst, arith}
 use Rattle.walk.specs.Walk.{base_bits, first_at, after_first, walk_from}
 use Rattle.walk.proofs.Laws.{room}
 use Rattle.walk.specs.Descriptors.{first_of}

@@ -1,4 +1,3 @@
-use Rattle.unit.proofs.Names.{rules}
 use Rattle.unit.proofs.Device.fresh.Goals as goal
 
 pub returns : goal.returns

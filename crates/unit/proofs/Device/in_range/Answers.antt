@@ -1,4 +1,4 @@
-use Rattle.unit.proofs.Names.{in_range, sym, ◌∙◌, not-true, rules}
+use Rattle.unit.proofs.Names.{in_range, sym, ◌∙◌, not-true}
 use Rattle.page.proofs.Picks.{and_yes, and_no}
 use borrow.Author.Tests.{not-false}
 use Rattle.unit.proofs.Device.in_range.Goals as goal

@@ -1,4 +1,4 @@
-use Rattle.unit.proofs.Names.{◌∙◌, rules}
+use Rattle.unit.proofs.Names.{◌∙◌}
 use Rattle.unit.proofs.Acting.{read_acts}
 use Rattle.unit.proofs.Device.read.Goals as goal
 

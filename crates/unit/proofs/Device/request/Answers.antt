@@ -1,5 +1,5 @@
 use Rattle.unit.specs.Names.{lent}
-use Rattle.unit.proofs.Names.{◌∙◌, rules}
+use Rattle.unit.proofs.Names.{◌∙◌}
 use Rattle.unit.proofs.Acting.{request_acts}
 use Rattle.unit.proofs.Device.request.Goals as goal
 

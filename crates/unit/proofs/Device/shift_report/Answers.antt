@@ -1,5 +1,5 @@
 use Rattle.unit.specs.Names.{lent, Done}
-use Rattle.unit.proofs.Names.{ap, told_of, rules}
+use Rattle.unit.proofs.Names.{ap, told_of}
 use Rattle.unit.specs.Device.{reported}
 use Rattle.unit.specs.Acts.{shift_in}
 use Rattle.unit.proofs.Acting.{shift_acts}
