@@ -1,5 +1,5 @@
 use Rattle.state.specs.Names.{[], ◌∷◌, ℕ}
-use Rattle.state.proofs.Names.{ap₂, rules}
+use Rattle.state.proofs.Names.{ap₂}
 use Rattle.state.proofs.entry_words.Goals as goal
 
 pub returns : goal.returns

@@ -1,4 +1,4 @@
-use Rattle.state.proofs.Names.{lock_word, sym, ◌∙◌, pick_yes, pick_no, and_yes, and_no, lt-ltb, le-ltb, rules}
+use Rattle.state.proofs.Names.{lock_word, sym, ◌∙◌, pick_yes, pick_no, and_yes, and_no, lt-ltb, le-ltb}
 use Rattle.state.proofs.lock_word.Goals as goal
 
 pub returns-then-handed-ge256 : goal.returns-then-handed-ge256

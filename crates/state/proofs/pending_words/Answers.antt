@@ -1,4 +1,3 @@
-use Rattle.state.proofs.Names.{rules}
 use Rattle.state.proofs.pending_words.Goals as goal
 
 pub returns-in-Held : goal.returns-in-Held

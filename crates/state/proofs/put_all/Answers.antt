@@ -1,5 +1,5 @@
 use Rattle.state.specs.Names.{List, ◌++◌, words_put, ℕ, ◌+◌}
-use Rattle.state.proofs.Names.{device_words, meter_words, bill_words, refl, ◌∙◌, ap, rules}
+use Rattle.state.proofs.Names.{device_words, meter_words, bill_words, refl, ◌∙◌, ap}
 use Rattle.state.proofs.Lengths.{device-length}
 use Rattle.state.proofs.Parts.{two}
 use Rattle.state.proofs.put_all.Goals as goal

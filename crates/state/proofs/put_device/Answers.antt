@@ -1,5 +1,5 @@
 use Rattle.state.specs.Names.{List, words_put, ℕ, ◌+◌}
-use Rattle.state.proofs.Names.{slot_words, pending_words, lock_word, refl, ◌∙◌, ap, rules}
+use Rattle.state.proofs.Names.{slot_words, pending_words, lock_word, refl, ◌∙◌, ap}
 use Rattle.state.specs.State.{register_words}
 use Rattle.state.proofs.Lengths.{slots_length, pending-length}
 use Rattle.state.proofs.Parts.{three}

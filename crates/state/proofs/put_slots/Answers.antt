@@ -1,6 +1,5 @@
-use Rattle.state.specs.Names.{length, ◌+◌, ◌*◌, ◌≤◌, slots, placed, ◌≡◌}
-use Rattle.state.proofs.Names.{rules, ◌-◌, slot_words, refl, sym, ◌∙◌, arith}
-use Rattle.state.proofs.Turns.{slots_left, slots-first, slots_turn, slots_end}
+use Rattle.state.proofs.Names.{rules, refl, sym, ◌∙◌, arith}
+use Rattle.state.proofs.Turns.{slots-first, slots_turn, slots_end}
 use Rattle.state.proofs.put_slots.Goals as goal
 
 pub loop-i-init : goal.loop-i-init

@@ -1,6 +1,6 @@
 use Rattle.state.specs.Names.{length, ◌+◌, ◌*◌, ◌≤◌, slots, placed, ◌≡◌}
-use Rattle.state.proofs.Names.{rules, ◌-◌, slot_words, refl, sym, ◌∙◌, arith}
-use Rattle.state.proofs.Turns.{slots_left, slots-first, slots_turn, slots_end}
+use Rattle.state.proofs.Names.{◌-◌, slot_words}
+use Rattle.state.proofs.Turns.{slots_left}
 use Rattle.state.proofs.put_slots.Given as goal
 
 abbrev pub invariant-loop-i : goal.invariant-loop-i

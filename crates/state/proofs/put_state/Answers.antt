@@ -1,5 +1,5 @@
 use Rattle.state.specs.Names.{length, ◌+◌}
-use Rattle.state.proofs.Names.{sym, ◌∙◌, rules}
+use Rattle.state.proofs.Names.{sym, ◌∙◌}
 use borrow.Author.Tests.{leb-true, leb-false}
 use Rattle.state.proofs.Parts.{state_fits, state_unfit}
 use Rattle.state.proofs.put_state.Goals as goal

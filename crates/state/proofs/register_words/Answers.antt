@@ -1,4 +1,3 @@
-use Rattle.state.proofs.Names.{rules}
 use Rattle.state.proofs.register_words.Goals as goal
 
 pub returns : goal.returns

@@ -1,7 +1,5 @@
-use Rattle.state.specs.Names.{swapped, slots, length, ◌≤◌, ◌++◌, ◌≡◌}
-use Rattle.state.proofs.Names.{lane_from, take, ◌-◌, sym, ap, refl, ◌∙◌, arith, rules}
-use Rattle.state.proofs.Lanes.{lane_turn, lane_end}
-use lib.ListN.{length-set}
+use Rattle.state.specs.Names.{slots, length, ◌≤◌, ◌++◌, ◌≡◌}
+use Rattle.state.proofs.Names.{lane_from, take, ◌-◌}
 use Rattle.state.proofs.read.lane_at.Given as goal
 
 abbrev pub invariant-loop-i : goal.invariant-loop-i

@@ -1,4 +1,4 @@
-use Rattle.state.proofs.Names.{narrowed, ◌∙◌, ap, rules}
+use Rattle.state.proofs.Names.{narrowed, ◌∙◌, ap}
 use Rattle.state.proofs.read.lock_of.Goals as goal
 
 pub returns : goal.returns

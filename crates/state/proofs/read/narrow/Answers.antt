@@ -1,4 +1,4 @@
-use Rattle.state.proofs.Names.{narrowed, sym, pick_yes, pick_no, lt-ltb, le-ltb, rules}
+use Rattle.state.proofs.Names.{narrowed, sym, pick_yes, pick_no, lt-ltb, le-ltb}
 use Rattle.state.proofs.read.narrow.Goals as goal
 
 pub returns-then-x-lt256 : goal.returns-then-x-lt256

@@ -1,5 +1,5 @@
 use Rattle.state.specs.Names.{Pending, Fault, virtual, pick, ℕ}
-use Rattle.state.proofs.Names.{pick_no, ne_eqb, sym, ◌∙◌, ap, rules}
+use Rattle.state.proofs.Names.{pick_no, ne_eqb, sym, ◌∙◌, ap}
 use Rattle.state.specs.Read.{pending_of}
 use Rattle.state.proofs.read.pending_of.Goals as goal
 

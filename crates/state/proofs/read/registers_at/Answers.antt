@@ -1,4 +1,3 @@
-use Rattle.state.proofs.Names.{rules}
 use Rattle.state.proofs.read.registers_at.Goals as goal
 
 pub returns : goal.returns

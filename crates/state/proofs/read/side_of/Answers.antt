@@ -1,5 +1,5 @@
 use Rattle.state.specs.Names.{LastRow, Side}
-use Rattle.state.proofs.Names.{sym, ◌∙◌, ap, pick_yes, pick_no, eq-eqb, ne_eqb, rules}
+use Rattle.state.proofs.Names.{sym, ◌∙◌, ap, pick_yes, pick_no, eq-eqb, ne_eqb}
 use Rattle.state.specs.Read.{side_of}
 use Rattle.state.proofs.read.side_of.Goals as goal
 

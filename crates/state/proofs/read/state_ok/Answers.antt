@@ -1,5 +1,5 @@
 use Rattle.state.specs.Names.{eqb, leb, ℕ}
-use Rattle.state.proofs.Names.{is_status, sym, ◌∙◌, ap, and_yes, and_no, eq-eqb, ne_eqb, lt-leb, rules}
+use Rattle.state.proofs.Names.{is_status, sym, ◌∙◌, ap, and_yes, and_no, eq-eqb, ne_eqb, lt-leb}
 use Rattle.state.specs.Read.{is_state}
 use borrow.Author.Tests.{le-leb}
 use Rattle.state.proofs.read.state_ok.Goals as goal
