@@ -6,3 +6,4 @@ pub mod Offsets
 pub mod Going
 pub mod Sizes
 pub mod Room
+pub mod May

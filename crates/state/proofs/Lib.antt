@@ -4,3 +4,4 @@ pub mod Turns
 pub mod Parts
 pub mod Figures
 pub mod Lanes
+pub mod Locks
