@@ -120,13 +120,7 @@ pub fn nx_from<'a>(
 }
 
 // The four bytes at an address.
-pub fn nx_fetch<'a>(
-    on: &'a [u8],
-    onbase: u32,
-    ext: &'a [u8],
-    extbase: u32,
-    address: u32,
-) -> u64
+pub fn nx_fetch<'a>(on: &'a [u8], onbase: u32, ext: &'a [u8], extbase: u32, address: u32) -> u64
     ensures { result ≡ fetch_of (lent on.now onbase ext.now extbase) address }
 {
     let at = PhysicalAddress(address);

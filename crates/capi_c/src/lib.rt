@@ -56,7 +56,9 @@ pub extern "C" fn nx_run<'a>(
     ensures { ran result out.new
         ≡ run_of (lent on.now onbase ext.now extbase) (prices_of onkind ona onb extkind exta extb) onkind extkind calls.now out.old }
 {
-    capi::nx_run(calls, on, onbase, ext, extbase, onkind, ona, onb, extkind, exta, extb, out)
+    capi::nx_run(
+        calls, on, onbase, ext, extbase, onkind, ona, onb, extkind, exta, extb, out,
+    )
 }
 
 // Runs calls from a handed-in state.
@@ -83,21 +85,8 @@ pub extern "C" fn nx_from<'a>(
         onkind extkind state.now total misses calls.now out.old }
 {
     capi::nx_from(
-        state,
-        total,
-        misses,
-        calls,
-        on,
-        onbase,
-        ext,
-        extbase,
-        onkind,
-        ona,
-        onb,
-        extkind,
-        exta,
-        extb,
-        out,
+        state, total, misses, calls, on, onbase, ext, extbase, onkind, ona, onb, extkind, exta,
+        extb, out,
     )
 }
 

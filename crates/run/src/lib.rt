@@ -137,16 +137,7 @@ pub fn run_from<'a>(
 }
 
 // Prices of a kind, calls as they must be, and room for what is written.
-#[tactic(
-    auto,
-    using(
-        crate::proofs::May::on_refused,
-        crate::proofs::May::ext_refused,
-        crate::proofs::May::calls_refused,
-        crate::proofs::May::room_refused,
-        crate::proofs::May::room_asked
-    )
-)]
+#[tactic(auto, using(crate::proofs::May::on_refused, crate::proofs::May::ext_refused, crate::proofs::May::calls_refused, crate::proofs::May::room_refused, crate::proofs::May::room_asked))]
 pub(crate) fn may_run(calls: &[u8], onkind: u32, extkind: u32, room: usize) -> bool
     ensures { result ≡ may_run calls.now onkind extkind room }
 {

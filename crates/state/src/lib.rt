@@ -125,14 +125,7 @@ pub(crate) fn entry_words(e: Entry) -> [u32; 2]
 }
 
 // Lock base and victim as a word: as they were handed in where that is more than a device can hold.
-#[tactic(
-    auto,
-    using(
-        crate::proofs::Locks::base_handed,
-        crate::proofs::Locks::victim_handed,
-        crate::proofs::Locks::both_held
-    )
-)]
+#[tactic(auto, using(crate::proofs::Locks::base_handed, crate::proofs::Locks::victim_handed, crate::proofs::Locks::both_held))]
 pub(crate) fn lock_word(handed: u32, lock: u8, victim: u8) -> u32
     ensures { result ≡ lock_word handed lock victim }
 {
