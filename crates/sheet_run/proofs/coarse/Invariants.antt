@@ -1,4 +1,4 @@
-use Rattle.sheet_run.proofs.Names.{rules, ◌≤◌, ◌-◌}
+use Rattle.sheet_run.proofs.Names.{◌≤◌, ◌-◌}
 use Rattle.sheet_run.proofs.coarse.Given as goal
 
 abbrev pub invariant-loop-j : goal.invariant-loop-j

@@ -1,4 +1,4 @@
-use Rattle.sheet_run.proofs.Names.{rules, ◌≤◌, ◌-◌}
+use Rattle.sheet_run.proofs.Names.{◌≤◌, ◌-◌}
 use Rattle.sheet_run.proofs.empty.Given as goal
 
 abbrev pub invariant-loop-i : goal.invariant-loop-i
