@@ -1,4 +1,4 @@
-use Rattle.nx.proofs.Names.{◌-◌, rules}
+use Rattle.nx.proofs.Names.{◌-◌}
 use Rattle.nx.proofs.args.fit.Given as goal
 
 abbrev pub invariant-loop-i : goal.invariant-loop-i

@@ -1,4 +1,4 @@
-use Rattle.nx.proofs.Names.{◌-◌, rules}
+use Rattle.nx.proofs.Names.{◌-◌}
 use Rattle.std.proofs.Common.{◌≡◌, ◌≤◌, length}
 use Rattle.nx.proofs.gather.form.Given as goal
 

@@ -1,4 +1,3 @@
-use Rattle.nx.proofs.Names.{rules}
 use Rattle.std.proofs.Common.{◌≡◌, length}
 use Rattle.nx.proofs.mappings.rows.Given as goal
 

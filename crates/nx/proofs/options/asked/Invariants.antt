@@ -1,4 +1,4 @@
-use Rattle.nx.proofs.Names.{◌-◌, rules}
+use Rattle.nx.proofs.Names.{◌-◌}
 use Rattle.nx.proofs.options.asked.Given as goal
 
 abbrev pub invariant-loop-at : goal.invariant-loop-at

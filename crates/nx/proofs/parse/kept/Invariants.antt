@@ -1,4 +1,3 @@
-use Rattle.nx.proofs.Names.{rules}
 use Rattle.nx.proofs.parse.kept.Given as goal
 
 abbrev pub invariant-loop-n : goal.invariant-loop-n

@@ -1,4 +1,4 @@
-use Rattle.nx.proofs.Names.{◌-◌, rules}
+use Rattle.nx.proofs.Names.{◌-◌}
 use Rattle.nx.proofs.parse.start.Given as goal
 
 abbrev pub invariant-loop-k : goal.invariant-loop-k

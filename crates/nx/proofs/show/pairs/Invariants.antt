@@ -1,4 +1,4 @@
-use Rattle.nx.proofs.Names.{◌-◌, rules}
+use Rattle.nx.proofs.Names.{◌-◌}
 use Rattle.nx.proofs.show.pairs.Given as goal
 
 abbrev pub invariant-loop-j : goal.invariant-loop-j

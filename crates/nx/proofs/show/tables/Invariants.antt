@@ -1,4 +1,4 @@
-use Rattle.nx.proofs.Names.{◌-◌, rules}
+use Rattle.nx.proofs.Names.{◌-◌}
 use Rattle.std.proofs.Common.{◌≤◌}
 use Rattle.nx.proofs.show.tables.Given as goal
 

@@ -1,4 +1,4 @@
-use Rattle.nx.proofs.Names.{⊎_elim, arith, ◌-◌, rules}
+use Rattle.nx.proofs.Names.{◌-◌}
 use Rattle.std.proofs.Common.{◌≤◌, length}
 use Rattle.nx.proofs.utf8.count.Given as goal
 
