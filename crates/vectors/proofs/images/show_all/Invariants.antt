@@ -1,4 +1,4 @@
-use Rattle.vectors.proofs.Names.{rules, ◌≤◌, ◌-◌}
+use Rattle.vectors.proofs.Names.{◌≤◌, ◌-◌}
 use Rattle.vectors.proofs.images.show_all.Given as goal
 
 abbrev pub invariant-loop-i : goal.invariant-loop-i

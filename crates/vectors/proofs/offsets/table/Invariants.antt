@@ -1,4 +1,4 @@
-use Rattle.vectors.proofs.Names.{rules, ◌≤◌, ◌-◌}
+use Rattle.vectors.proofs.Names.{◌≤◌, ◌-◌}
 use Rattle.vectors.proofs.offsets.table.Given as goal
 
 abbrev pub invariant-loop-offset : goal.invariant-loop-offset
