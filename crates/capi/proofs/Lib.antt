@@ -3,3 +3,4 @@ pub mod Indices
 pub mod Fetched
 pub mod Counts
 pub mod Recorded
+pub mod From

@@ -78,6 +78,7 @@ pub fn nx_run<'a>(
 }
 
 // Runs calls from a handed-in state.
+#[tactic(auto, using(crate::proofs::From::from_refused))]
 pub fn nx_from<'a>(
     state: &[u8],
     total: f64,
