@@ -1,5 +1,8 @@
 -- The pages of a run of words. Assumes nothing.
-use Rattle.audit.specs.Names.{◌≡◌, List, [], ◌++◌, ℕ, zero, suc, ◌+◌, ◌-◌, ◌%◌, ◌<◌, ◌≤◌, length, Table, Found, Mapping, second_of, word_bits}
+use Rattle.std.proofs.Common.{Result, Ok, Err}
+use Rattle.walk.specs.declared.Unfound.{Unfound}
+use Rattle.walk.specs.declared.Page.{Page}
+use Rattle.audit.specs.Names.{◌≡◌, List, [], ◌++◌, ℕ, zero, suc, ◌+◌, ◌-◌, ◌%◌, ◌<◌, ◌≤◌, length, Table, Mapping, second_of, word_bits}
 use Rattle.audit.proofs.Names.{refl, sym, ap, ap₂, ◌∙◌, arith, dec_le, eq-eqb, ne_eqb, pick_yes, pick_no, length-append, table_word, taken, taken_at}
 use Rattle.audit.proofs.Names.{word_pages, table_pages, InRun}
 use mathlib.Core.List.{append_assoc, append-nil}
@@ -12,28 +15,28 @@ use Rattle.audit.proofs.Equal.{group_place}
 
 -- one word: at most a page; none where it says none, or is not the first of the page's words
 module _ (t : Table) (i k : ℕ) where
-  word-most : (f : Found) → length (word_pages t i k f) ≤ 1
-  word-most (Found.Page p) = pick_by (λ (ms : List Mapping). length ms ≤ 1) _ _ _ (λ _. lit≤ tt) (λ _. lit≤ tt)
-  word-most Found.NoPage = lit≤ tt
-  word-most Found.Missing = lit≤ tt
+  word-most : (f : Result Page Unfound) → length (word_pages t i k f) ≤ 1
+  word-most (Ok p) = pick_by (λ (ms : List Mapping). length ms ≤ 1) _ _ _ (λ _. lit≤ tt) (λ _. lit≤ tt)
+  word-most (Err Unfound.NoPage) = lit≤ tt
+  word-most (Err Unfound.Missing) = lit≤ tt
 
-  pub word_none : (f : Found) → taken t f ≡ 0 → word_pages t i k f ≡ []
-  word_none (Found.Page p) e = absurd (omega (arith, e, pow_pos (low_bits p.kind - word_bits t)))
-  word_none Found.NoPage e = refl
-  word_none Found.Missing e = refl
+  pub word_none : (f : Result Page Unfound) → taken t f ≡ 0 → word_pages t i k f ≡ []
+  word_none (Ok p) e = absurd (omega (arith, e, pow_pos (low_bits p.kind - word_bits t)))
+  word_none (Err Unfound.NoPage) e = refl
+  word_none (Err Unfound.Missing) e = refl
 
-  pub word_later : (f : Found) → (k % taken t f ≡ 0 → ⊥) → word_pages t i k f ≡ []
-  word_later (Found.Page p) h = pick_no _ _ _ (ne_eqb _ _ h)
-  word_later Found.NoPage h = refl
-  word_later Found.Missing h = refl
+  pub word_later : (f : Result Page Unfound) → (k % taken t f ≡ 0 → ⊥) → word_pages t i k f ≡ []
+  word_later (Ok p) h = pick_no _ _ _ (ne_eqb _ _ h)
+  word_later (Err Unfound.NoPage) h = refl
+  word_later (Err Unfound.Missing) h = refl
 
-  pub word_first : (f : Found) → 0 < taken t f → k % taken t f ≡ 0 → length (word_pages t i k f) ≡ 1
-  word_first (Found.Page p) h e = ap length (pick_yes _ _ _ (eq-eqb _ _ e))
-  word_first Found.NoPage h e = absurd (omega arith)
-  word_first Found.Missing h e = absurd (omega arith)
+  pub word_first : (f : Result Page Unfound) → 0 < taken t f → k % taken t f ≡ 0 → length (word_pages t i k f) ≡ 1
+  word_first (Ok p) h e = ap length (pick_yes _ _ _ (eq-eqb _ _ e))
+  word_first (Err Unfound.NoPage) h e = absurd (omega arith)
+  word_first (Err Unfound.Missing) h e = absurd (omega arith)
 
   -- a page that takes a word counts for one, and none for none
-  pub word_count_lem : (f : Found) → taken t f ≤ 1 → length (word_pages t i k f) ≡ taken t f
+  pub word_count_lem : (f : Result Page Unfound) → taken t f ≤ 1 → length (word_pages t i k f) ≡ taken t f
   word_count_lem f h = elim (dec_le 1 (taken t f)) [
     | yes g ↦ let one : taken t f ≡ 1 = omega arith in word_first f (omega arith) (ap (λ (n : ℕ). k % n) one ∙ mod-one k) ∙ sym one
     | no g ↦ let none : taken t f ≡ 0 = omega arith in ap length (word_none f none) ∙ sym none

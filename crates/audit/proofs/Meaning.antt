@@ -1,6 +1,11 @@
 -- The plain walk of an accepted image finds what its listed pages say. Assumes nothing.
+use Rattle.memory.specs.declared.Place.{Place}
+use Rattle.std.proofs.Common.{Result, Ok, Err}
+use Rattle.walk.specs.declared.Unfound.{Unfound}
+use Rattle.std.proofs.Common.{Some, None}
+use Rattle.std.proofs.Common.{Option}
 use Rattle.audit.specs.Names.{◌≡◌, true, List, [], ◌∷◌, ℕ, zero, suc, ◌+◌, ◌-◌, ◌*◌, ◌/◌, ◌%◌, ◌^◌, ◌<◌, ◌≤◌, eqb, length, megabytes, limit}
-use Rattle.audit.specs.Names.{VirtualAddress, word_at, Lent, LentAt, lent_ok, Table, First, Found, Page, Mapping, Held, holder, first_of, second_of}
+use Rattle.audit.specs.Names.{VirtualAddress, word_at, Lent, LentAt, lent_ok, Table, First, Page, Mapping, holder, first_of, second_of}
 use Rattle.audit.specs.Names.{index_limit, repeats, word_bits, read_in, look_in, base_bits, AllRepeated}
 use Rattle.audit.proofs.Names.{refl, sym, ap, ap₂, ◌∙◌, subst, false≢true, arith, dec_le, eq-eqb, eqb-true, table_word, taken_at, page_mapping, word_pages, table_pages}
 use Rattle.audit.proofs.Names.{first_pages, level_pages, pages_in, Unbroken, FirstSound}
@@ -15,7 +20,6 @@ use Rattle.records.proofs.Alls.{All, all_append, all_map}
 use Rattle.records.proofs.Holders.{OnHeld, all-holder, holds-megabyte, holder-append, holder-one}
 use Rattle.memory.specs.declared.Source.{Source}
 use Rattle.memory.specs.Memory.{place_in}
-use Rattle.walk.specs.declared.Read.{Read}
 use Rattle.walk.specs.Walk.{after_first, by_first, walk_from, coarse_at, fine_at, source_at}
 use Rattle.walk.specs.Distances.{is_missing}
 use Rattle.walk.proofs.Laws.{second_says, second-there, SectionFirst, first_section}
@@ -30,16 +34,16 @@ use Rattle.audit.proofs.Accepts.{LevelSound, accepted_audited}
 use Rattle.audit.proofs.Reading.{lent-read, takes_page, found-is, table_reads, sound_repeated}
 
 -- what a mapping that holds an address must be, where the walk finds f
-abbrev Fitting : VirtualAddress → Found → Mapping → Type 0
-Fitting va f m = holds m va ≡ true → found_by (Held.By m) ≡ f
+abbrev Fitting : VirtualAddress → Result Page Unfound → Mapping → Type 0
+Fitting va f m = holds m va ≡ true → found_by (Some m) ≡ f
 
 -- mappings of which each that holds the address is what is found, and one does where a page is found
-found_by_lem : (ms : List Mapping) (va : VirtualAddress) (f : Found) → All (Fitting va f) ms → (holder ms va ≡ Held.Nobody → f ≡ Found.NoPage) → f ≡ found_by (holder ms va)
+found_by_lem : (ms : List Mapping) (va : VirtualAddress) (f : Result Page Unfound) → All (Fitting va f) ms → (holder ms va ≡ None → f ≡ Err Unfound.NoPage) → f ≡ found_by (holder ms va)
 found_by_lem ms va f all none = by (holder ms va) refl (all-holder (Fitting va f) ms va all)
   where
-    by : (h : Held) → holder ms va ≡ h → OnHeld (λ m. Fitting va f m × (holds m va ≡ true)) h → f ≡ found_by h
-    by (Held.By m) e o = sym (o.0 o.1)
-    by Held.Nobody e o = none e
+    by : (h : Option Mapping) → holder ms va ≡ h → OnHeld (λ m. Fitting va f m × (holds m va ≡ true)) h → f ≡ found_by h
+    by (Some m) e o = sym (o.0 o.1)
+    by None e o = none e
 
 -- the address that word k of a table of megabyte i stands for: its index, its megabyte
 index_back : (t : Table) (i k : ℕ) → k < index_limit t → (i * 2 ^ 20 + k * 2 ^ word_bits t) / 2 ^ word_bits t % index_limit t ≡ k
@@ -60,7 +64,7 @@ module _ (t : Table) (l : List ℕ) (o i : ℕ) (whole : Unbroken t l o 0 (index
   index_low = mod-lt _ (pow_pos (20 - word_bits t))
 
   -- a listed page that holds the address is what its word says
-  word_fitting : (k : ℕ) → k < index_limit t → (p : Page) → second_of t (table_word l o k) ≡ Found.Page p → Fitting va (second_of t (table_word l o index)) (page_mapping (start k) p)
+  word_fitting : (k : ℕ) → k < index_limit t → (p : Page) → second_of t (table_word l o k) ≡ Ok p → Fitting va (second_of t (table_word l o index)) (page_mapping (start k) p)
   unfolding holds
   word_fitting k h p e held =
       let r : taken_at t l o k ≡ repeats t p.kind = takes_page t l o k p e in
@@ -73,11 +77,11 @@ module _ (t : Table) (l : List ℕ) (o i : ℕ) (whole : Unbroken t l o 0 (index
       let b = in_group (taken_at t l o k) index some in
       sym (ap (second_of t) (unbroken-equal t l o k (whole k (omega arith) (omega arith)) index (omega (arith, b.0, u)) (omega (arith, b.1, u))) ∙ e)
 
-  word_fits : (k : ℕ) → k < index_limit t → (f : Found) → second_of t (table_word l o k) ≡ f → All (Fitting va (second_of t (table_word l o index))) (word_pages t i k f)
-  word_fits k h (Found.Page p) e =
+  word_fits : (k : ℕ) → k < index_limit t → (f : Result Page Unfound) → second_of t (table_word l o k) ≡ f → All (Fitting va (second_of t (table_word l o index))) (word_pages t i k f)
+  word_fits k h (Ok p) e =
       pick_by (All (Fitting va (second_of t (table_word l o index)))) _ (page_mapping (start k) p ∷ []) [] (λ _. (word_fitting k h p e, tt)) (λ _. tt)
-  word_fits k h Found.NoPage e = tt
-  word_fits k h Found.Missing e = tt
+  word_fits k h (Err Unfound.NoPage) e = tt
+  word_fits k h (Err Unfound.Missing) e = tt
 
   table_fits : (n j : ℕ) → j + n ≤ index_limit t → All (Fitting va (second_of t (table_word l o index))) (table_pages t l o i j n)
   unfolding table_pages
@@ -87,7 +91,7 @@ module _ (t : Table) (l : List ℕ) (o i : ℕ) (whole : Unbroken t l o 0 (index
       (word_fits j (omega arith) (second_of t (table_word l o j)) refl) (table_fits n (suc j) (omega arith))
 
   -- a page that is found is listed at the first word of its group
-  table_holds : (p : Page) → second_of t (table_word l o index) ≡ Found.Page p → holder (table_pages t l o i 0 (index_limit t)) va ≡ Held.Nobody → ⊥
+  table_holds : (p : Page) → second_of t (table_word l o index) ≡ Ok p → holder (table_pages t l o i 0 (index_limit t)) va ≡ None → ⊥
   unfolding holds
   table_holds p e none =
       let n : ℕ = repeats t p.kind in
@@ -98,7 +102,7 @@ module _ (t : Table) (l : List ℕ) (o i : ℕ) (whole : Unbroken t l o 0 (index
       let same : table_word l o h ≡ table_word l o index =
       unbroken-equal t l o index (whole index (omega arith) (omega (arith, index_low))) h
       (omega (arith, ap (λ (x : ℕ). index / x * x) r)) (omega (arith, ap (λ (x : ℕ). index / x * x) r, r, some)) in
-      let f : second_of t (table_word l o h) ≡ Found.Page p = ap (second_of t) same ∙ e in
+      let f : second_of t (table_word l o h) ≡ Ok p = ap (second_of t) same ∙ e in
       let first : h % taken_at t l o h ≡ 0 = ap (λ (x : ℕ). h % x) (takes_page t l o h p f) ∙ mul-mod_left (index / n) n in
       let one = page-listed t l o i h p (start h) f (λ _. first) refl in
       let a = (holder-append (table_pages t l o i 0 h) (table_pages t l o i (0 + h) (1 + (index_limit t - (h + 1)))) va
@@ -106,7 +110,7 @@ module _ (t : Table) (l : List ℕ) (o i : ℕ) (whole : Unbroken t l o 0 (index
       ∙ pages-append t l o i h 0 (1 + (index_limit t - (h + 1))))) ∙ none)).1 in
       let b = (holder-append (table_pages t l o i (0 + h) 1) (table_pages t l o i (0 + h + 1) (index_limit t - (h + 1))) va
       (ap (λ (ms : List Mapping). holder ms va) (sym (pages-append t l o i 1 (0 + h) (index_limit t - (h + 1)))) ∙ a)).0 in
-      let c : holder (page_mapping (start h) p ∷ []) va ≡ Held.Nobody =
+      let c : holder (page_mapping (start h) p ∷ []) va ≡ None =
       ap (λ (ms : List Mapping). holder ms va) (sym (ap (λ (k : ℕ). table_pages t l o i k 1) (let z : 0 + h ≡ h = omega arith in z) ∙ one)) ∙ b in
       holder-one (page_mapping (start h) p) va
       (eq-eqb _ _
@@ -114,24 +118,24 @@ module _ (t : Table) (l : List ℕ) (o i : ℕ) (whole : Unbroken t l o 0 (index
       (sym (mul-div_cancel (index / n) some) ∙ sym (ap (λ (x : ℕ). x / n) (index_back t i h low)))))
       c
 
-  table_none : holder (table_pages t l o i 0 (index_limit t)) va ≡ Held.Nobody → second_of t (table_word l o index) ≡ Found.NoPage
+  table_none : holder (table_pages t l o i 0 (index_limit t)) va ≡ None → second_of t (table_word l o index) ≡ Err Unfound.NoPage
   table_none none = by (second_of t (table_word l o index)) refl
     where
-      by : (f : Found) → second_of t (table_word l o index) ≡ f → second_of t (table_word l o index) ≡ Found.NoPage
-      by (Found.Page p) e = absurd (table_holds p e none)
-      by Found.NoPage e = e
-      by Found.Missing e = let z = second-there t (table_word l o index) ∙ ap is_missing e in absurd (false≢true z)
+      by : (f : Result Page Unfound) → second_of t (table_word l o index) ≡ f → second_of t (table_word l o index) ≡ Err Unfound.NoPage
+      by (Ok p) e = absurd (table_holds p e none)
+      by (Err Unfound.NoPage) e = e
+      by (Err Unfound.Missing) e = let z = second-there t (table_word l o index) ∙ ap is_missing e in absurd (false≢true z)
 
 -- the pages of megabyte x lie in it
 module _ (x : ℕ) where
   abbrev InMegabyte : Mapping → Type 0
   InMegabyte m = m.at.0 / 2 ^ 20 ≡ x
 
-  word-megabyte : (t : Table) (k : ℕ) (f : Found) → k < index_limit t → All InMegabyte (word_pages t x k f)
-  word-megabyte t k (Found.Page p) h =
+  word-megabyte : (t : Table) (k : ℕ) (f : Result Page Unfound) → k < index_limit t → All InMegabyte (word_pages t x k f)
+  word-megabyte t k (Ok p) h =
       pick_by (All InMegabyte) _ (page_mapping (x * 2 ^ 20 + k * 2 ^ word_bits t) p ∷ []) [] (λ _. (megabyte_back t x k h, tt)) (λ _. tt)
-  word-megabyte t k Found.NoPage h = tt
-  word-megabyte t k Found.Missing h = tt
+  word-megabyte t k (Err Unfound.NoPage) h = tt
+  word-megabyte t k (Err Unfound.Missing) h = tt
 
   table_megabyte : (t : Table) (l : List ℕ) (o n j : ℕ) → j + n ≤ index_limit t → All InMegabyte (table_pages t l o x j n)
   unfolding table_pages
@@ -147,9 +151,9 @@ module _ (x : ℕ) where
   first-megabyte l base (First.Fine at) = table_megabyte Table.Fine l (at.0 - base) 1024 0 (omega arith)
 
 -- what the walk finds by a first-level word of the address's megabyte
-abbrev found_under : List ℕ → ℕ → ℕ → First → Found
-found_under l base va First.Fault = Found.NoPage
-found_under l base va (First.Whole p) = Found.Page p
+abbrev found_under : List ℕ → ℕ → ℕ → First → Result Page Unfound
+found_under l base va First.Fault = Err Unfound.NoPage
+found_under l base va (First.Whole p) = Ok p
 found_under l base va (First.Coarse at) = second_of Table.Coarse (table_word l (at.0 - base) (va / 2 ^ 12 % 2 ^ 8))
 found_under l base va (First.Fine at) = second_of Table.Fine (table_word l (at.0 - base) (va / 2 ^ 10 % 2 ^ 10))
 
@@ -168,7 +172,7 @@ module _ (l : List ℕ) (base : ℕ) (va : VirtualAddress) where
   first_fitting (First.Coarse at) h = table_fits Table.Coarse l (at.0 - base) mb h.unbroken va refl 256 0 (omega arith)
   first_fitting (First.Fine at) h = table_fits Table.Fine l (at.0 - base) mb h.unbroken va refl 1024 0 (omega arith)
 
-  first-none : (d : First) → SectionFirst d → FirstSound l base d → holder (first_pages l base mb d) va ≡ Held.Nobody → found_under l base va.0 d ≡ Found.NoPage
+  first-none : (d : First) → SectionFirst d → FirstSound l base d → holder (first_pages l base mb d) va ≡ None → found_under l base va.0 d ≡ Err Unfound.NoPage
   first-none First.Fault s h e = refl
   first-none (First.Whole p) s h e = absurd (holder-one (page_mapping (mb * 2 ^ 20) p) va (section_holds p s) e)
   first-none (First.Coarse at) s h e = table_none Table.Coarse l (at.0 - base) mb h.unbroken va refl e
@@ -202,7 +206,7 @@ module _ (l : List ℕ) (base : ℕ) (va : VirtualAddress) where
           | no a ↦ other (λ e. a (omega arith))
         ]
 
-    level-none : holder (level_pages l base 0 megabytes) va ≡ Held.Nobody → found_under l base va.0 said ≡ Found.NoPage
+    level-none : holder (level_pages l base 0 megabytes) va ≡ None → found_under l base va.0 said ≡ Err Unfound.NoPage
     unfolding level_pages
     level-none none =
         let rest : ℕ = megabytes - (mb + 1) in
@@ -235,7 +239,7 @@ module _ (m : Lent) (l : List ℕ) (base : ℕ) (ok : lent_ok m ≡ true) (at : 
   walk-finds unit first sound low =
       let i : ℕ = va.0 / 2 ^ 20 in
       ap (λ (a : ℕ). (walk_from (read_in m) first_of va.0 a).found) (first_at_legal base va.0 unit low)
-      ∙ ap (λ (r : Read). (after_first (read_in m) first_of va.0 (base + 4 * i) r).found) (lent-read m l base (4 * i) ok at (omega arith))
+      ∙ ap (λ (r : Option (ℕ × Place)). (after_first (read_in m) first_of va.0 (base + 4 * i) r).found) (lent-read m l base (4 * i) ok at (omega arith))
       ∙ below-found (source_at (base + 4 * i) (place_in m (base + 4 * i))) (first_of (word_at l (4 * i))) (sound i (omega arith) (omega arith))
       ∙ listed_found l base va sound low
 

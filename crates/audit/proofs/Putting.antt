@@ -1,8 +1,13 @@
 -- Records put into a lent list, run by run. Assumes nothing.
+use Rattle.std.proofs.Common.{Ok}
+use Rattle.walk.specs.declared.Unfound.{Unfound}
+use Rattle.audit.specs.declared.ListError.{ListError}
+use Rattle.std.proofs.Common.{Result}
+use Rattle.audit.specs.declared.ImageError.{ImageError}
 use Rattle.audit.specs.Names.{◌≡◌, List, [], ◌∷◌, ◌++◌, ℕ, ◌+◌, ◌-◌, ◌*◌, ◌/◌, ◌%◌, ◌^◌, ◌<◌, ◌≤◌, length, pasted, records_of}
-use Rattle.audit.specs.Names.{zero, suc, drop, Mapping, Table, Page, First, Found, first_of, second_of, word_bits, word_at, index_limit, megabytes, Verdict, Inventory}
-use Rattle.audit.proofs.Names.{sym, ap, ap₂, ◌∙◌, subst, true≢false, arith, dec_le, eq-eqb, pick_yes, length-append, table_word, taken, taken_at}
-use Rattle.audit.proofs.Names.{page_mapping, word_pages, table_pages, first_pages, level_pages, pages_in, InRun, Unbroken, Put, Fits, Listable, GroupListable}
+use Rattle.audit.specs.Names.{zero, suc, drop, Mapping, Table, Page, First, first_of, second_of, word_bits, word_at, index_limit, megabytes}
+use Rattle.audit.proofs.Names.{sym, ap, ap₂, ◌∙◌, subst, arith, dec_le, eq-eqb, pick_yes, length-append, table_word, taken, taken_at}
+use Rattle.audit.proofs.Names.{page_mapping, word_pages, table_pages, first_pages, level_pages, pages_in, InRun, Unbroken, Put, Fits, Listable}
 use Rattle.audit.proofs.Names.{TableListable, check_of, inventory_of, inventory_left, inventoried, list_of}
 use mathlib.Core.List.{append_assoc, append-nil}
 use lib.Pow.{pow_pos}
@@ -11,9 +16,9 @@ use Rattle.wire.proofs.Pastes.{pasted-none, pasted_then, pasted_length}
 use Rattle.records.proofs.Records.{records-append, records-length}
 use Rattle.audit.proofs.Equal.{group_start, unbroken-equal}
 use Rattle.audit.proofs.Counts.{pages-one, pages-append, pages-none, group_pages, word_none}
-use Rattle.audit.proofs.Scans.{other_head}
+use Rattle.audit.proofs.Scans.{Ended, ended_word, ended_group}
 use Rattle.audit.proofs.Inside.{inside-from, inside_to}
-use Rattle.audit.proofs.Sizes.{takes_none, coarse_sizes, fine_sizes}
+use Rattle.audit.proofs.Sizes.{takes_none}
 
 -- no mappings
 pub put_none : (at : ℕ) (l : List ℕ) → Put [] at l at l
@@ -79,16 +84,16 @@ put_first t l o i j at out = put_none at out
 
 module _ (t : Table) (l : List ℕ) (o i j : ℕ) where
   -- a word's page, or none
-  pub page-listed : (p : Page) (va : ℕ) → second_of t (table_word l o j) ≡ Found.Page p → (0 < taken_at t l o j → j % taken_at t l o j ≡ 0) → va ≡ i * 2 ^ 20 + j * 2 ^ word_bits t
+  pub page-listed : (p : Page) (va : ℕ) → second_of t (table_word l o j) ≡ Ok p → (0 < taken_at t l o j → j % taken_at t l o j ≡ 0) → va ≡ i * 2 ^ 20 + j * 2 ^ word_bits t
       → table_pages t l o i j 1 ≡ page_mapping va p ∷ []
   page-listed p va e f g =
-      let r : taken_at t l o j ≡ taken t (Found.Page p) = ap (taken t) e in
+      let r : taken_at t l o j ≡ taken t (Ok p) = ap (taken t) e in
       pages-one t l o i j
       ∙ ap (word_pages t i j) e
       ∙ pick_yes _ _ _ (eq-eqb _ _ (ap (λ (n : ℕ). j % n) (sym r) ∙ f (subst (λ (n : ℕ). 0 < n) (sym r) (pow_pos (low_bits p.kind - word_bits t)))))
       ∙ ap (λ (x : ℕ). page_mapping x p ∷ []) (sym g)
 
-  pub none-listed : (f : Found) → second_of t (table_word l o j) ≡ f → taken t f ≡ 0 → table_pages t l o i j 1 ≡ []
+  pub none-listed : (f : Result Page Unfound) → second_of t (table_word l o j) ≡ f → taken t f ≡ 0 → table_pages t l o i j 1 ≡ []
   none-listed f e z = pages-one t l o i j ∙ ap (word_pages t i j) e ∙ word_none t i j f z
 
   -- faults list nothing
@@ -97,41 +102,37 @@ module _ (t : Table) (l : List ℕ) (o i j : ℕ) where
 
   module _ (n : ℕ) (some : 0 < n) (aligned : j % n ≡ 0) (whole : Unbroken t l o j n) where
     -- a group whose first word takes it is that word's page
-    pub group_listed : taken_at t l o j ≡ n → table_pages t l o i j n ≡ table_pages t l o i j 1
-    group_listed e =
-        group_pages t l o i n j some aligned
-        (λ k p q.
+    pub group_taken : taken_at t l o j ≡ n → InRun j n (λ k. taken_at t l o k ≡ n)
+    group_taken e k p q =
         ap (λ (w : ℕ). taken t (second_of t w))
         (unbroken-equal t l o j (whole j (omega arith) (omega arith)) k (omega (arith, start j (omega arith) (omega arith))) (omega (arith, start j (omega arith) (omega arith), e)))
-        ∙ e)
+        ∙ e
       where
         start : (k : ℕ) → j ≤ k → k < j + n → k / taken_at t l o j * taken_at t l o j ≡ j
         start k p q = ap (λ (x : ℕ). k / x * x) e ∙ group_start n j k some aligned p q
 
-    -- where it does not, no word takes the group
-    pub no_group : (taken_at t l o j ≡ n → ⊥) → InRun j n (λ k. taken_at t l o k ≡ n → ⊥)
-    no_group odd k p q e = true≢false (sym (other_head t l o j n some aligned odd k p q e) ∙ whole k p q)
+    pub group_listed : taken_at t l o j ≡ n → table_pages t l o i j n ≡ table_pages t l o i j 1
+    group_listed e = group_pages t l o i n j some aligned (group_taken e)
 
--- a group whose first word takes fewer words is one of single words
-pub group_singles : (t : Table) (l : List ℕ) (o i j n at room : ℕ) → GroupListable t l o i j n at room → (taken_at t l o j ≡ n → ⊥) → InRun j n (λ k. taken_at t l o k ≤ 1)
-group_singles t l o i j n at room g odd k p q = elim (dec_le (taken_at t l o k) 1) [
-  | yes h ↦ h
-  | no h ↦ absurd (no_group t l o i j n g.some g.aligned g.run.unbroken odd k p q (g.only k p q (omega arith)))
-]
+-- the words of the page that a word says, or that word
+module _ (t : Table) (l : List ℕ) (o i j k w : ℕ) (from : j ≤ k) (few : taken_at t l o k ≤ 1 → w ≡ 1) (more : 1 < taken_at t l o k → w ≡ taken_at t l o k)
+    (placed : 0 < taken_at t l o k → k % taken_at t l o k ≡ 0) (whole : Unbroken t l o k w) where
+  aligned : 1 < taken_at t l o k → k % w ≡ 0
+  aligned h = ap (λ (r : ℕ). k % r) (more h) ∙ placed (omega arith)
 
--- the groups of a coarse table, and those of small pages in a fine one
-pub coarse_listable : (l : List ℕ) (o i j at room : ℕ) → j % 16 ≡ 0 → Listable Table.Coarse l o i j 16 at room → GroupListable Table.Coarse l o i j 16 at room
-coarse_listable l o i j at room e h = record { some = omega arith; aligned = e; only = λ k p q. (coarse_sizes (table_word l o k)).0; run = h }
+  pub step_listed : table_pages t l o i k w ≡ table_pages t l o i k 1
+  step_listed = elim (dec_le (taken_at t l o k) 1) [
+    | yes h ↦ ap (table_pages t l o i k) (few h)
+    | no h ↦ let g : 1 < taken_at t l o k = omega arith in group_listed t l o i k w (omega (arith, more g)) (aligned g) whole (sym (more g))
+  ]
 
-pub small_listable : (l : List ℕ) (o i j at room : ℕ) → j % 4 ≡ 0 → InRun j 4 (λ k. taken_at Table.Fine l o k ≤ 4) → Listable Table.Fine l o i j 4 at room → GroupListable Table.Fine l o i j 4 at room
-small_listable l o i j at room e f h = record { some = omega arith; aligned = e; only = λ k p q g. omega (arith, f k p q, (fine_sizes (table_word l o k)).0 g); run = h }
-
--- a large page's group that is none has small and tiny pages alone
-pub no_large : (l : List ℕ) (o i j : ℕ) → j % 64 ≡ 0 → Unbroken Table.Fine l o j 64 → (taken_at Table.Fine l o j ≡ 64 → ⊥) → InRun j 64 (λ k. taken_at Table.Fine l o k ≤ 4)
-no_large l o i j e whole odd k p q = elim (dec_le (taken_at Table.Fine l o k) 4) [
-  | yes h ↦ h
-  | no h ↦ absurd (no_group Table.Fine l o i j 64 (omega arith) e whole odd k p q ((fine_sizes (table_word l o k)).1 (omega arith)))
-]
+  pub step_ended : Ended t l o j k → Ended t l o j (k + w)
+  step_ended f = elim (dec_le (taken_at t l o k) 1) [
+    | yes h ↦ subst (λ (x : ℕ). Ended t l o j (k + x)) (sym (few h)) (ended_word t l o j k from f h)
+    | no h ↦
+        let g : 1 < taken_at t l o k = omega arith in
+        ended_group t l o j k from f w (omega (arith, more g)) (aligned g) (group_taken t l o i k w (omega (arith, more g)) (aligned g) whole (sym (more g)))
+  ]
 
 -- the pages of the first-level words, one after the other
 module _ (l : List ℕ) (base : ℕ) where
@@ -187,11 +188,11 @@ unfolding pasted
 put_zero ms n l e = ap (λ (k : ℕ). records_of ms ++ drop k l) (let z : 0 + length (records_of ms) ≡ 12 * n = omega (arith, records-length ms) in z)
 
 -- what listing answers and leaves, by the verdict
-pub list-is : (n : ℕ) (l : List ℕ) (base : ℕ) (out : List ℕ) (v : Verdict) (a : Inventory) → check_of n l base ≡ v → inventory_of v (length out) ≡ a
+pub list-is : (n : ℕ) (l : List ℕ) (base : ℕ) (out : List ℕ) (v : Result ℕ ImageError) (a : Result ℕ ListError) → check_of n l base ≡ v → inventory_of v (length out) ≡ a
     → inventoried a (inventory_left a (records_of (pages_in n l base)) out) ≡ list_of n l base out
 unfolding list_of
 list-is n l base out v a e f =
-    ap (λ (x : Inventory). inventoried x (inventory_left x (records_of (pages_in n l base)) out)) (sym (ap (λ (u : Verdict). inventory_of u (length out)) e ∙ f))
+    ap (λ (x : Result ℕ ListError). inventoried x (inventory_left x (records_of (pages_in n l base)) out)) (sym (ap (λ (u : Result ℕ ImageError). inventory_of u (length out)) e ∙ f))
 
 -- no first-level word is put
 pub put_start : (l : List ℕ) (base : ℕ) (out : List ℕ) → Put (level_pages l base 0 0) 0 out 0 out

@@ -1,5 +1,8 @@
 -- A memory read word by word, and its tables' words as the walk reads them. Assumes nothing.
-use Rattle.audit.specs.Names.{◌≡◌, true, false, List, ℕ, ◌+◌, ◌-◌, ◌*◌, ◌/◌, ◌^◌, ◌<◌, ◌≤◌, length, word_at, Lent, LentAt, lent_ok, lent_alone, Table, Found, Page}
+use Rattle.std.proofs.Common.{Result, Ok, Err}
+use Rattle.walk.specs.declared.Unfound.{Unfound}
+use Rattle.std.proofs.Common.{Option, Some, None}
+use Rattle.audit.specs.Names.{◌≡◌, true, false, List, ℕ, ◌+◌, ◌-◌, ◌*◌, ◌/◌, ◌^◌, ◌<◌, ◌≤◌, length, word_at, Lent, LentAt, lent_ok, lent_alone, Table, Page}
 use Rattle.audit.specs.Names.{second_of, index_limit, repeats, word_bits, read_in, First, first_of, AllRepeated}
 use Rattle.audit.proofs.Names.{refl, sym, ap, ap₂, ◌∙◌, subst, arith, le-leb, and_yes, and_right, image_ok, table_word, taken, taken_at, broken, InRun, Unbroken, FirstSound}
 use mathlib.Core.Logic.{inl, inr}
@@ -9,7 +12,6 @@ use Rattle.page.specs.Words.{low_bits}
 use Rattle.page.proofs.Slot.{low_bits-le}
 use Rattle.memory.specs.declared.Place.{Place}
 use Rattle.memory.specs.Memory.{lies_in, place_in}
-use Rattle.walk.specs.declared.Read.{Read}
 use Rattle.walk.specs.Statements.{bare}
 use Rattle.walk.specs.Repeated.{found_in, Repeated, RepeatedBelow, RepeatedAfter}
 use Rattle.walk.proofs.Laws.{second_says}
@@ -25,24 +27,24 @@ lies : (base n o : ℕ) → o + 4 ≤ n → lies_in base n (base + o) ≡ true
 unfolding lies_in
 lies base n o h = and_yes _ _ (le-leb base (base + o) (omega arith)) ∙ le-leb (base + o + 4) (base + n) (omega arith)
 
-pub lent-read : (m : Lent) (l : List ℕ) (base o : ℕ) → lent_ok m ≡ true → LentAt l base m → o + 4 ≤ length l → read_in m (base + o) ≡ Read.Word (word_at l o) (place_in m (base + o))
+pub lent-read : (m : Lent) (l : List ℕ) (base o : ℕ) → lent_ok m ≡ true → LentAt l base m → o + 4 ≤ length l → read_in m (base + o) ≡ Some ((word_at l o), (place_in m (base + o)))
 lent-read m l base o ok (inl h) f =
     on_read m ok (base + o) (ap₂ (λ (x : List ℕ) (b : ℕ). lies_in b (length x) (base + o)) h.0 h.1 ∙ lies base (length l) o f)
-    ∙ ap₂ (λ (x : List ℕ) (k : ℕ). Read.Word (word_at x k) (place_in m (base + o))) h.0 (let b = h.1 in let z : base + o - m.onbase ≡ o = omega arith in z)
+    ∙ ap₂ (λ (x : List ℕ) (k : ℕ). Some ((word_at x k), (place_in m (base + o)))) h.0 (let b = h.1 in let z : base + o - m.onbase ≡ o = omega arith in z)
 lent-read m l base o ok (inr h) f =
     ext-read m ok (base + o) (ap₂ (λ (x : List ℕ) (b : ℕ). lies_in b (length x) (base + o)) h.0 h.1 ∙ lies base (length l) o f)
-    ∙ ap₂ (λ (x : List ℕ) (k : ℕ). Read.Word (word_at x k) (place_in m (base + o))) h.0 (let b = h.1 in let z : base + o - m.extbase ≡ o = omega arith in z)
+    ∙ ap₂ (λ (x : List ℕ) (k : ℕ). Some ((word_at x k), (place_in m (base + o)))) h.0 (let b = h.1 in let z : base + o - m.extbase ≡ o = omega arith in z)
 
 -- a reading of a table: word j of it is read where it lies
-abbrev pub TableRead : (ℕ → Read) → Table → List ℕ → ℕ → ℕ → Type 0
-TableRead rd t l o at = (j : ℕ) → j < index_limit t → (p : Place) × (rd (at + 4 * j) ≡ Read.Word (table_word l o j) p)
+abbrev pub TableRead : (ℕ → Option (ℕ × Place)) → Table → List ℕ → ℕ → ℕ → Type 0
+TableRead rd t l o at = (j : ℕ) → j < index_limit t → (p : Place) × (rd (at + 4 * j) ≡ Some ((table_word l o j), p))
 
-abbrev word_in : Read → ℕ
-word_in (Read.Word w p) = w
-word_in Read.Missing = 0
+abbrev word_in : Option (ℕ × Place) → ℕ
+word_in (Some (w, p)) = w
+word_in None = 0
 
 -- the word of a page takes as many words as the page
-pub takes_page : (t : Table) (l : List ℕ) (o k : ℕ) (p : Page) → second_of t (table_word l o k) ≡ Found.Page p → taken_at t l o k ≡ repeats t p.kind
+pub takes_page : (t : Table) (l : List ℕ) (o k : ℕ) (p : Page) → second_of t (table_word l o k) ≡ Ok p → taken_at t l o k ≡ repeats t p.kind
 takes_page t l o k p e = ap (taken t) e
 
 -- two words of a group of n have the same group
@@ -50,8 +52,8 @@ same_group : (n k i : ℕ) → 0 < n → k / n * n ≤ i → i < k / n * n + n �
 same_group n k i some h g =
     sym (mul-div_cancel (i / n) some) ∙ ap (λ (x : ℕ). x / n) (group_start n (k / n * n) i some (mul-mod_left (k / n) n) h g) ∙ mul-div_cancel (k / n) some
 
-module _ (rd : ℕ → Read) (t : Table) (l : List ℕ) (o at : ℕ) (reads : TableRead rd t l o at) where
-  bare-is : (j : ℕ) → j < index_limit t → bare (rd (at + 4 * j)) ≡ Read.Word (table_word l o j) Place.Nowhere
+module _ (rd : ℕ → Option (ℕ × Place)) (t : Table) (l : List ℕ) (o at : ℕ) (reads : TableRead rd t l o at) where
+  bare-is : (j : ℕ) → j < index_limit t → bare (rd (at + 4 * j)) ≡ Some ((table_word l o j), Place.Nowhere)
   bare-is j h = ap bare (reads j h).1
 
   pub found-is : (j : ℕ) → j < index_limit t → found_in t (rd (at + 4 * j)) ≡ second_of t (table_word l o j)
@@ -66,11 +68,11 @@ module _ (rd : ℕ → Read) (t : Table) (l : List ℕ) (o at : ℕ) (reads : Ta
       let q : j' / taken_at t l o j ≡ j / taken_at t l o j = subst (λ (n : ℕ). j' / n ≡ j / n) (sym r) same in
       let u : j' / taken_at t l o j * taken_at t l o j ≡ j / taken_at t l o j * taken_at t l o j = ap (λ (x : ℕ). x * taken_at t l o j) q in
       bare-is j' h'
-      ∙ ap (λ (w : ℕ). Read.Word w Place.Nowhere) (unbroken-equal t l o j (f j (omega arith) (omega arith)) j' (omega (arith, g.0, u)) (omega (arith, g.1, u)))
+      ∙ ap (λ (w : ℕ). Some (w, Place.Nowhere)) (unbroken-equal t l o j (f j (omega arith) (omega arith)) j' (omega (arith, g.0, u)) (omega (arith, g.1, u)))
       ∙ sym (bare-is j h)
 
   -- a word's group lies in its table
-  group_low : (k : ℕ) (p : Page) → k < index_limit t → second_of t (table_word l o k) ≡ Found.Page p → k / repeats t p.kind * repeats t p.kind + repeats t p.kind ≤ index_limit t
+  group_low : (k : ℕ) (p : Page) → k < index_limit t → second_of t (table_word l o k) ≡ Ok p → k / repeats t p.kind * repeats t p.kind + repeats t p.kind ≤ index_limit t
   group_low k p h e =
       let a : ℕ = 20 - low_bits p.kind in
       let b : ℕ = low_bits p.kind - word_bits t in
@@ -85,8 +87,8 @@ module _ (rd : ℕ → Read) (t : Table) (l : List ℕ) (o at : ℕ) (reads : Ta
       none : taken_at t l o k ≡ 0 → broken t l o k ≡ false
       none e = single_unbroken t l o k (omega (arith, e))
 
-      by : (f : Found) → second_of t (table_word l o k) ≡ f → broken t l o k ≡ false
-      by (Found.Page p) e =
+      by : (f : Result Page Unfound) → second_of t (table_word l o k) ≡ f → broken t l o k ≡ false
+      by (Ok p) e =
           let r : taken_at t l o k ≡ repeats t p.kind = takes_page t l o k p e in
           let some : 0 < repeats t p.kind = pow_pos (low_bits p.kind - word_bits t) in
           equal-unbroken t l o k
@@ -96,8 +98,8 @@ module _ (rd : ℕ → Read) (t : Table) (l : List ℕ) (o at : ℕ) (reads : Ta
           let here : i < index_limit t = omega (arith, v, top) in
           ap word_in
           (sym (bare-is i here) ∙ rep k i p (omega arith) here (found-is k (omega arith) ∙ e) (same_group (repeats t p.kind) k i some u v) ∙ bare-is k (omega arith))))
-      by Found.NoPage e = none (ap (taken t) e)
-      by Found.Missing e = none (ap (taken t) e)
+      by (Err Unfound.NoPage) e = none (ap (taken t) e)
+      by (Err Unfound.Missing) e = none (ap (taken t) e)
 
 -- the words of an image in one of two memories
 module _ (m : Lent) (l : List ℕ) (base : ℕ) (ok : lent_ok m ≡ true) (at : LentAt l base m) where
@@ -107,7 +109,7 @@ module _ (m : Lent) (l : List ℕ) (base : ℕ) (ok : lent_ok m ≡ true) (at : 
       let z : a + 4 * j ≡ base + o = omega arith in
       (place_in m (base + o), ap (read_in m) z ∙ lent-read m l base o ok at (omega arith))
 
-  first_read : (n i : ℕ) → 4 * n ≤ length l → i < n → read_in m (base + 4 * i) ≡ Read.Word (word_at l (4 * i)) (place_in m (base + 4 * i))
+  first_read : (n i : ℕ) → 4 * n ≤ length l → i < n → read_in m (base + 4 * i) ≡ Some ((word_at l (4 * i)), (place_in m (base + 4 * i)))
   first_read n i h g = lent-read m l base (4 * i) ok at (omega arith)
 
   -- where no word is broken the walk's words are repeated

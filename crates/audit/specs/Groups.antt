@@ -1,16 +1,19 @@
 -- The groups of a table's words (02, P4): a large or small page's word stands equal over its whole aligned group.
+use Rattle.std.specs.Prelude.{Result, Ok, Err}
+use Rattle.walk.specs.declared.Unfound.{Unfound}
+use Rattle.walk.specs.declared.Page.{Page}
 use Rattle.std.specs.Prelude.{◌+◌, ◌*◌, ◌/◌}
-use Rattle.audit.specs.Names.{ℕ, zero, suc, Bool, true, not, List, eqb, ◌and◌, word_at, Found, Table, second_of, repeats}
+use Rattle.audit.specs.Names.{ℕ, zero, suc, Bool, true, not, List, eqb, ◌and◌, word_at, Table, second_of, repeats}
 
 -- word j of the table at an offset of a memory
 abbrev pub table_word : List ℕ → ℕ → ℕ → ℕ
 table_word l o j = word_at l (o + 4 * j)
 
 -- how many words the page takes that a word says; none where it says no page
-abbrev pub taken : Table → Found → ℕ
-taken t (Found.Page p) = repeats t p.kind
-taken t Found.NoPage = 0
-taken t Found.Missing = 0
+abbrev pub taken : Table → Result Page Unfound → ℕ
+taken t (Ok p) = repeats t p.kind
+taken t (Err Unfound.NoPage) = 0
+taken t (Err Unfound.Missing) = 0
 
 abbrev pub taken_at : Table → List ℕ → ℕ → ℕ → ℕ
 taken_at t l o j = taken t (second_of t (table_word l o j))

@@ -1,6 +1,8 @@
 -- The pages of an image as mappings, in rising virtual order, one for each page (02, P4).
+use Rattle.std.specs.Prelude.{Result, Ok, Err}
+use Rattle.walk.specs.declared.Unfound.{Unfound}
 use Rattle.std.specs.Prelude.{◌+◌, ◌-◌, ◌*◌, ◌%◌, ◌^◌, ◌∷◌, ◌++◌}
-use Rattle.audit.specs.Names.{ℕ, zero, suc, List, [], eqb, pick, virtual, word_at, Page, First, Found, Table}
+use Rattle.audit.specs.Names.{ℕ, zero, suc, List, [], eqb, pick, virtual, word_at, Page, First, Table}
 use Rattle.audit.specs.Names.{first_of, second_of, index_limit, repeats, word_bits, Mapping}
 use Rattle.audit.specs.Groups.{table_word}
 
@@ -9,10 +11,10 @@ abbrev pub page_mapping : ℕ → Page → Mapping
 page_mapping at p = record { at = virtual at; to = p.frame; kind = p.kind; access = p.access }
 
 -- what word j of a table of megabyte i lists, by what it says: a page where it is the first of the page's words
-abbrev pub word_pages : Table → ℕ → ℕ → Found → List Mapping
-word_pages t i j (Found.Page p) = pick (eqb (j % repeats t p.kind) 0) (page_mapping (i * 2 ^ 20 + j * 2 ^ word_bits t) p ∷ []) []
-word_pages t i j Found.NoPage = []
-word_pages t i j Found.Missing = []
+abbrev pub word_pages : Table → ℕ → ℕ → Result Page Unfound → List Mapping
+word_pages t i j (Ok p) = pick (eqb (j % repeats t p.kind) 0) (page_mapping (i * 2 ^ 20 + j * 2 ^ word_bits t) p ∷ []) []
+word_pages t i j (Err Unfound.NoPage) = []
+word_pages t i j (Err Unfound.Missing) = []
 
 -- n words from word j on, of the table at an offset
 unfoldable pub table_pages : Table → List ℕ → ℕ → ℕ → ℕ → ℕ → List Mapping

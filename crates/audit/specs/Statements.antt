@@ -1,7 +1,13 @@
 -- What the laws of this crate say (02, P4): which images are accepted, and that the plain walk finds what the listed pages say.
+use Rattle.records.specs.declared.Mapping.{Mapping}
+use Rattle.std.specs.Prelude.{Result, Err}
+use Rattle.walk.specs.declared.Unfound.{Unfound}
+use Rattle.walk.specs.declared.Page.{Page}
+use Rattle.std.specs.Prelude.{Ok}
+use Rattle.std.specs.Prelude.{Option, Some, None}
 use Rattle.std.specs.Prelude.{◌+◌, ◌*◌, ◌<◌, ◌≤◌, ◌≡◌}
-use Rattle.audit.specs.Names.{ℕ, true, List, length, limit, megabytes, word_at, First, Found, Table, first_of, index_limit, Verdict}
-use Rattle.audit.specs.Names.{VirtualAddress, Lent, lent_ok, lent_alone, LentAt, Held, holder, AllRepeated, Uniform, look_in, read_in}
+use Rattle.audit.specs.Names.{ℕ, true, List, length, limit, megabytes, word_at, First, Table, first_of, index_limit}
+use Rattle.audit.specs.Names.{VirtualAddress, Lent, lent_ok, lent_alone, LentAt, holder, AllRepeated, Uniform, look_in, read_in}
 use Rattle.audit.specs.Pages.{pages_in}
 use Rattle.audit.specs.Check.{image_ok, check_of}
 
@@ -23,13 +29,13 @@ pub record Consistent (n : ℕ) (l : List ℕ) (base : ℕ) : Type 0 where
 abbrev pub AcceptedExactly : Type 0
 AcceptedExactly =
     (n : ℕ) (l : List ℕ) (base : ℕ)
-    → ((k : ℕ) → check_of n l base ≡ Verdict.Good k → Consistent n l base)
-    × (Consistent n l base → check_of n l base ≡ Verdict.Good (length (pages_in n l base)))
+    → ((k : ℕ) → check_of n l base ≡ Ok k → Consistent n l base)
+    × (Consistent n l base → check_of n l base ≡ Ok (length (pages_in n l base)))
 
 -- the page of the mapping that holds an address, kind, frame and access; none where none does
-abbrev pub found_by : Held → Found
-found_by (Held.By m) = Found.Page (record { kind = m.kind; frame = m.to; access = m.access })
-found_by Held.Nobody = Found.NoPage
+abbrev pub found_by : Option Mapping → Result Page Unfound
+found_by (Some m) = Ok (record { kind = m.kind; frame = m.to; access = m.access })
+found_by None = Err Unfound.NoPage
 
 -- two memories, one of which holds an image: the plain walk finds what the listed pages say, the same over a page's whole range
 pub record ReadAs (m : Lent) (l : List ℕ) (base : ℕ) : Type 0 where
@@ -38,4 +44,4 @@ pub record ReadAs (m : Lent) (l : List ℕ) (base : ℕ) : Type 0 where
 
 -- so it is with every accepted image, lent at its base beside any other memory
 abbrev pub PagesMean : Type 0
-PagesMean = (l : List ℕ) (base k : ℕ) (m : Lent) → check_of megabytes l base ≡ Verdict.Good k → lent_ok m ≡ true → LentAt l base m → ReadAs m l base
+PagesMean = (l : List ℕ) (base k : ℕ) (m : Lent) → check_of megabytes l base ≡ Ok k → lent_ok m ≡ true → LentAt l base m → ReadAs m l base

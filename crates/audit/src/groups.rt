@@ -1,11 +1,22 @@
 // The words of a table: how many pages they say, or the first whose group is not all equal.
-ghost use Rattle.std.specs.Prelude.{◌≡◌, ◌+◌, ◌*◌, ◌%◌, ◌≤◌};
-ghost use Rattle.audit.specs.Names.{length, word_at, index_limit, second_of, Table};
-ghost use Rattle.audit.specs.Groups.{taken, all_are};
-ghost use Rattle.audit.specs.Runs.{Scanned, Tallied, BrokenOver, Grouped};
+ghost use Rattle.std.specs.Prelude.{◌≡◌, ◌+◌, ◌*◌, ◌/◌, ◌%◌, ◌<◌, ◌≤◌};
+ghost use Rattle.audit.specs.Names.{length, word_at, index_limit, second_of, repeats, Large};
+ghost use Rattle.audit.specs.Groups.{table_word, taken, taken_at, all_are};
+ghost use Rattle.audit.specs.Runs.{Scanned, Tallied};
 
-use crate::{Scan, Tally};
 use walk::Table;
+
+// How many groups a table has, each of as many words as a large page takes.
+pub(crate) const GROUPS: usize = 16;
+
+// The words of a table that lies in a memory.
+#[derive(Clone, Copy)]
+pub(crate) struct Words<'a> {
+    pub memory: &'a [u8],
+    pub at: usize,
+    pub table: Table,
+    ghost inside: { at + 4 * index_limit table ≤ length memory.now },
+}
 
 // The word at an offset that has one.
 pub(crate) fn word(memory: &[u8], at: usize) -> u32
@@ -16,215 +27,132 @@ pub(crate) fn word(memory: &[u8], at: usize) -> u32
 }
 
 // How many words the page takes that a word says; none where it says no page.
-pub(crate) fn taken(table: Table, w: u32) -> usize
+fn taken(table: Table, w: u32) -> usize
     ensures { result ≡ taken table (second_of table w) }
 {
     match table {
         Table::Coarse => match w % 4 {
-            1 => return 16,
-            2 => return 1,
-            _ => return 0,
+            1 => 16,
+            2 => 1,
+            _ => 0,
         },
         Table::Fine => match w % 4 {
-            0 => return 0,
-            1 => return 64,
-            2 => return 4,
-            _ => return 1,
+            0 => 0,
+            1 => 64,
+            2 => 4,
+            _ => 1,
         },
     }
 }
 
-// Whether n words from word j on are all w.
-fn all_are(memory: &[u8], o: usize, w: u32, j: usize, n: usize) -> bool
-    requires { o + 4 * (j + n) ≤ length memory.now }
-    ensures { result ≡ all_are memory.now o w j n }
-{
-    let mut same = true;
-    let mut k: usize = 0;
-    while k < n {
-        same = same & (word(memory, o + 4 * (j + k)) == w);
-        k += 1;
-    }
-    same
-}
-
-// n words of a coarse table from word j on.
-fn tally_coarse(memory: &[u8], o: usize, j: usize, n: usize) -> Tally
-    requires { (o + 4 * (j + n) ≤ length memory.now) × (n ≤ 64) }
-    ensures { Tallied Table.Coarse memory.now o j n result }
-{
-    let mut pages: u32 = 0;
-    let mut bits: u32 = 0;
-    let mut k: usize = 0;
-    while k < n {
-        let w = word(memory, o + 4 * (j + k));
-        bits = bits | w;
-        pages = pages + w / 2 % 2;
-        k += 1;
-    }
-    Tally {
-        pages: pages as usize,
-        more: bits % 2 == 1,
-    }
-}
-
-// n words of a fine table from word j on.
-fn tally_fine(memory: &[u8], o: usize, j: usize, n: usize) -> Tally
-    requires { (o + 4 * (j + n) ≤ length memory.now) × (n ≤ 64) }
-    ensures { Tallied Table.Fine memory.now o j n result }
-{
-    let mut pages: u32 = 0;
-    let mut bits: u32 = 0;
-    let mut k: usize = 0;
-    while k < n {
-        let s = word(memory, o + 4 * (j + k)) % 4 + 1;
-        bits = bits | s;
-        pages = pages + s / 4;
-        k += 1;
-    }
-    Tally {
-        pages: pages as usize,
-        more: bits / 2 % 2 == 1,
-    }
-}
-
-// n words from word j on.
-fn tally(memory: &[u8], o: usize, table: Table, j: usize, n: usize) -> Tally
-    requires { (o + 4 * (j + n) ≤ length memory.now) × (n ≤ 64) }
-    ensures { Tallied table memory.now o j n result }
+// A word's signs: bit 1 where its page may take more than a word, otherwise bit 2 where it says a page.
+fn signs(table: Table, w: u32) -> u32
+    ensures few { result < 8 }
+    ensures page { result / 2 % 2 ≡ 0 → taken table (second_of table w) ≡ result / 4 }
 {
     match table {
-        Table::Coarse => return tally_coarse(memory, o, j, n),
-        Table::Fine => return tally_fine(memory, o, j, n),
+        Table::Coarse => w % 4 * 2,
+        Table::Fine => w % 4 + 1,
     }
 }
 
-// n words from word j on, one by one, where each page that takes more than one is broken.
-fn scan_each(memory: &[u8], o: usize, table: Table, j: usize, n: usize) -> Scan
-    requires { (o + 4 * (j + n) ≤ length memory.now) × BrokenOver table memory.now o j n 1 }
-    ensures { Scanned table memory.now o j n result }
-{
-    let mut pages: usize = 0;
-    let mut k: usize = 0;
-    while k < n {
-        let r = taken(table, word(memory, o + 4 * (j + k)));
-        if 1 < r {
-            return Scan::Broken(j + k);
+impl<'a> Words<'a> {
+    // How many words a large page takes.
+    pub fn group(&self) -> usize
+        ensures { result ≡ repeats self.now.table Large }
+    {
+        match self.table {
+            Table::Coarse => 16,
+            Table::Fine => 64,
         }
-        pages += r;
-        k += 1;
     }
-    Scan::Pages(pages)
-}
 
-// A group of n words from word j on: one page that takes them all, or pages that take a word each.
-fn scan_group(memory: &[u8], o: usize, table: Table, j: usize, n: usize) -> Scan
-    requires { Grouped table memory.now o j n }
-    ensures { Scanned table memory.now o j n result }
-{
-    let w = word(memory, o + 4 * j);
-    if taken(table, w) == n {
-        if all_are(memory, o, w, j, n) {
-            return Scan::Pages(1);
+    // Word j.
+    pub fn word(&self, j: usize) -> u32
+        requires { j < index_limit self.now.table }
+        ensures { result ≡ table_word self.now.memory.now self.now.at j }
+    {
+        word(self.memory, self.at + 4 * j)
+    }
+
+    // How many words the page takes that word j says; none where it says no page.
+    pub fn taken(&self, j: usize) -> usize
+        requires { j < index_limit self.now.table }
+        ensures { result ≡ taken_at self.now.table self.now.memory.now self.now.at j }
+    {
+        taken(self.table, self.word(j))
+    }
+
+    // Whether n words from word j on are all as word j.
+    fn all_are(&self, j: usize, n: usize) -> bool
+        requires { (0 < n) × (j + n ≤ index_limit self.now.table) }
+        ensures { result ≡ all_are self.now.memory.now self.now.at (table_word self.now.memory.now self.now.at j) j n }
+    {
+        let w = self.word(j);
+        let mut same = true;
+        for k in 0..n {
+            same &= self.word(j + k) == w;
         }
-        return Scan::Broken(j);
+        same
     }
-    let t = tally(memory, o, table, j, n);
-    if t.more {
-        return scan_each(memory, o, table, j, n);
-    }
-    Scan::Pages(t.pages)
-}
 
-// A large page's group of a fine table from word j on that is none: by the groups of small pages.
-fn scan_smalls(memory: &[u8], o: usize, j: usize) -> Scan
-    requires { (o + 4 * (j + 64) ≤ length memory.now) × (j % 64 ≡ 0) × BrokenOver Table.Fine memory.now o j 64 4 }
-    ensures { Scanned Table.Fine memory.now o j 64 result }
-{
-    let mut pages: usize = 0;
-    let mut k: usize = 0;
-    while k < 64 {
-        let s = scan_group(memory, o, Table::Fine, j + k, 4);
-        match s {
-            Scan::Pages(n) => {
-                pages += n;
-                k += 4;
-                continue;
+    // How many pages n words from word j on say, if none of them may take more than a word.
+    fn tally(&self, j: usize, n: usize) -> Option<usize>
+        requires { j + n ≤ index_limit self.now.table }
+        ensures { Tallied self.now.table self.now.memory.now self.now.at j n result }
+    {
+        let mut pages: u32 = 0;
+        let mut bits: u32 = 0;
+        for k in 0..n {
+            let s = signs(self.table, self.word(j + k));
+            bits |= s;
+            pages += s / 4;
+        }
+        if bits / 2 % 2 == 1 {
+            None
+        } else {
+            Some(pages as usize)
+        }
+    }
+
+    // A large page's group from word j on: how many pages it says, or its first broken word.
+    fn scan_group(&self, j: usize) -> Result<usize, usize>
+        requires { (j + repeats self.now.table Large ≤ index_limit self.now.table) × (j % repeats self.now.table Large ≡ 0) }
+        ensures { Scanned self.now.table self.now.memory.now self.now.at j (repeats self.now.table Large) result }
+    {
+        let n = self.group();
+        if self.taken(j) <= 1 {
+            if let Some(pages) = self.tally(j, n) {
+                return Ok(pages);
             }
-            Scan::Broken(b) => return Scan::Broken(b),
         }
-    }
-    Scan::Pages(pages)
-}
-
-// A large page's group of a fine table from word j on.
-fn scan_large(memory: &[u8], o: usize, j: usize) -> Scan
-    requires { (o + 4 * (j + 64) ≤ length memory.now) × (j % 64 ≡ 0) }
-    ensures { Scanned Table.Fine memory.now o j 64 result }
-{
-    let w = word(memory, o + 4 * j);
-    if taken(Table::Fine, w) == 64 {
-        if all_are(memory, o, w, j, 64) {
-            return Scan::Pages(1);
-        }
-        return Scan::Broken(j);
-    }
-    let t = tally_fine(memory, o, j, 64);
-    if t.more {
-        return scan_smalls(memory, o, j);
-    }
-    Scan::Pages(t.pages)
-}
-
-// The words of a coarse table.
-fn scan_coarse(memory: &[u8], o: usize) -> Scan
-    requires { o + 4 * index_limit Table.Coarse ≤ length memory.now }
-    ensures { Scanned Table.Coarse memory.now o 0 (index_limit Table.Coarse) result }
-{
-    let mut pages: usize = 0;
-    let mut j: usize = 0;
-    while j < 256 {
-        let s = scan_group(memory, o, Table::Coarse, j, 16);
-        match s {
-            Scan::Pages(n) => {
-                pages += n;
-                j += 16;
-                continue;
+        let mut pages = 0;
+        let mut k = j;
+        // Kept: the new form is no plainer, since k goes on by as many words as a page takes.
+        while k < j + n {
+            let r = self.taken(k);
+            if r <= 1 {
+                pages += r;
+                k += 1;
+            } else if k & (r - 1) == 0 && self.all_are(k, r) {
+                pages += 1;
+                k += r;
+            } else {
+                return Err(k);
             }
-            Scan::Broken(b) => return Scan::Broken(b),
         }
+        Ok(pages)
     }
-    Scan::Pages(pages)
-}
 
-// The words of a fine table.
-fn scan_fine(memory: &[u8], o: usize) -> Scan
-    requires { o + 4 * index_limit Table.Fine ≤ length memory.now }
-    ensures { Scanned Table.Fine memory.now o 0 (index_limit Table.Fine) result }
-{
-    let mut pages: usize = 0;
-    let mut j: usize = 0;
-    while j < 1024 {
-        let s = scan_large(memory, o, j);
-        match s {
-            Scan::Pages(n) => {
-                pages += n;
-                j += 64;
-                continue;
-            }
-            Scan::Broken(b) => return Scan::Broken(b),
+    // All words.
+    pub fn scan(&self) -> Result<usize, usize>
+        ensures { Scanned self.now.table self.now.memory.now self.now.at 0 (index_limit self.now.table) result }
+    {
+        let n = self.group();
+        let mut pages = 0;
+        for g in 0..GROUPS {
+            pages += self.scan_group(g * n)?;
         }
-    }
-    Scan::Pages(pages)
-}
-
-// The words of the table at an offset.
-pub(crate) fn scan_table(memory: &[u8], o: usize, table: Table) -> Scan
-    requires { o + 4 * index_limit table ≤ length memory.now }
-    ensures { Scanned table memory.now o 0 (index_limit table) result }
-{
-    match table {
-        Table::Coarse => return scan_coarse(memory, o),
-        Table::Fine => return scan_fine(memory, o),
+        Ok(pages)
     }
 }

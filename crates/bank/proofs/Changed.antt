@@ -1,63 +1,39 @@
 -- The slots in place after a store, a fill, a flush and a reset. Assumes nothing.
-use Rattle.bank.specs.Names.{◌≡◌, Bool, List, ℕ, zero, suc, ◌<◌, ◌/◌, ◌%◌, eqb, length, get_or, set, replicate, pick, VirtualAddress, Words}
-use Rattle.bank.specs.Names.{flushed_all, flushed_entry, Fill}
-use Rattle.bank.proofs.Names.{refl, sym, ◌∙◌, ap, subst, true, false, ◌⊎◌, inl, inr, arith, length-set, eq-eqb, eqb-false, word_flushed}
-use Rattle.bank.proofs.Names.{word_flushed_at, pick_yes, pick_by, next_slot, next_victim, stored_at, entry_filled, filled, low_of, high_of, Ends}
-use Rattle.bank.proofs.Names.{low_kept, high_kept, EndsKept}
-use lib.ListN.{length-map}
+use Rattle.bank.specs.Names.{◌≡◌, Bool, List, ℕ, zero, suc, ◌+◌, ◌<◌, ◌/◌, ◌%◌, eqb, length, get_or, set, replicate, pick, Bank, VirtualAddress, Words}
+use Rattle.bank.specs.Names.{flushed_all, flushed_entry}
+use Rattle.bank.proofs.Names.{refl, sym, ◌∙◌, ap, ap₂, subst, true, false, ◌⊎◌, inl, inr, ◌≤◌, arith, length-set, eq-eqb, eqb-false, word_flushed}
+use Rattle.bank.proofs.Names.{word_flushed_at, pick_yes, pick_by, next_slot, next_victim, filled, low_of, high_of, Ends, get_or-set_other}
+use Rattle.bank.proofs.Names.{low_kept, high_kept}
 use Rattle.page.specs.Words.{word_dropped}
 use Rattle.page.proofs.Slot.{dropped-off}
 use Rattle.lanes.proofs.Flushes.{flush_word, entry-word}
 use Rattle.bank.specs.Slots.{fresh_bank}
-use Rattle.bank.specs.Changes.{filled_at}
-use Rattle.bank.specs.InPlace.{bank_of, Spanned, Renewed, Stands}
-use Rattle.bank.proofs.Ends.{ends-both}
-
-at_is : (i at : ℕ) → i ≡ at % 32 → at < 32 → i ≡ at
-at_is i at e h = omega (arith, e)
+use Rattle.bank.specs.Changes.{stored_at, with_cams, locked_at, filled_at}
+use Rattle.bank.specs.InPlace.{Spanned, Dropped}
+use Rattle.bank.proofs.Ends.{ends-both, ends_more}
 
 -- a slot's word and both its ends set
-module _ (cam lows highs : List ℕ) (i at w lo hi : ℕ) (e : i ≡ at % 32) (s : Spanned cam lows highs) (h : at < 32) (q : lo ≡ low_of w) (r : hi ≡ high_of w) where
-  spanned-set : Spanned (set cam i w) (set lows i lo) (set highs i hi)
-  spanned-set = record {
-    low_ends = ends-both low_of 32 i w lo cam lows (omega (arith, e, h, s.cam-long)) (omega (arith, e, h, s.lows_long)) s.low_ends q;
-    high_ends = ends-both high_of 32 i w hi cam highs (omega (arith, e, h, s.cam-long)) (omega (arith, e, h, s.highs_long)) s.high_ends r;
-    cam-long = length-set cam i w ∙ s.cam-long;
-    lows_long = length-set lows i lo ∙ s.lows_long;
-    highs_long = length-set highs i hi ∙ s.highs_long;
-  }
-
-pub stored : (cam ram lows highs : List ℕ) (lock victim at : ℕ) (w : Words) (i lo hi : ℕ) → i ≡ at % 32 → lo ≡ low_of w.cam → hi ≡ high_of w.cam → Spanned cam lows highs → at < 32
-    → Stands (stored_at (bank_of cam ram lock victim) at w) (bank_of (set cam i w.cam) (set ram i w.ram) lock victim) (set lows i lo) (set highs i hi)
-stored cam ram lows highs lock victim at w i lo hi e q r s h = record {
-  bank-is = ap (λ (x : ℕ). stored_at (bank_of cam ram lock victim) x w) (at_is i at e h);
-  spanned = spanned-set cam lows highs i at w.cam lo hi e s h q r;
+pub spanned-set : (cam lows highs : List ℕ) (i w lo hi : ℕ) → i < 32 → Spanned cam lows highs → lo ≡ low_of w → hi ≡ high_of w
+    → Spanned (set cam i w) (set lows i lo) (set highs i hi)
+spanned-set cam lows highs i w lo hi h s q r = record {
+  low_ends = ends-both low_of 32 i w lo cam lows (omega (arith, h, s.cam-long)) (omega (arith, h, s.lows_long)) s.low_ends q;
+  high_ends = ends-both high_of 32 i w hi cam highs (omega (arith, h, s.cam-long)) (omega (arith, h, s.highs_long)) s.high_ends r;
+  cam-long = length-set cam i w ∙ s.cam-long;
+  lows_long = length-set lows i lo ∙ s.lows_long;
+  highs_long = length-set highs i hi ∙ s.highs_long;
 }
 
--- a fill of nothing, and of a slot
-pub filled_none : (cam ram lows highs : List ℕ) (lock victim : ℕ) (fill : Fill) → fill ≡ Fill.Nothing → Spanned cam lows highs
-    → Stands (entry_filled (bank_of cam ram lock victim) fill) (bank_of cam ram lock victim) lows highs
-filled_none cam ram lows highs lock victim fill e s = record { bank-is = ap (entry_filled (bank_of cam ram lock victim)) (sym e); spanned = s }
-
-slot_lt : (victim lock : ℕ) → victim < 32 → lock < 32 → next_slot victim lock < 32
+-- the slot that a fill takes
+pub slot_lt : (victim lock : ℕ) → victim < 32 → lock < 32 → next_slot victim lock < 32
 unfolding next_slot
 slot_lt victim lock a b = pick_by (λ (x : ℕ). x < 32) _ _ _ (λ _. b) (λ _. a)
 
-module _ (cam ram lows highs : List ℕ) (lock victim at next : ℕ) (w : Words) (fill : Fill) (i lo hi : ℕ) (f : fill ≡ Fill.Slot w) (n : at ≡ next_slot victim lock) (m : next ≡ next_victim at lock)
-    (e : i ≡ at % 32) (q : lo ≡ low_of w.cam) (r : hi ≡ high_of w.cam) (s : Spanned cam lows highs) (a : lock < 32) (b : victim < 32) where
-  at_lt : at < 32
-  at_lt = subst (λ (x : ℕ). x < 32) (sym n) (slot_lt victim lock b a)
-
-  pub filled-slot : Stands (entry_filled (bank_of cam ram lock victim) fill) (bank_of (set cam i w.cam) (set ram i w.ram) lock next) (set lows i lo) (set highs i hi)
-  unfolding filled
-  filled-slot = record {
-    bank-is =
-        ap (λ (x : ℕ). bank_of (set cam i w.cam) (set ram i w.ram) lock x) m
-        ∙ ap (λ (x : ℕ). bank_of (set cam x w.cam) (set ram x w.ram) lock (next_victim at lock)) (at_is i at e at_lt)
-        ∙ ap (filled_at (bank_of cam ram lock victim) w) n
-        ∙ ap (entry_filled (bank_of cam ram lock victim)) (sym f);
-    spanned = spanned-set cam lows highs i at w.cam lo hi e s at_lt q r;
-  }
+-- a slot stored and the victim moved on are a fill
+pub filled_is : (b after : Bank) (w : Words) (at next : ℕ) → at ≡ next_slot b.victim b.lock → after ≡ stored_at b at w → next ≡ next_victim at after.lock
+    → locked_at after after.lock next ≡ filled b w
+unfolding filled
+filled_is b after w at next e s n =
+    ap₂ (λ (x : Bank) (v : ℕ). locked_at x x.lock v) s (n ∙ ap (λ (x : Bank). next_victim at x.lock) s) ∙ ap (filled_at b w) e
 
 -- a flush: each word is as it was, or no longer valid
 abbrev Drops : (ℕ → ℕ) → Type 0
@@ -73,6 +49,17 @@ flushed_drops w = pick_by (λ (x : ℕ). (x ≡ w) ⊎ (x / 4 % 2 ≡ 0)) _ _ _ 
 entry_drops : (va : VirtualAddress) → Drops (word_flushed_at va)
 unfolding word_flushed_at
 entry_drops va w = pick_by (λ (x : ℕ). (x ≡ w) ⊎ (x / 4 % 2 ≡ 0)) _ _ _ (λ _. inr (dropped_clear w)) (λ _. inl refl)
+
+-- what a flush of a bank's lane gives, each word of which is as it was, or no longer valid
+pub flush_drops : (b old : Bank) (out : List ℕ) → b ≡ old → out ≡ flushed_all b.cam → Dropped old.cam out
+flush_drops b old out s e =
+    subst (λ (x : Bank). Dropped x.cam out) s
+    (subst (Dropped b.cam) (sym e) (λ j l. subst (λ (x : ℕ). (x ≡ get_or b.cam j 0) ⊎ (x / 4 % 2 ≡ 0)) (sym (flush_word b.cam j)) (flushed_drops (get_or b.cam j 0))))
+
+pub flush_at_drops : (va : VirtualAddress) (b old : Bank) (out : List ℕ) → b ≡ old → out ≡ flushed_entry va b.cam → Dropped old.cam out
+flush_at_drops va b old out s e =
+    subst (λ (x : Bank). Dropped x.cam out) s
+    (subst (Dropped b.cam) (sym e) (λ j l. subst (λ (x : ℕ). (x ≡ get_or b.cam j 0) ⊎ (x / 4 % 2 ≡ 0)) (sym (entry-word va b.cam j)) (entry_drops va (get_or b.cam j 0))))
 
 pick_twice : (t : Bool) (a b : ℕ) → pick t a (pick t a b) ≡ pick t a b
 unfolding pick
@@ -96,35 +83,56 @@ module _ (k : ℕ) (end : ℕ → ℕ) (stays : (w : ℕ) → pick (eqb (w / 4 %
   kept-end w v (inl e) = ap (λ (x : ℕ). kept v (end x)) (sym e) ∙ stays v
   kept-end w v (inr e) = pick_yes _ _ _ (eq-eqb _ _ e) ∙ sym (pick_yes _ _ _ (eq-eqb _ _ e)) ∙ stays v
 
-  ends-kept : (f : ℕ → ℕ) → Drops f → (cam after ends out : List ℕ) → ((j : ℕ) → get_or after j 0 ≡ f (get_or cam j 0)) → Ends end 32 cam ends → EndsKept kept 32 after ends out → Ends end 32 after out
-  ends-kept f d cam after ends out each s o j l =
-      o j l ∙ ap (kept (get_or after j 0)) (s j l)
-      ∙ kept-end (get_or cam j 0) (get_or after j 0) (subst (λ (x : ℕ). (x ≡ get_or cam j 0) ⊎ (x / 4 % 2 ≡ 0)) (sym (each j)) (d (get_or cam j 0)))
+-- the ends after the first i slots of a lane that drops words
+pub record Renewing (before cam lows highs : List ℕ) (i : ℕ) : Type 0 where
+  pub low_ends : Ends low_of i cam lows
+  pub high_ends : Ends high_of i cam highs
+  pub low_left : (j : ℕ) → i ≤ j → j < 32 → get_or lows j 0 ≡ low_of (get_or before j 0)
+  pub high_left : (j : ℕ) → i ≤ j → j < 32 → get_or highs j 0 ≡ high_of (get_or before j 0)
+  pub lows_long : length lows ≡ 32
+  pub highs_long : length highs ≡ 32
 
-module _ (cam after lows highs lows' highs' : List ℕ) (s : Spanned cam lows highs) (o : EndsKept low_kept 32 after lows lows') (p : EndsKept high_kept 32 after highs highs')
-    (a : length lows' ≡ 32) (b : length highs' ≡ 32) where
-  renewed : (f : ℕ → ℕ) → Drops f → ((j : ℕ) → get_or after j 0 ≡ f (get_or cam j 0)) → length after ≡ 32 → Spanned after lows' highs'
-  renewed f d each h = record {
-    low_ends = ends-kept 16384 low_of low_stays f d cam after lows lows' each s.low_ends o;
-    high_ends = ends-kept 0 high_of high_stays f d cam after highs highs' each s.high_ends p;
-    cam-long = h;
-    lows_long = a;
-    highs_long = b;
-  }
+pub renewing_starts : (b old : Bank) (cam lows highs : List ℕ) → b ≡ old → Spanned b.cam lows highs → Renewing old.cam cam lows highs 0
+renewing_starts b old cam lows highs e s =
+    subst (λ (x : Bank). Renewing x.cam cam lows highs 0) e
+    (record {
+      low_ends = λ j l. absurd (omega arith);
+      high_ends = λ j l. absurd (omega arith);
+      low_left = λ j c l. s.low_ends j l;
+      high_left = λ j c l. s.high_ends j l;
+      lows_long = s.lows_long;
+      highs_long = s.highs_long;
+    })
 
-  pub flushed_all_lem : after ≡ flushed_all cam → Renewed (flushed_all cam) after lows' highs'
-  unfolding flushed_all
-  flushed_all_lem e = record {
-    cam-is = e;
-    spanned = renewed word_flushed flushed_drops (λ j. ap (λ (x : List ℕ). get_or x j 0) e ∙ flush_word cam j) (ap length e ∙ length-map cam word_flushed ∙ s.cam-long);
-  }
+pub renewing_ends : (b old : Bank) (cam lows highs : List ℕ) (i : ℕ) → 32 ≤ i → length cam ≡ 32 → b ≡ with_cams old cam → Renewing old.cam cam lows highs i
+    → Spanned b.cam lows highs
+renewing_ends b old cam lows highs i h n e w =
+    subst (λ (x : Bank). Spanned x.cam lows highs) (sym e)
+    (record {
+      low_ends = λ j l. w.low_ends j (omega arith);
+      high_ends = λ j l. w.high_ends j (omega arith);
+      cam-long = n;
+      lows_long = w.lows_long;
+      highs_long = w.highs_long;
+    })
 
-  pub flushed_entry_lem : (va : VirtualAddress) → after ≡ flushed_entry va cam → Renewed (flushed_entry va cam) after lows' highs'
-  unfolding flushed_entry
-  flushed_entry_lem va e = record {
-    cam-is = e;
-    spanned = renewed (word_flushed_at va) (entry_drops va) (λ j. ap (λ (x : List ℕ). get_or x j 0) e ∙ entry-word va cam j) (ap length e ∙ length-map cam (word_flushed_at va) ∙ s.cam-long);
-  }
+pub renewing_more : (before cam lows highs : List ℕ) (i lo hi : ℕ) → i < 32 → Dropped before cam → Renewing before cam lows highs i
+    → lo ≡ low_kept (get_or cam i 0) (get_or lows i 0) → hi ≡ high_kept (get_or cam i 0) (get_or highs i 0) → Renewing before cam (set lows i lo) (set highs i hi) (i + 1)
+renewing_more before cam lows highs i lo hi h d w q r =
+    let a : i < length lows = omega (arith, w.lows_long, h) in
+    let b : i < length highs = omega (arith, w.highs_long, h) in
+    let low : lo ≡ low_of (get_or cam i 0) =
+    q ∙ ap (low_kept (get_or cam i 0)) (w.low_left i (omega arith) h) ∙ kept-end 16384 low_of low_stays (get_or before i 0) (get_or cam i 0) (d i h) in
+    let high : hi ≡ high_of (get_or cam i 0) =
+    r ∙ ap (high_kept (get_or cam i 0)) (w.high_left i (omega arith) h) ∙ kept-end 0 high_of high_stays (get_or before i 0) (get_or cam i 0) (d i h) in
+    record {
+      low_ends = ends_more low_of cam i lo lows a w.low_ends low;
+      high_ends = ends_more high_of cam i hi highs b w.high_ends high;
+      low_left = λ j c l. get_or-set_other lows i j lo 0 (λ e. omega (arith, e, c)) ∙ w.low_left j (omega (arith, c)) l;
+      high_left = λ j c l. get_or-set_other highs i j hi 0 (λ e. omega (arith, e, c)) ∙ w.high_left j (omega (arith, c)) l;
+      lows_long = length-set lows i lo ∙ w.lows_long;
+      highs_long = length-set highs i hi ∙ w.highs_long;
+    }
 
 -- a reset: every slot empty
 same : (x n j : ℕ) → j < n → get_or (replicate n x) j 0 ≡ x
@@ -132,15 +140,15 @@ same x zero j l = absurd (omega arith)
 same x (suc n) zero l = refl
 same x (suc n) (suc j) l = same x n j (omega arith)
 
-pub cleared : Stands fresh_bank (bank_of (replicate 32 0) (replicate 32 0) 0 0) (replicate 32 16384) (replicate 32 0)
+fresh_spanned : Spanned (replicate 32 0) (replicate 32 16384) (replicate 32 0)
 unfolding low_of high_of pick
-cleared = record {
-  bank-is = refl;
-  spanned = record {
-    low_ends = λ j l. same 16384 32 j l ∙ ap low_of (sym (same 0 32 j l));
-    high_ends = λ j l. same 0 32 j l ∙ ap high_of (sym (same 0 32 j l));
-    cam-long = refl;
-    lows_long = refl;
-    highs_long = refl;
-  };
+fresh_spanned = record {
+  low_ends = λ j l. same 16384 32 j l ∙ ap low_of (sym (same 0 32 j l));
+  high_ends = λ j l. same 0 32 j l ∙ ap high_of (sym (same 0 32 j l));
+  cam-long = refl;
+  lows_long = refl;
+  highs_long = refl;
 }
+
+pub cleared : (b : Bank) → b ≡ fresh_bank → Spanned b.cam (replicate 32 16384) (replicate 32 0)
+cleared b e = subst (λ (x : Bank). Spanned x.cam (replicate 32 16384) (replicate 32 0)) (sym e) fresh_spanned

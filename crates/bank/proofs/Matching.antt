@@ -1,5 +1,6 @@
 -- A search of the spans of slots in range finds what a search of the slots finds. Assumes nothing.
-use Rattle.bank.specs.Names.{◌≡◌, Bool, List, ℕ, zero, suc, ◌+◌, ◌*◌, ◌/◌, ◌%◌, ◌<◌, eqb, leb, get_or, pick, VirtualAddress, Matched, cams_ok}
+use Rattle.std.proofs.Common.{Option, Some}
+use Rattle.bank.specs.Names.{◌≡◌, Bool, List, ℕ, zero, suc, ◌+◌, ◌*◌, ◌/◌, ◌%◌, ◌<◌, eqb, leb, get_or, pick, VirtualAddress, cams_ok}
 use Rattle.bank.proofs.Names.{refl, sym, ◌∙◌, ap, ap₂, subst, true, false, ◌≤◌, arith, eqb-true, eqb-false, eq-eqb, ne_eqb, ltb-true, pick_yes}
 use Rattle.bank.proofs.Names.{pick_no, and_yes, and_left, and_right, cam_ok, low_of, high_of, in_span, sought_from, sought, Ends}
 use Prim.Native.Nat.{◌^◌}
@@ -95,7 +96,7 @@ module _ (cam lows highs : List ℕ) (va : VirtualAddress) (virtual : va.0 < 167
   unfolding sought_from looked_from
   sought_from_lem zero i c l h = refl
   sought_from_lem (suc n) i c l h =
-      ap₂ (λ (t : Bool) (m : Matched). pick t (Matched.At i) m)
+      ap₂ (λ (t : Bool) (m : Option ℕ). pick t (Some i) m)
       (ap₂ (λ (x y : ℕ). in_span x y (va.0 / 1024 % 16384)) (l i (omega arith) (omega arith)) (h i (omega arith) (omega arith))
       ∙ span-matches (get_or cam i 0) va.0 (c i (omega arith) (omega arith)) virtual)
       (sought_from_lem n (i + 1) (λ j a b. c j (omega arith) (omega arith)) (λ j a b. l j (omega arith) (omega arith)) (λ j a b. h j (omega arith) (omega arith)))

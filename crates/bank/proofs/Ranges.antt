@@ -1,6 +1,7 @@
 -- Banks in range, and what keeps them there. Assumes nothing.
+use Rattle.std.proofs.Common.{Option, Some, None}
 use Rattle.bank.specs.Names.{◌≡◌, Bool, ℕ, ◌+◌, ◌<◌, ltb, ◌and◌, VirtualAddress, Words, slots, cam_limit, cams_ok, rams_ok, flushed_all}
-use Rattle.bank.specs.Names.{flushed_entry, Bank, Fill}
+use Rattle.bank.specs.Names.{flushed_entry, Bank}
 use Rattle.bank.proofs.Names.{◌∙◌, ap₂, true, arith, lt-ltb, ltb-true, word_flushed, word_flushed_at, pick_by, and_yes, and_left, and_right}
 use Rattle.bank.proofs.Names.{cam_ok, next_slot, next_victim, stored_at, filled, entry_filled}
 use mathlib.Core.Bool.{◌&&◌}
@@ -51,9 +52,9 @@ next_victim-lt slot lock hl = pick_by (λ (x : ℕ). x < slots) _ _ _ (λ e. ltb
 abbrev pub words_ok : Words → Bool
 words_ok w = cam_ok cam_limit w.cam and ram_ok w.ram
 
-abbrev pub fill_ok : Fill → Type 0
-fill_ok Fill.Nothing = Unit {0}
-fill_ok (Fill.Slot w) = words_ok w ≡ true
+abbrev pub fill_ok : Option Words → Type 0
+fill_ok None = Unit {0}
+fill_ok (Some w) = words_ok w ≡ true
 
 -- every change of a bank in range by words in range leaves it in range
 module _ (b : Bank) (h : bank_ok b ≡ true) where
@@ -108,6 +109,6 @@ filled_ok b h w g =
     let i = next_slot b.victim b.lock in
     locked_ok (stored_at b i w) (stored_ok b h i w g) b.lock (next_victim i b.lock) r.lock (next_victim-lt i b.lock r.lock)
 
-pub entry_ok_lem : (b : Bank) → bank_ok b ≡ true → (f : Fill) → fill_ok f → bank_ok (entry_filled b f) ≡ true
-entry_ok_lem b h Fill.Nothing g = h
-entry_ok_lem b h (Fill.Slot w) g = filled_ok b h w g
+pub entry_ok_lem : (b : Bank) → bank_ok b ≡ true → (f : Option Words) → fill_ok f → bank_ok (entry_filled b f) ≡ true
+entry_ok_lem b h None g = h
+entry_ok_lem b h (Some w) g = filled_ok b h w g

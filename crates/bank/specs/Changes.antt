@@ -1,5 +1,6 @@
 -- What changes the slots: fill, load, flushes, lock (01, "The walk", "Registers").
-use Rattle.bank.specs.Names.{ℕ, List, get_or, set, VirtualAddress, Words, flushed_all, flushed_entry, Bank, Fill}
+use Rattle.std.specs.Prelude.{Option, Some, None}
+use Rattle.bank.specs.Names.{ℕ, List, get_or, set, VirtualAddress, Words, flushed_all, flushed_entry, Bank}
 unfoldable pub use Rattle.bank.specs.Victim.{next_slot, next_victim}
 
 -- the words in slot i
@@ -20,9 +21,9 @@ filled_at b w i = locked_at (stored_at b i w) b.lock (next_victim i b.lock)
 unfoldable pub filled : Bank → Words → Bank
 filled b w = filled_at b w (next_slot b.victim b.lock)
 
-abbrev pub entry_filled : Bank → Fill → Bank
-entry_filled b Fill.Nothing = b
-entry_filled b (Fill.Slot w) = filled b w
+abbrev pub entry_filled : Bank → Option Words → Bank
+entry_filled b None = b
+entry_filled b (Some w) = filled b w
 
 -- load stores in the victim slot and copy reads it; the victim stays
 abbrev pub loaded : Bank → Words → Bank

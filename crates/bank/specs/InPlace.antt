@@ -1,11 +1,8 @@
--- The lanes of the slots in place: the words, and the ends of the span that each slot matches.
-use Rattle.std.specs.Prelude.{◌≡◌}
-use Rattle.bank.specs.Names.{ℕ, List, length, Bank}
+-- The slots in place: the words, and the ends of the span that each slot matches.
+use Rattle.std.specs.Prelude.{◌≡◌, ◌⊎◌, ◌<◌, ◌/◌, ◌%◌}
+use Rattle.bank.specs.Names.{ℕ, List, get_or, length}
 use Rattle.bank.specs.Spans.{low_of, high_of, Ends}
-
--- a bank of its parts
-abbrev pub bank_of : List ℕ → List ℕ → ℕ → ℕ → Bank
-bank_of cam ram lock victim = record { cam = cam; ram = ram; lock = lock; victim = victim }
+use Rattle.bank.specs.declared.slots.Slots.{Slots}
 
 -- the two lanes of ends are those of the CAM lane
 pub record Spanned (cam lows highs : List ℕ) : Type 0 where
@@ -15,12 +12,10 @@ pub record Spanned (cam lows highs : List ℕ) : Type 0 where
   pub lows_long : length lows ≡ 32
   pub highs_long : length highs ≡ 32
 
--- the CAM lane is what it should be, with its ends
-pub record Renewed (should cam lows highs : List ℕ) : Type 0 where
-  pub cam-is : cam ≡ should
-  pub spanned : Spanned cam lows highs
+-- the slots have the ends of their CAM lane
+abbrev pub IsSpanned : Slots → Type 0
+IsSpanned s = Spanned s.bank.cam s.lows s.highs
 
--- a bank is what it should be, with the ends of its CAM lane
-pub record Stands (should bank : Bank) (lows highs : List ℕ) : Type 0 where
-  pub bank-is : bank ≡ should
-  pub spanned : Spanned bank.cam lows highs
+-- each word of a CAM lane is as it was, or no longer valid
+abbrev pub Dropped : List ℕ → List ℕ → Type 0
+Dropped before after = (j : ℕ) → j < 32 → (get_or after j 0 ≡ get_or before j 0) ⊎ (get_or after j 0 / 4 % 2 ≡ 0)

@@ -1,6 +1,7 @@
 -- The page numbers (address bits 23:10) that a slot matches, from its lowest to its highest, and the search over them.
+use Rattle.std.specs.Prelude.{Option, Some, None}
 use Rattle.std.specs.Prelude.{◌+◌, ◌*◌, ◌/◌, ◌%◌, ◌<◌, ◌≡◌}
-use Rattle.bank.specs.Names.{ℕ, zero, suc, Bool, List, eqb, leb, get_or, pick, ◌and◌, Matched}
+use Rattle.bank.specs.Names.{ℕ, zero, suc, Bool, List, eqb, leb, get_or, pick, ◌and◌}
 
 -- by the type of a word, one of four
 abbrev pub by_type : ℕ → ℕ → ℕ → ℕ → ℕ → ℕ
@@ -19,11 +20,11 @@ abbrev pub in_span : ℕ → ℕ → ℕ → Bool
 in_span low high x = leb low x and leb x high
 
 -- the first of the n slots from i whose span has a number
-unfoldable pub sought_from : ℕ → ℕ → List ℕ → List ℕ → ℕ → Matched
-sought_from zero i lows highs x = Matched.Nothing
-sought_from (suc n) i lows highs x = pick (in_span (get_or lows i 0) (get_or highs i 0) x) (Matched.At i) (sought_from n (i + 1) lows highs x)
+unfoldable pub sought_from : ℕ → ℕ → List ℕ → List ℕ → ℕ → Option ℕ
+sought_from zero i lows highs x = None
+sought_from (suc n) i lows highs x = pick (in_span (get_or lows i 0) (get_or highs i 0) x) (Some i) (sought_from n (i + 1) lows highs x)
 
-abbrev pub sought : List ℕ → List ℕ → ℕ → Matched
+abbrev pub sought : List ℕ → List ℕ → ℕ → Option ℕ
 sought lows highs x = sought_from 32 0 lows highs x
 
 -- each of two lanes has the end of each slot's span

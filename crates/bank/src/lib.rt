@@ -17,21 +17,14 @@ pub struct Bank {
     pub victim: u8,
 }
 
-// What a call puts into the slots.
-#[derive(Clone, Copy)]
-pub enum Fill {
-    Nothing,
-    Slot(Words),
-}
-
 impl Bank {
     // Every slot empty, nothing locked.
     pub fn fresh() -> Bank
         ensures { result ≡ fresh_bank }
     {
         Bank {
-            cam: [0u32; SLOTS],
-            ram: [0u32; SLOTS],
+            cam: [0; SLOTS],
+            ram: [0; SLOTS],
             lock: 0,
             victim: 0,
         }
@@ -41,10 +34,10 @@ impl Bank {
     pub fn in_range(self) -> bool
         ensures { result ≡ bank_ok self }
     {
-        let mut ok = (self.lock as usize) < SLOTS;
-        ok = ok & ((self.victim as usize) < SLOTS);
-        ok = ok & lanes::cams_ok(&self.cam, CAM_LIMIT);
-        ok & lanes::rams_ok(&self.ram)
+        ((self.lock as usize) < SLOTS)
+            & ((self.victim as usize) < SLOTS)
+            & lanes::cams_ok(&self.cam, CAM_LIMIT)
+            & lanes::rams_ok(&self.ram)
     }
 }
 
@@ -52,10 +45,7 @@ impl Bank {
 pub(crate) fn next_slot(victim: u8, lock: u8) -> u8
     ensures { result ≡ next_slot victim lock }
 {
-    if victim < lock {
-        return lock;
-    }
-    victim
+    if victim < lock { lock } else { victim }
 }
 
 // The victim after a fill of a slot.
@@ -63,7 +53,8 @@ pub(crate) fn next_victim(at: u8, lock: u8) -> u8
     ensures { result ≡ next_victim at lock }
 {
     if at as usize + 1 < SLOTS {
-        return at + 1;
+        at + 1
+    } else {
+        lock
     }
-    lock
 }

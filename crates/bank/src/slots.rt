@@ -1,243 +1,207 @@
-// The slots in place: the lowest and the highest page number that each matches beside its words, the search over them, and
-ghost use Rattle.std.specs.Prelude.{◌≡◌, ◌<◌};
-ghost use Rattle.bank.specs.Names.{ltb, pick, flushed_all, flushed_entry};
-ghost use Rattle.bank.specs.Slots.{fresh_bank};
-ghost use Rattle.bank.specs.Changes.{stored_at, entry_filled};
-ghost use Rattle.bank.specs.Spans.{low_of, high_of, in_span, sought, Ends, low_kept, high_kept, EndsKept};
-ghost use Rattle.bank.specs.InPlace.{bank_of, Spanned, Renewed, Stands};
+// The slots in place: a bank, and beside each slot's words the lowest and the highest page number that it matches.
+ghost use Rattle.std.specs.Prelude.{◌≡◌, ◌<◌, ℕ, true};
+ghost use Rattle.bank.specs.Names.{cams_ok, cam_limit, limit, looked_up};
+ghost use Rattle.bank.specs.Slots.{fresh_bank, slot_at};
+ghost use Rattle.bank.specs.Changes.{stored_at, entry_filled, with_cams, locked_at, bank_flushed, bank_flushed_at};
+ghost use Rattle.bank.specs.InPlace.{IsSpanned, Dropped};
+ghost use Rattle.bank.specs.Spans.{low_of, high_of, in_span, sought, low_kept, high_kept};
 
-use crate::{Fill, next_slot, next_victim};
-use lanes::{Matched, SLOTS};
+use crate::{Bank, next_slot, next_victim};
+use lanes::SLOTS;
 use page::{VirtualAddress, Words};
 
-// The lowest page number that a slot matches; past all where it is not valid.
-fn low_of(w: u32) -> u16
-    ensures { result ≡ low_of w }
-{
-    if w / 4 % 2 == 0 {
-        return 16384;
+// The page numbers that a slot matches, from the lowest to the highest.
+#[derive(Clone, Copy)]
+struct Span {
+    low: u16,
+    high: u16,
+}
+
+// A bank to be searched and changed, and beside each slot's words the lowest and the highest page number that it matches.
+// Kept: no invariant, since these functions take any ends; what they promise is of slots with ends of their own.
+#[derive(Clone, Copy)]
+pub struct Slots {
+    pub bank: Bank,
+    pub lows: [u16; SLOTS],
+    pub highs: [u16; SLOTS],
+}
+
+impl Span {
+    // The span of a slot's CAM word; where it is not valid, from past all page numbers.
+    fn of(cam: u32) -> Span
+        ensures low { result.low ≡ low_of cam }
+        ensures high { result.high ≡ high_of cam }
+    {
+        if cam / 4 % 2 == 0 {
+            return Span {
+                low: 16384,
+                high: 0,
+            };
+        }
+        let (low, last) = match cam % 4 {
+            0 => (cam / 16384 % 16 * 1024, 1023),
+            1 => (cam / 1024 % 256 * 64, 63),
+            2 => (cam / 64 % 4096 * 4, 3),
+            _ => (cam / 16 % 16384, 0),
+        };
+        Span {
+            low: low as u16,
+            high: (low + last) as u16,
+        }
     }
-    match w % 4 {
-        0 => (w / 16384 % 16 * 1024) as u16,
-        1 => (w / 1024 % 256 * 64) as u16,
-        2 => (w / 64 % 4096 * 4) as u16,
-        _ => (w / 16 % 16384) as u16,
+
+    // The span of a slot that is as it was, or no longer valid.
+    fn kept(self, cam: u32) -> Span
+        ensures low { result.low ≡ low_kept cam self.low }
+        ensures high { result.high ≡ high_kept cam self.high }
+    {
+        if cam / 4 % 2 == 0 {
+            return Span {
+                low: 16384,
+                high: 0,
+            };
+        }
+        self
+    }
+
+    // Whether a page number lies in it.
+    fn has(self, x: u16) -> bool
+        ensures { result ≡ in_span self.low self.high x }
+    {
+        (self.low <= x) & (x <= self.high)
     }
 }
 
-// The highest.
-fn high_of(w: u32) -> u16
-    ensures { result ≡ high_of w }
-{
-    if w / 4 % 2 == 0 {
-        return 0;
-    }
-    match w % 4 {
-        0 => (w / 16384 % 16 * 1024 + 1023) as u16,
-        1 => (w / 1024 % 256 * 64 + 63) as u16,
-        2 => (w / 64 % 4096 * 4 + 3) as u16,
-        _ => (w / 16 % 16384) as u16,
-    }
-}
-
-// The lowest numbers of all slots.
-pub fn lows(cam: &[u32; SLOTS]) -> [u16; SLOTS]
-    ensures { Ends low_of 32 cam.now result }
-{
-    let mut out = [0u16; SLOTS];
-    let mut i: usize = 0;
-    while i < SLOTS {
-        let w = cam[i];
-        out[i] = low_of(w);
-        i += 1;
-    }
-    out
-}
-
-// The highest numbers of all slots.
-pub fn highs(cam: &[u32; SLOTS]) -> [u16; SLOTS]
-    ensures { Ends high_of 32 cam.now result }
-{
-    let mut out = [0u16; SLOTS];
-    let mut i: usize = 0;
-    while i < SLOTS {
-        let w = cam[i];
-        out[i] = high_of(w);
-        i += 1;
-    }
-    out
-}
-
-// A slot's number where it has the page, else one that is none.
-fn seen(low: u16, high: u16, x: u16, i: u16) -> u16
-    ensures { result ≡ pick (in_span low high x) i 32 }
-{
-    if (low <= x) & (x <= high) {
-        return i;
-    }
-    32
-}
-
-fn least(a: u16, b: u16) -> u16
-    ensures { result ≡ pick (ltb a b) a b }
-{
-    if a < b {
-        return a;
-    }
-    b
-}
-
-// The lowest slot that has a page number.
-pub fn search<'a>(lows: &'a [u16; SLOTS], highs: &'a [u16; SLOTS], x: u16) -> Matched
+// The lowest slot whose span has a page number.
+pub fn search(lows: &[u16; SLOTS], highs: &[u16; SLOTS], x: u16) -> Option<usize>
     ensures { result ≡ sought lows.now highs.now x }
 {
-    let mut best: u16 = 32;
-    let mut i: u16 = 0;
-    while i < 32 {
-        let at = i as usize;
-        best = least(best, seen(lows[at], highs[at], x, i));
-        i += 1;
+    let mut best = SLOTS as u16;
+    for i in 0..SLOTS {
+        let span = Span {
+            low: lows[i],
+            high: highs[i],
+        };
+        let at = if span.has(x) { i as u16 } else { SLOTS as u16 };
+        best = best.min(at);
     }
-    if best < 32 {
-        return Matched::At(best as usize);
+    if best < SLOTS as u16 {
+        Some(best as usize)
+    } else {
+        None
     }
-    Matched::Nothing
 }
 
-// The lowest number that a slot matches, where it is as it was or no longer valid.
-fn low_kept(w: u32, low: u16) -> u16
-    ensures { result ≡ low_kept w low }
-{
-    if w / 4 % 2 == 0 {
-        return 16384;
-    }
-    low
-}
-
-// The highest.
-fn high_kept(w: u32, high: u16) -> u16
-    ensures { result ≡ high_kept w high }
-{
-    if w / 4 % 2 == 0 {
-        return 0;
-    }
-    high
-}
-
-// The lowest numbers of slots each of which is as it was or no longer valid.
-fn lows_kept<'a>(cam: &'a [u32; SLOTS], lows: [u16; SLOTS]) -> [u16; SLOTS]
-    ensures { EndsKept low_kept 32 cam.now lows result }
-{
-    let mut out = lows;
-    let mut i: usize = 0;
-    while i < SLOTS {
-        let w = cam[i];
-        let low = out[i];
-        out[i] = low_kept(w, low);
-        i += 1;
-    }
-    out
-}
-
-// The highest numbers.
-fn highs_kept<'a>(cam: &'a [u32; SLOTS], highs: [u16; SLOTS]) -> [u16; SLOTS]
-    ensures { EndsKept high_kept 32 cam.now highs result }
-{
-    let mut out = highs;
-    let mut i: usize = 0;
-    while i < SLOTS {
-        let w = cam[i];
-        let high = out[i];
-        out[i] = high_kept(w, high);
-        i += 1;
-    }
-    out
-}
-
-// The words in a slot; its number is below 32.
-pub fn store(
-    cam: &mut [u32; SLOTS],
-    ram: &mut [u32; SLOTS],
-    lows: &mut [u16; SLOTS],
-    highs: &mut [u16; SLOTS],
-    lock: u8,
-    victim: u8,
-    at: u8,
-    words: Words,
-)
-    ensures { Spanned cam.old lows.old highs.old → at < 32
-        → Stands (stored_at (bank_of cam.old ram.old lock victim) at words) (bank_of cam.new ram.new lock victim) lows.new highs.new }
-{
-    let i = at as usize % SLOTS;
-    cam[i] = words.cam;
-    ram[i] = words.ram;
-    lows[i] = low_of(words.cam);
-    highs[i] = high_of(words.cam);
-}
-
-// What a call puts into the slots: the victim after it.
-pub fn take(
-    cam: &mut [u32; SLOTS],
-    ram: &mut [u32; SLOTS],
-    lows: &mut [u16; SLOTS],
-    highs: &mut [u16; SLOTS],
-    lock: u8,
-    victim: u8,
-    fill: Fill,
-) -> u8
-    ensures { Spanned cam.old lows.old highs.old → lock < 32 → victim < 32
-        → Stands (entry_filled (bank_of cam.old ram.old lock victim) fill) (bank_of cam.new ram.new lock result) lows.new highs.new }
-{
-    match fill {
-        Fill::Nothing => {
-            return victim;
+impl Slots {
+    // The slots of a bank.
+    pub fn of(bank: Bank) -> Slots
+        ensures bank { result.bank ≡ bank }
+        ensures ends { IsSpanned result }
+    {
+        let mut lows = [0u16; SLOTS];
+        let mut highs = [0u16; SLOTS];
+        for i in 0..SLOTS {
+            let span = Span::of(bank.cam[i]);
+            lows[i] = span.low;
+            highs[i] = span.high;
         }
-        Fill::Slot(w) => {
-            let at = next_slot(victim, lock);
-            let i = at as usize % SLOTS;
-            cam[i] = w.cam;
-            ram[i] = w.ram;
-            lows[i] = low_of(w.cam);
-            highs[i] = high_of(w.cam);
-            return next_victim(at, lock);
+        Slots { bank, lows, highs }
+    }
+
+    // The lowest slot that matches an address, where the CAM words are in range.
+    pub fn find(&self, va: VirtualAddress) -> Option<usize>
+        ensures slot { (i : ℕ) → result ≡ Some i → i < 32 }
+        ensures lowest { IsSpanned self.now → cams_ok cam_limit self.now.bank.cam ≡ true → va.0 < limit → result ≡ looked_up self.now.bank.cam va }
+    {
+        search(&self.lows, &self.highs, (va.0 / 1024 % 16384) as u16)
+    }
+
+    // The words of a slot; its number is below 32.
+    pub fn words(&self, i: usize) -> Words
+        ensures { i < 32 → result ≡ slot_at self.now.bank i }
+    {
+        let at = i % SLOTS;
+        Words {
+            cam: self.bank.cam[at],
+            ram: self.bank.ram[at],
         }
     }
-}
 
-// A global flush.
-pub fn flush(cam: &mut [u32; SLOTS], lows: &mut [u16; SLOTS], highs: &mut [u16; SLOTS])
-    ensures { Spanned cam.old lows.old highs.old → Renewed (flushed_all cam.old) cam.new lows.new highs.new }
-{
-    *cam = lanes::flush_all(*cam);
-    *lows = lows_kept(cam, *lows);
-    *highs = highs_kept(cam, *highs);
-}
+    // The words in a slot; its number is below 32.
+    pub fn store(&mut self, at: u8, words: Words)
+        ensures bank { at < 32 → self.new.bank ≡ stored_at self.old.bank at words }
+        ensures ends { IsSpanned self.old → IsSpanned self.new }
+    {
+        let i = at as usize % SLOTS;
+        let span = Span::of(words.cam);
+        self.bank.cam[i] = words.cam;
+        self.bank.ram[i] = words.ram;
+        self.lows[i] = span.low;
+        self.highs[i] = span.high;
+    }
 
-// An entry flush at an address.
-pub fn flush_at(
-    cam: &mut [u32; SLOTS],
-    lows: &mut [u16; SLOTS],
-    highs: &mut [u16; SLOTS],
-    va: VirtualAddress,
-)
-    ensures { Spanned cam.old lows.old highs.old → Renewed (flushed_entry va cam.old) cam.new lows.new highs.new }
-{
-    *cam = lanes::flush_entry(*cam, va);
-    *lows = lows_kept(cam, *lows);
-    *highs = highs_kept(cam, *highs);
-}
+    // What a call puts into the slots.
+    pub fn take(&mut self, fill: Option<Words>)
+        ensures bank { self.old.bank.lock < 32 → self.old.bank.victim < 32 → self.new.bank ≡ entry_filled self.old.bank fill }
+        ensures ends { IsSpanned self.old → IsSpanned self.new }
+    {
+        if let Some(words) = fill {
+            let at = next_slot(self.bank.victim, self.bank.lock);
+            self.store(at, words);
+            self.bank.victim = next_victim(at, self.bank.lock);
+        }
+    }
 
-// Every slot empty.
-pub fn clear(
-    cam: &mut [u32; SLOTS],
-    ram: &mut [u32; SLOTS],
-    lows: &mut [u16; SLOTS],
-    highs: &mut [u16; SLOTS],
-)
-    ensures { Stands fresh_bank (bank_of cam.new ram.new 0 0) lows.new highs.new }
-{
-    *cam = [0u32; SLOTS];
-    *ram = [0u32; SLOTS];
-    *lows = [16384u16; SLOTS];
-    *highs = [0u16; SLOTS];
+    // The lock base and the victim set.
+    pub fn set_lock(&mut self, lock: u8, victim: u8)
+        ensures bank { self.new.bank ≡ locked_at self.old.bank lock victim }
+        ensures ends { IsSpanned self.old → IsSpanned self.new }
+    {
+        self.bank.lock = lock;
+        self.bank.victim = victim;
+    }
+
+    // The CAM lane after a flush, each word of which is as it was or no longer valid.
+    fn renew(&mut self, cam: [u32; SLOTS])
+        requires { Dropped self.old.bank.cam cam }
+        ensures bank { self.new.bank ≡ with_cams self.old.bank cam }
+        ensures ends { IsSpanned self.old → IsSpanned self.new }
+    {
+        self.bank.cam = cam;
+        for i in 0..SLOTS {
+            let span = Span {
+                low: self.lows[i],
+                high: self.highs[i],
+            };
+            let kept = span.kept(cam[i]);
+            self.lows[i] = kept.low;
+            self.highs[i] = kept.high;
+        }
+    }
+
+    // A global flush.
+    pub fn flush(&mut self)
+        ensures bank { self.new.bank ≡ bank_flushed self.old.bank }
+        ensures ends { IsSpanned self.old → IsSpanned self.new }
+    {
+        self.renew(lanes::flush_all(self.bank.cam));
+    }
+
+    // An entry flush at an address.
+    pub fn flush_at(&mut self, va: VirtualAddress)
+        ensures bank { self.new.bank ≡ bank_flushed_at self.old.bank va }
+        ensures ends { IsSpanned self.old → IsSpanned self.new }
+    {
+        self.renew(lanes::flush_entry(self.bank.cam, va));
+    }
+
+    // Every slot empty.
+    pub fn clear(&mut self)
+        ensures bank { self.new.bank ≡ fresh_bank }
+        ensures ends { IsSpanned self.new }
+    {
+        self.bank = Bank::fresh();
+        self.lows = [16384; SLOTS];
+        self.highs = [0; SLOTS];
+    }
 }

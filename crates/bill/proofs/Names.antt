@@ -1,5 +1,4 @@
 -- What the proofs of this crate are written with.
-pub use borrow.Author.Rules.{rules}
 pub use lib.Dec.{T, lit<, lit≤}
 pub use lib.Ieee.{down, emax, fin, inf, low, nan, prec, up}
 pub use lib.Ieee.Fits.{add-fits, down_pos, round_is}

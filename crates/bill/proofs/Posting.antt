@@ -1,5 +1,6 @@
 -- What a posting changes, and what it leaves alone. Assumes nothing.
-use Rattle.bill.specs.Names.{◌≡◌, Bool, List, [], ◌∷◌, ℕ, Float, binary64, Price, LastRow, row_of, word_price, Place, Source, Prices, Bill}
+use Rattle.std.proofs.Common.{Some}
+use Rattle.bill.specs.Names.{◌≡◌, Bool, List, [], ◌∷◌, ℕ, Float, binary64, Price, row_of, word_price, Place, Source, Prices, Bill}
 use Rattle.bill.proofs.Names.{refl, ap, ◌∙◌, place_posted, word_posted, words_posted, attempt_posted, fresh_bill}
 use mathlib.Core.List.{◌++◌}
 use lib.Ieee.{add}
@@ -15,7 +16,7 @@ module _ (p : Prices) (b : Bill) (s : Source) (k : ℕ) where
   abbrev with : Place → Bill
   with place = place_posted p b place (row_of s.at)
 
-  pub onchip_row : s.place ≡ Place.OnChip k → (word_posted p b s).onchip.last ≡ LastRow.At (row_of s.at)
+  pub onchip_row : s.place ≡ Place.OnChip k → (word_posted p b s).onchip.last ≡ Some (row_of s.at)
   unfolding place_posted
   onchip_row e = ap (λ (q : Place). (with q).onchip.last) e
 
@@ -23,7 +24,7 @@ module _ (p : Prices) (b : Bill) (s : Source) (k : ℕ) where
   unfolding place_posted
   onchip_total e = ap (λ (q : Place). (with q).total) e
 
-  pub external_row : s.place ≡ Place.External k → (word_posted p b s).external.last ≡ LastRow.At (row_of s.at)
+  pub external_row : s.place ≡ Place.External k → (word_posted p b s).external.last ≡ Some (row_of s.at)
   unfolding place_posted
   external_row e = ap (λ (q : Place). (with q).external.last) e
 

@@ -1,5 +1,5 @@
--- The walk bill (01, "Meters and the walk bill", and refusal 9). Its figures are binary64 values, and its operations those of
--- IEEE 754, in the order written here.
+-- The walk bill (01, "Meters and the walk bill", and refusal 9). Its figures are binary64 values, and its operations
+-- those of IEEE 754, in the order written here.
 use Rattle.std.specs.Prelude.{◌≡◌, ◌∷◌}
 use Rattle.bill.specs.Names.{ℕ, Bool, true, false, List, [], ◌and◌, sources, f0, prices_ok, row_of, word_price, side_read, fresh_side}
 use Rattle.bill.specs.Names.{binary64, Place, Source, Reads, Prices, Seen, Bill}

@@ -1,5 +1,5 @@
--- The bill's figures (01, "Meters and the walk bill"). They are binary64 values, and the operations those of IEEE 754, in the
--- order written here.
+-- The bill's figures (01, "Meters and the walk bill"). They are binary64 values, and the operations those of IEEE 754,
+-- in the order written here.
 use Rattle.bill.specs.Names.{Bool, true, false, f0, Float, binary64}
 use Rattle.std.specs.Float.Ieee.{of_bits, add, sub, mul}
 pub use Rattle.std.specs.Float.Ieee.Scale.{finite}

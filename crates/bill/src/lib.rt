@@ -39,47 +39,43 @@ impl Bill {
     }
 
     // Whether both figures are finite.
+    #[tactic(auto, using(crate::proofs::Finite::figures))]
     pub fn ok(self) -> bool
         ensures { result ≡ bill_ok self }
     {
-        figures::is_finite(self.total) & figures::is_finite(self.misses)
+        self.total.is_finite() && self.misses.is_finite()
     }
 
     // The bill after a word that was read, by the price of the memory that holds it.
+    #[tactic(auto, unfolding(crate::specs::Bill::place_posted))]
     pub fn post_word(self, source: Source, prices: Prices) -> Bill
         ensures { result ≡ word_posted prices self source }
     {
-        let at = source.at;
-        let place = source.place;
-        let row = prices::row_of(at);
-        match place {
-            Place::OnChip(_) => {
-                let side = self.onchip;
-                let price = prices.onchip;
-                let mut e = self;
-                e.total = self.total + prices::word_price(price, side, row);
-                e.onchip = side.read(row);
-                return e;
-            }
-            Place::External(_) => {
-                let side = self.external;
-                let price = prices.external;
-                let mut e = self;
-                e.total = self.total + prices::word_price(price, side, row);
-                e.external = side.read(row);
-                return e;
-            }
-            Place::Nowhere => return self,
+        let row = prices::row_of(source.at);
+        match source.place {
+            Place::OnChip(_) => Bill {
+                total: self.total + prices::word_price(prices.onchip, self.onchip, row),
+                onchip: self.onchip.read(row),
+                ..self
+            },
+            Place::External(_) => Bill {
+                total: self.total + prices::word_price(prices.external, self.external, row),
+                external: self.external.read(row),
+                ..self
+            },
+            Place::Nowhere => self,
         }
     }
 
     // The bill after an attempt that matched no slot, or one.
+    #[tactic(auto, unfolding(crate::specs::Bill::attempt_posted))]
     pub fn post_attempt(self, missed: bool) -> Bill
         ensures { result ≡ attempt_posted self missed }
     {
-        let mut e = self;
-        e.misses = figures::smooth(self.misses, missed);
-        e
+        Bill {
+            misses: figures::smooth(self.misses, missed),
+            ..self
+        }
     }
 
     // The bill after an attempt, by what it did with the slots.
@@ -87,9 +83,9 @@ impl Bill {
         ensures { result ≡ seen_posted self seen }
     {
         match seen {
-            Seen::Nothing => return self,
-            Seen::Match => return self.post_attempt(false),
-            Seen::NoMatch => return self.post_attempt(true),
+            Seen::Nothing => self,
+            Seen::Match => self.post_attempt(false),
+            Seen::NoMatch => self.post_attempt(true),
         }
     }
 }

@@ -1,5 +1,8 @@
 -- The first level of the tables, placed one megabyte after the other. Assumes nothing.
-use Rattle.builder.specs.Names.{◌≡◌, Bool, List, ℕ, ◌+◌, ◌*◌, ◌-◌, ◌/◌, ◌%◌, ◌^◌, ◌≤◌, ◌<◌, length, get_or, megabytes, Mapping, Held, Second}
+use Rattle.std.proofs.Common.{Option, Some}
+use Rattle.walk.specs.declared.Table.{Table}
+use Rattle.std.proofs.Common.{None}
+use Rattle.builder.specs.Names.{◌≡◌, Bool, List, ℕ, ◌+◌, ◌*◌, ◌-◌, ◌/◌, ◌%◌, ◌^◌, ◌≤◌, ◌<◌, length, get_or, megabytes, Mapping}
 use Rattle.builder.specs.Names.{table_of, table_size, table_end, table_start, image_length, table_by, Kinds, first_by, word_in, words_in}
 use Rattle.builder.proofs.Names.{refl, sym, ap, ap₂, ◌∙◌, subst, arith, ℕ_discrete, eq-eqb, ne_eqb, upper, low_bits, Kind, pick_yes, pick_no}
 use Rattle.builder.proofs.Names.{start_after, start-le, start_4, size_le, end_4, based, Level}
@@ -17,7 +20,7 @@ pub record Begun (seen : List Bool) (i e : ℕ) (firsts : List ℕ) : Type 0 whe
   pub even : e % 4 ≡ 0
   pub tables : (x : ℕ) → x < i → TableInside e (get_or firsts x 0)
   pub ends : (ms : List Mapping) → Kinds ms seen → e ≡ table_end megabytes ms i
-  pub begins : (ms : List Mapping) → Kinds ms seen → (x : ℕ) → x < i → get_or firsts x 0 ≡ first_by (table_of ms x) (table_start megabytes ms x) Held.Nobody
+  pub begins : (ms : List Mapping) → Kinds ms seen → (x : ℕ) → x < i → get_or firsts x 0 ≡ first_by (table_of ms x) (table_start megabytes ms x) None
 
 pub begun-none : (seen : List Bool) (firsts : List ℕ) → Begun seen 0 64 firsts
 unfolding table_end
@@ -31,10 +34,10 @@ begun-none seen firsts = record {
 }
 
 -- a table's word names a place from its beginning to its end
-inside_own : (t : Second) (s : ℕ) → s % 4 ≡ 0 → TableInside (s + table_size t) (first_by t s Held.Nobody)
-inside_own Second.Fine s h = record { fine = λ _. omega arith; coarse = λ e. absurd (omega arith) }
-inside_own Second.Coarse s h = record { fine = λ e. absurd (omega arith); coarse = λ _. omega arith }
-inside_own Second.Absent s h = record { fine = λ e. absurd (omega arith); coarse = λ e. absurd (omega arith) }
+inside_own : (t : Option Table) (s : ℕ) → s % 4 ≡ 0 → TableInside (s + table_size t) (first_by t s None)
+inside_own (Some Table.Fine) s h = record { fine = λ _. omega arith; coarse = λ e. absurd (omega arith) }
+inside_own (Some Table.Coarse) s h = record { fine = λ e. absurd (omega arith); coarse = λ _. omega arith }
+inside_own None s h = record { fine = λ e. absurd (omega arith); coarse = λ e. absurd (omega arith) }
 
 inside-more : (e f w : ℕ) → e ≤ f → TableInside e w → TableInside f w
 inside-more e f w h i = record { fine = λ q. omega (arith, i.fine q); coarse = λ q. omega (arith, i.coarse q) }
@@ -52,14 +55,14 @@ set_more P l i w lt p f x h = elim (ℕ_discrete x i) [
 ]
 
 module _ (seen : List Bool) (i e : ℕ) (firsts : List ℕ) (b : Begun seen i e firsts) (lt : i < megabytes) (room : length firsts ≡ megabytes) where
-  module _ (t : Second) (s w z : ℕ) (p : t ≡ table_by seen i) (q : s ≡ start_after t e) (v : w ≡ first_by t s Held.Nobody) (r : z ≡ table_size t) where
+  module _ (t : Option Table) (s w z : ℕ) (p : t ≡ table_by seen i) (q : s ≡ start_after t e) (v : w ≡ first_by t s None) (r : z ≡ table_size t) where
     pub begun_more : Begun seen (i + 1) (s + z) (set firsts i w)
     begun_more =
         let even : s % 4 ≡ 0 = ap (λ (x : ℕ). x % 4) q ∙ start_4 t e b.even in
         let ge = start-ge t e in
         let le = start-le t e in
         let own : TableInside (s + z) w =
-        subst (TableInside (s + z)) (sym v) (subst (λ (x : ℕ). TableInside (s + x) (first_by t s Held.Nobody)) (sym r) (inside_own t s even)) in
+        subst (TableInside (s + z)) (sym v) (subst (λ (x : ℕ). TableInside (s + x) (first_by t s None)) (sym r) (inside_own t s even)) in
         record {
           low = omega (arith, b.low);
           high = omega (arith, b.high, size_le t);
@@ -67,8 +70,8 @@ module _ (seen : List Bool) (i e : ℕ) (firsts : List ℕ) (b : Begun seen i e 
           tables = set_more (λ (x y : ℕ). TableInside (s + z) y) firsts i w (omega arith) own (λ x h. inside-more e (s + z) _ (omega arith) (b.tables x h));
           ends = λ ms k. turn_end megabytes ms i s z t (table ms k) (start ms k) r;
           begins = λ ms k.
-              set_more (λ (x y : ℕ). y ≡ first_by (table_of ms x) (table_start megabytes ms x) Held.Nobody) firsts i w (omega arith)
-              (v ∙ ap₂ (λ (u : Second) (x : ℕ). first_by u x Held.Nobody) (table ms k) (start ms k)) (b.begins ms k);
+              set_more (λ (x y : ℕ). y ≡ first_by (table_of ms x) (table_start megabytes ms x) None) firsts i w (omega arith)
+              (v ∙ ap₂ (λ (u : Option Table) (x : ℕ). first_by u x None) (table ms k) (start ms k)) (b.begins ms k);
         }
       where
         table : (ms : List Mapping) → Kinds ms seen → t ≡ table_of ms i
@@ -77,10 +80,10 @@ module _ (seen : List Bool) (i e : ℕ) (firsts : List ℕ) (b : Begun seen i e 
         start : (ms : List Mapping) → Kinds ms seen → s ≡ table_start megabytes ms i
         start ms k = turn_start megabytes ms i e s t (table ms k) (b.ends ms k) q
 
-  pub begun_skip : Second.Absent ≡ table_by seen i → Begun seen (i + 1) e (set firsts i 0)
+  pub begun_skip : None ≡ table_by seen i → Begun seen (i + 1) e (set firsts i 0)
   begun_skip p =
       subst (λ (x : ℕ). Begun seen (i + 1) x (set firsts i 0)) (let a : e + 0 ≡ e = omega arith in a)
-      (begun_more Second.Absent e 0 0 p refl refl refl)
+      (begun_more None e 0 0 p refl refl refl)
 
 pub placed : (seen : List Bool) (i e : ℕ) (firsts : List ℕ) → i ≡ megabytes → length firsts ≡ megabytes → Begun seen i e firsts → Placed seen e firsts
 unfolding image_length
@@ -91,41 +94,41 @@ placed seen i e firsts q room b = record {
 }
 
 -- what a word's two low bits say of a list's table
-module _ (t : Second) (s w : ℕ) (even : s % 4 ≡ 0) (e : w ≡ first_by t s Held.Nobody) where
-  pub names_fine : w % 4 ≡ 3 → (Second.Fine ≡ t) × (w - 3 ≡ s)
+module _ (t : Option Table) (s w : ℕ) (even : s % 4 ≡ 0) (e : w ≡ first_by t s None) where
+  pub names_fine : w % 4 ≡ 3 → (Some Table.Fine ≡ t) × (w - 3 ≡ s)
   names_fine h = by t e
     where
-      by : (u : Second) → w ≡ first_by u s Held.Nobody → (Second.Fine ≡ u) × (w - 3 ≡ s)
-      by Second.Fine q = (refl, omega arith)
-      by Second.Coarse q = absurd (omega arith)
-      by Second.Absent q = absurd (omega arith)
+      by : (u : Option Table) → w ≡ first_by u s None → (Some Table.Fine ≡ u) × (w - 3 ≡ s)
+      by (Some Table.Fine) q = (refl, omega arith)
+      by (Some Table.Coarse) q = absurd (omega arith)
+      by None q = absurd (omega arith)
 
-  pub names_coarse : w % 4 ≡ 1 → (Second.Coarse ≡ t) × (w - 1 ≡ s)
+  pub names_coarse : w % 4 ≡ 1 → (Some Table.Coarse ≡ t) × (w - 1 ≡ s)
   names_coarse h = by t e
     where
-      by : (u : Second) → w ≡ first_by u s Held.Nobody → (Second.Coarse ≡ u) × (w - 1 ≡ s)
-      by Second.Fine q = absurd (omega arith)
-      by Second.Coarse q = (refl, omega arith)
-      by Second.Absent q = absurd (omega arith)
+      by : (u : Option Table) → w ≡ first_by u s None → (Some Table.Coarse ≡ u) × (w - 1 ≡ s)
+      by (Some Table.Fine) q = absurd (omega arith)
+      by (Some Table.Coarse) q = (refl, omega arith)
+      by None q = absurd (omega arith)
 
-  pub names_none : (w % 4 ≡ 3 → ⊥) → (w % 4 ≡ 1 → ⊥) → Second.Absent ≡ t
+  pub names_none : (w % 4 ≡ 3 → ⊥) → (w % 4 ≡ 1 → ⊥) → None ≡ t
   names_none f g = by t e
     where
-      by : (u : Second) → w ≡ first_by u s Held.Nobody → Second.Absent ≡ u
-      by Second.Fine q = absurd (f (omega arith))
-      by Second.Coarse q = absurd (g (omega arith))
-      by Second.Absent q = refl
+      by : (u : Option Table) → w ≡ first_by u s None → None ≡ u
+      by (Some Table.Fine) q = absurd (f (omega arith))
+      by (Some Table.Coarse) q = absurd (g (omega arith))
+      by None q = refl
 
 pub start_even : (ms : List Mapping) (i : ℕ) → table_start megabytes ms i % 4 ≡ 0
 unfolding table_start
 start_even ms i = start_4 (table_of ms i) (table_end megabytes ms i) (end_4 megabytes ms i)
 
 -- a word for a base
-pub based_by : (base s : ℕ) (t : Second) → based base (first_by t s Held.Nobody) ≡ first_by t (base + s) Held.Nobody
+pub based_by : (base s : ℕ) (t : Option Table) → based base (first_by t s None) ≡ first_by t (base + s) None
 unfolding based
-based_by base s Second.Fine = pick_no _ _ _ (ne_eqb (s + 3) 0 (λ e. omega arith)) ∙ (let z : base + (s + 3) ≡ base + s + 3 = omega arith in z)
-based_by base s Second.Coarse = pick_no _ _ _ (ne_eqb (s + 1) 0 (λ e. omega arith)) ∙ (let z : base + (s + 1) ≡ base + s + 1 = omega arith in z)
-based_by base s Second.Absent = pick_yes _ _ _ (eq-eqb 0 0 refl)
+based_by base s (Some Table.Fine) = pick_no _ _ _ (ne_eqb (s + 3) 0 (λ e. omega arith)) ∙ (let z : base + (s + 3) ≡ base + s + 3 = omega arith in z)
+based_by base s (Some Table.Coarse) = pick_no _ _ _ (ne_eqb (s + 1) 0 (λ e. omega arith)) ∙ (let z : base + (s + 1) ≡ base + s + 1 = omega arith in z)
+based_by base s None = pick_yes _ _ _ (eq-eqb 0 0 refl)
 
 -- the words of a mapping lie in its megabyte's table, whatever its kind
 words-fine : (k : Kind) (x : ℕ) → 4 * (upper (low_bits k) (x % 2 ^ 20) / 2 ^ 10 + 2 ^ low_bits k / 2 ^ 10) ≤ 4096
@@ -146,14 +149,14 @@ module _ (n : ℕ) (firsts : List ℕ) (l : Level n firsts) (m : Mapping) (lt : 
   inside : TableInside n f
   inside = subst (TableInside n) (sym e) (l.tables (m.at.0 / 2 ^ 20) lt)
 
-  pub fine-room : f % 4 ≡ 3 → f - 3 + 4 * (word_in Second.Fine m + words_in Second.Fine (m.at.0 / 2 ^ 20) m) ≤ n
+  pub fine-room : f % 4 ≡ 3 → f - 3 + 4 * (word_in (Some Table.Fine) m + words_in (Some Table.Fine) (m.at.0 / 2 ^ 20) m) ≤ n
   fine-room h =
-      let w = own_words Second.Fine m in
+      let w = own_words Table.Fine m in
       omega (arith, inside.fine h, words-fine m.kind m.at.0)
 
-  pub coarse-room : f % 4 ≡ 1 → f - 1 + 4 * (word_in Second.Coarse m + words_in Second.Coarse (m.at.0 / 2 ^ 20) m) ≤ n
+  pub coarse-room : f % 4 ≡ 1 → f - 1 + 4 * (word_in (Some Table.Coarse) m + words_in (Some Table.Coarse) (m.at.0 / 2 ^ 20) m) ≤ n
   coarse-room h =
-      let w = own_words Second.Coarse m in
+      let w = own_words Table.Coarse m in
       omega (arith, inside.coarse h, words-coarse m.kind m.at.0)
 
 -- one word more of a list, that are those of f

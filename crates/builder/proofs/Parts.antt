@@ -1,6 +1,9 @@
 -- The image with one mapping more written. Assumes nothing.
+use Rattle.std.proofs.Common.{None}
+use Rattle.walk.specs.declared.Table.{Table}
+use Rattle.std.proofs.Common.{Option, Some}
 use Rattle.builder.specs.Names.{◌≡◌, Bool, List, [], ◌++◌, ℕ, zero, suc, ◌+◌, ◌*◌, ◌-◌, ◌/◌, ◌%◌, ◌^◌, ◌≤◌, ◌<◌, eqb, length, get_or, drop, pick}
-use Rattle.builder.specs.Names.{virtual, megabytes, Mapping, Held, holder, Second, table_of, table_size, table_end, table_start, image_length}
+use Rattle.builder.specs.Names.{virtual, megabytes, Mapping, holder, table_of, table_size, table_end, table_start, image_length}
 use Rattle.builder.specs.Names.{first_by, page_word, second_word, word_in, words_in, image_word, spliced}
 use Rattle.builder.proofs.Names.{refl, sym, ap, ap₂, ◌∙◌, subst, true, false, arith, ℕ_discrete, eq-eqb, ne_eqb, lt-ltb, le-ltb, low_bits}
 use Rattle.builder.proofs.Names.{pick_yes, pick_no, and_yes, and_no, and_left, and_right, low_bits-le, end-first, end_4, start_4, first_word}
@@ -33,21 +36,21 @@ pick-both true x = pick_yes true x x refl
 pick-both false x = pick_no false x x refl
 
 -- a word of a table lies below the megabyte's end, and a region's words inside the table
-short_in : (t : Second) (x : ℕ) → 4 * x < table_size t → x * 2 ^ step_bits t < 2 ^ 20
-short_in Second.Fine x h = omega arith
-short_in Second.Coarse x h = omega arith
-short_in Second.Absent x h = absurd (omega arith)
+short_in : (t : Option Table) (x : ℕ) → 4 * x < table_size t → x * 2 ^ step_bits t < 2 ^ 20
+short_in (Some Table.Fine) x h = omega arith
+short_in (Some Table.Coarse) x h = omega arith
+short_in None x h = absurd (omega arith)
 
-ends_in : (t : Second) (x : ℕ) → (table_size t ≡ 0 → ⊥) → x * 2 ^ step_bits t ≤ 2 ^ 20 → 4 * x ≤ table_size t
-ends_in Second.Fine x z h = omega arith
-ends_in Second.Coarse x z h = omega arith
-ends_in Second.Absent x z h = absurd (z refl)
+ends_in : (t : Option Table) (x : ℕ) → (table_size t ≡ 0 → ⊥) → x * 2 ^ step_bits t ≤ 2 ^ 20 → 4 * x ≤ table_size t
+ends_in (Some Table.Fine) x z h = omega arith
+ends_in (Some Table.Coarse) x z h = omega arith
+ends_in None x z h = absurd (z refl)
 
 -- what the first-level word of a megabyte says where the holder does not matter
-first-level : (t : Second) (at : ℕ) (h k : Held) → (t ≡ Second.Absent → h ≡ k) → first_by t at h ≡ first_by t at k
-first-level Second.Fine at h k f = refl
-first-level Second.Coarse at h k f = refl
-first-level Second.Absent at h k f = ap section_word (f refl)
+first-level : (t : Option Table) (at : ℕ) (h k : Option Mapping) → (t ≡ None → h ≡ k) → first_by t at h ≡ first_by t at k
+first-level (Some Table.Fine) at h k f = refl
+first-level (Some Table.Coarse) at h k f = refl
+first-level None at h k f = ap section_word (f refl)
 
 off_mega : (m : Mapping) (k : ℕ) → (m.at.0 / 2 ^ 20 ≡ k → ⊥) → holds m (virtual (k * 2 ^ 20)) ≡ false
 unfolding holds
@@ -61,12 +64,12 @@ on_mega m k e h =
     let b : low_bits m.kind ≡ 20 = omega (arith, low_bits-le m.kind) in
     subst (λ (n : ℕ). eqb (k * 2 ^ 20 / 2 ^ n) (m.at.0 / 2 ^ n) ≡ true) (sym b) (eq-eqb _ _ (let z : k * 2 ^ 20 / 2 ^ 20 ≡ m.at.0 / 2 ^ 20 = omega arith in z))
 
-no_words : (t : Second) (i : ℕ) (m : Mapping) → (m.at.0 / 2 ^ 20 ≡ i → ⊥) → words_in t i m ≡ 0
+no_words : (t : Option Table) (i : ℕ) (m : Mapping) → (m.at.0 / 2 ^ 20 ≡ i → ⊥) → words_in t i m ≡ 0
 unfolding words_in
 no_words t i m ne = pick_no _ _ _ (ne_eqb _ _ ne)
 
 -- the table of no mappings is zero
-second_none : (t : Second) (mb j : ℕ) → second_word [] t mb j ≡ 0
+second_none : (t : Option Table) (mb j : ℕ) → second_word [] t mb j ≡ 0
 unfolding second_word holder
 second_none t mb j = refl
 
@@ -120,7 +123,7 @@ module _ (n : ℕ) (all : List Mapping) where
 -- one mapping more
 module _ (n : ℕ) (all ms : List Mapping) (m : Mapping) (base : ℕ) (fits : (i : ℕ) → Fit (step_bits (table_of all i)) i m) where
   -- a word that is none of its words
-  pub part_same : (k : ℕ) → (k < n → table_of all k ≡ Second.Absent → holds m (virtual (k * 2 ^ 20)) ≡ false)
+  pub part_same : (k : ℕ) → (k < n → table_of all k ≡ None → holds m (virtual (k * 2 ^ 20)) ≡ false)
       → ((i : ℕ) → i < n → table_start n all i ≤ 4 * k → 4 * k < table_end n all (suc i)
       → (word_in (table_of all i) m ≤ (4 * k - table_start n all i) / 4) × ((4 * k - table_start n all i) / 4 < word_in (table_of all i) m + words_in (table_of all i) i m) → ⊥)
       → part_word n all ms base k ≡ part_word n all (m ∷ ms) base k
@@ -139,15 +142,15 @@ module _ (n : ℕ) (all ms : List Mapping) (m : Mapping) (base : ℕ) (fits : (i
 
   module _ (mb : ℕ) (mb-lt : mb < n) (here : m.at.0 / 2 ^ 20 ≡ mb) where
     -- a megabyte with no table: its first-level word
-    pub part_section : table_of all mb ≡ Second.Absent → (k : ℕ) → k ≡ mb → section_word (Held.By m) ≡ part_word n all (m ∷ ms) base k
+    pub part_section : table_of all mb ≡ None → (k : ℕ) → k ≡ mb → section_word (Some m) ≡ part_word n all (m ∷ ms) base k
     unfolding part_word holder
     part_section t k e =
         sym
         (pick_yes _ _ _ (lt-ltb k n (omega arith))
-        ∙ ap₂ (λ (u : Second) (x : ℕ). first_by u (base + table_start n all k) (pick (holds m (virtual (x * 2 ^ 20))) (Held.By m) (holder ms (virtual (x * 2 ^ 20))))) (ap (table_of all) e ∙ t) e
-        ∙ ap section_word (pick_yes _ _ _ (on_mega m mb here (subst (λ (u : Second). step_bits u ≤ low_bits m.kind) t (fits mb here)))))
+        ∙ ap₂ (λ (u : Option Table) (x : ℕ). first_by u (base + table_start n all k) (pick (holds m (virtual (x * 2 ^ 20))) (Some m) (holder ms (virtual (x * 2 ^ 20))))) (ap (table_of all) e ∙ t) e
+        ∙ ap section_word (pick_yes _ _ _ (on_mega m mb here (subst (λ (u : Option Table). step_bits u ≤ low_bits m.kind) t (fits mb here)))))
 
-    pub part_other : table_of all mb ≡ Second.Absent → (k : ℕ) → (k ≡ mb → ⊥) → part_word n all ms base k ≡ part_word n all (m ∷ ms) base k
+    pub part_other : table_of all mb ≡ None → (k : ℕ) → (k ≡ mb → ⊥) → part_word n all ms base k ≡ part_word n all (m ∷ ms) base k
     part_other t k ne =
         part_same k (λ l _. off_mega m k (λ e. ne (sym e ∙ here)))
         (λ i l lo hi p. elim (ℕ_discrete i mb) [
@@ -159,7 +162,7 @@ module _ (n : ℕ) (all ms : List Mapping) (m : Mapping) (base : ℕ) (fits : (i
 
     -- a megabyte with a table: the words of the mapping's region, from word x on
     module _ (some : table_size (table_of all mb) ≡ 0 → ⊥) where
-      abbrev t : Second
+      abbrev t : Option Table
       t = table_of all mb
 
       abbrev x : ℕ
@@ -172,7 +175,7 @@ module _ (n : ℕ) (all ms : List Mapping) (m : Mapping) (base : ℕ) (fits : (i
       inside : 4 * (word_in t m + words_in t mb m) ≤ table_size t
       inside = ends_in t (word_in t m + words_in t mb m) some (held-end t mb 0 m (fits mb) (omega arith))
 
-      pub part_over : (j : ℕ) → x ≤ j → j < x + words_in t mb m → page_word (Held.By m) ≡ part_word n all (m ∷ ms) base j
+      pub part_over : (j : ℕ) → x ≤ j → j < x + words_in t mb m → page_word (Some m) ≡ part_word n all (m ∷ ms) base j
       unfolding part_word
       part_over j lo hi =
           let a = aligned in
@@ -215,7 +218,7 @@ module _ (n : ℕ) (all ms : List Mapping) (m : Mapping) (base : ℕ) (fits : (i
     unfolding image_length
     image-ends = (end-first n all n, end-le n all (suc mb) n (omega arith), end_4 n all n)
 
-    pub turned_section : (w : ℕ) → w ≡ section_word (Held.By m) → table_of all mb ≡ Second.Absent
+    pub turned_section : (w : ℕ) → w ≡ section_word (Some m) → table_of all mb ≡ None
         → spliced (spliced l 0 (part_word n all ms base) words) (4 * mb) (λ (_ : ℕ). w) 1 ≡ spliced l 0 (part_word n all (m ∷ ms) base) words
     turned_section w e t =
         let p = image-ends in
@@ -227,7 +230,7 @@ module _ (n : ℕ) (all ms : List Mapping) (m : Mapping) (base : ℕ) (fits : (i
 
     pub turned_page : (table_size (table_of all mb) ≡ 0 → ⊥)
         → spliced (spliced l 0 (part_word n all ms base) words) (table_start n all mb + 4 * word_in (table_of all mb) m)
-        (λ (_ : ℕ). page_word (Held.By m)) (words_in (table_of all mb) mb m)
+        (λ (_ : ℕ). page_word (Some m)) (words_in (table_of all mb) mb m)
         ≡ spliced l 0 (part_word n all (m ∷ ms) base) words
     turned_page some =
         let p = image-ends in
@@ -236,7 +239,7 @@ module _ (n : ℕ) (all ms : List Mapping) (m : Mapping) (base : ℕ) (fits : (i
         let start : ℕ = table_start n all mb / 4 + word_in (table_of all mb) m in
         let z : table_start n all mb + 4 * word_in (table_of all mb) m ≡ 0 + 4 * (table_start n all mb / 4 + word_in (table_of all mb) m) = omega arith in
         ap (λ (b : ℕ). spliced (spliced l 0 (part_word n all ms base) words) b
-        (λ (_ : ℕ). page_word (Held.By m)) (words_in (table_of all mb) mb m)) z
+        (λ (_ : ℕ). page_word (Some m)) (words_in (table_of all mb) mb m)) z
         ∙ spliced_twice l 0 words (table_start n all mb / 4 + word_in (table_of all mb) m) (words_in (table_of all mb) mb m) words (part_word n all ms base) _ (part_word n all (m ∷ ms) base)
         (omega arith) (omega arith) (omega (arith, end_next n all mb))
         (λ j c d. part_over n all ms m base fits mb mb-lt here some j c d)
@@ -258,13 +261,13 @@ module _ (ms : List Mapping) (j : ℕ) (m : Mapping) (q : m ≡ get_or ms j no_m
   pub mapping_past : megabytes ≤ m.at.0 / 2 ^ 20 → Turned ms j o o
   mapping_past h base l len e = done base l o (e ∙ turned_past megabytes ms (drop (j + 1) ms) m base fits_all l (omega arith) h)
 
-  module _ (mb : ℕ) (mb-lt : mb < megabytes) (here : m.at.0 / 2 ^ 20 ≡ mb) (t : Second) (table : t ≡ table_of ms mb) where
-    no_table : (u : Second) → table_size u ≡ 0 → u ≡ Second.Absent
-    no_table Second.Fine e = absurd (omega arith)
-    no_table Second.Coarse e = absurd (omega arith)
-    no_table Second.Absent e = refl
+  module _ (mb : ℕ) (mb-lt : mb < megabytes) (here : m.at.0 / 2 ^ 20 ≡ mb) (t : Option Table) (table : t ≡ table_of ms mb) where
+    no_table : (u : Option Table) → table_size u ≡ 0 → u ≡ None
+    no_table (Some Table.Fine) e = absurd (omega arith)
+    no_table (Some Table.Coarse) e = absurd (omega arith)
+    no_table None e = refl
 
-    pub mapping_section : (w : ℕ) (after : List ℕ) → w ≡ section_word (Held.By m) → table_size t ≡ 0 → after ≡ spliced o (4 * mb) (λ (_ : ℕ). w) 1 → Turned ms j o after
+    pub mapping_section : (w : ℕ) (after : List ℕ) → w ≡ section_word (Some m) → table_size t ≡ 0 → after ≡ spliced o (4 * mb) (λ (_ : ℕ). w) 1 → Turned ms j o after
     mapping_section w after e z f base l len g =
         done base l after
         (f
@@ -272,13 +275,13 @@ module _ (ms : List Mapping) (j : ℕ) (m : Mapping) (q : m ≡ get_or ms j no_m
         ∙ turned_section megabytes ms (drop (j + 1) ms) m base fits_all l (omega arith) mb mb-lt here w e (sym table ∙ no_table t z))
 
     pub mapping-page : (s : ℕ) (after : List ℕ) → s ≡ table_start megabytes ms mb → (table_size t ≡ 0 → ⊥)
-        → after ≡ spliced o (s + 4 * word_in t m) (λ (_ : ℕ). page_word (Held.By m)) (words_in t mb m) → Turned ms j o after
+        → after ≡ spliced o (s + 4 * word_in t m) (λ (_ : ℕ). page_word (Some m)) (words_in t mb m) → Turned ms j o after
     mapping-page s after b some f base l len g =
         done base l after
         (f
-        ∙ ap₂ (λ (d : List ℕ) (a : ℕ). spliced d (a + 4 * word_in t m) (λ (_ : ℕ). page_word (Held.By m)) (words_in t mb m)) g b
-        ∙ ap (λ (u : Second). spliced (spliced l 0 (part_word megabytes ms (drop (j + 1) ms) base) (image_length megabytes ms / 4)) (table_start megabytes ms mb + 4 * word_in u m)
-        (λ (_ : ℕ). page_word (Held.By m)) (words_in u mb m)) table
+        ∙ ap₂ (λ (d : List ℕ) (a : ℕ). spliced d (a + 4 * word_in t m) (λ (_ : ℕ). page_word (Some m)) (words_in t mb m)) g b
+        ∙ ap (λ (u : Option Table). spliced (spliced l 0 (part_word megabytes ms (drop (j + 1) ms) base) (image_length megabytes ms / 4)) (table_start megabytes ms mb + 4 * word_in u m)
+        (λ (_ : ℕ). page_word (Some m)) (words_in u mb m)) table
         ∙ turned_page megabytes ms (drop (j + 1) ms) m base fits_all l (omega arith) mb mb-lt here (λ z. some (ap table_size table ∙ z)))
 
 -- the words before any mapping is written

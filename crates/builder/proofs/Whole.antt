@@ -1,7 +1,9 @@
 -- The whole image, left in a memory. Assumes nothing.
 use Rattle.builder.specs.Names.{◌≡◌, List, ◌++◌, ℕ, ◌+◌, ◌*◌, ◌/◌, ◌%◌, ◌≤◌, ◌<◌, length, drop, Mapping, megabytes, table_end, image_length}
 use Rattle.builder.specs.Names.{image_word, spliced}
-use Rattle.builder.proofs.Names.{ap, ◌∙◌, arith, lt-ltb, le-ltb, pick_yes, pick_no, image, written, end_4, end-first}
+use Rattle.std.proofs.Common.{Some, None}
+use Rattle.builder.specs.Image.{length_in}
+use Rattle.builder.proofs.Names.{sym, ap, ◌∙◌, arith, lt-ltb, le-ltb, pick_yes, pick_no, image, written, end_4, end-first}
 use Rattle.wire.proofs.Splices.{bytes-length}
 
 -- the words of the image, from the front of a memory on, are the image
@@ -29,3 +31,10 @@ written_short ms base l h = pick_yes _ _ _ (lt-ltb _ _ h)
 pub written-image : (ms : List Mapping) (base : ℕ) (l : List ℕ) → image_length megabytes ms ≤ length l → written ms base l ≡ image megabytes ms base ++ drop (image_length megabytes ms) l
 unfolding written
 written-image ms base l h = pick_no _ _ _ (le-ltb _ _ h)
+
+-- its length, in a memory that is too short for it and in one that is not
+pub short-in : (ms : List Mapping) (room : ℕ) → room < image_length megabytes ms → None ≡ length_in ms room
+short-in ms room h = sym (pick_yes _ _ _ (lt-ltb _ _ h))
+
+pub fits-in : (ms : List Mapping) (room n : ℕ) → n ≡ image_length megabytes ms → image_length megabytes ms ≤ room → Some n ≡ length_in ms room
+fits-in ms room n e h = ap Some e ∙ sym (pick_no _ _ _ (le-ltb _ _ h))

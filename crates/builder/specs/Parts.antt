@@ -1,4 +1,5 @@
--- The image of a list of which only some mappings are written yet: the places are those of the whole list (01, "The builder").
+-- The image of a list of which only some mappings are written yet: the places are those of the whole list (01, "The
+-- builder").
 use Rattle.std.specs.Prelude.{◌+◌, ◌-◌, ◌*◌, ◌/◌, ◌^◌, ◌≡◌}
 use Rattle.builder.specs.Names.{ℕ, zero, suc, List, [], ltb, leb, length, drop, pick, ◌and◌, virtual, megabytes}
 use Rattle.builder.specs.Names.{Mapping, holder, table_of, table_end, table_start, image_length, first_by, second_word, spliced}

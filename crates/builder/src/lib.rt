@@ -4,50 +4,47 @@ mod image;
 mod places;
 
 ghost use Rattle.std.specs.Prelude.{◌≡◌};
-ghost use Rattle.builder.specs.Build.{room_ok, outcome, build_of};
+ghost use Rattle.builder.specs.Build.{refusal_of, room_ok, outcome, build_of};
 
 use page::PhysicalAddress;
-use records::Checked;
+use records::BadList;
+use records::lists::{self, Notes};
 
-// What the builder answers: the image's length, or a refusal with its record's index or the count of the records.
+// Why no tables are built: a refusal with its record's index or the count of the records.
 #[derive(Clone, Copy)]
-pub enum Built {
-    Length(usize),
+pub enum BuildError {
     BadMemory,
     BadRecord(usize),
     Overlap(usize),
     TooLong(usize),
 }
 
+impl From<BadList> for BuildError {
+    ghost from_gives = { λ b e. e ≡ refusal_of b };
+
+    fn from(b: BadList) -> BuildError {
+        match b {
+            BadList::BadRecord(i) => BuildError::BadRecord(i),
+            BadList::Overlap(i) => BuildError::Overlap(i),
+        }
+    }
+}
+
 // Whether a memory may be lent to the builder: false where refusal 4 holds.
 fn room_ok(base: PhysicalAddress, room: usize) -> bool
     ensures { result ≡ room_ok base.0 room }
 {
-    if base.0 % 4096 != 0 {
-        return false;
-    }
-    memory::memory_ok(base, room)
+    base.0 % 4096 == 0 && memory::memory_ok(base, room)
 }
 
 // The tables of a list, for a memory lent at a base.
-pub fn build(records: &[u8], base: PhysicalAddress, memory: &mut [u8]) -> Built
+pub fn build(records: &[u8], base: PhysicalAddress, memory: &mut [u8]) -> Result<usize, BuildError>
     ensures { outcome result memory.new ≡ build_of records.now base.0 memory.old }
 {
-    let room = memory.len();
-    if !room_ok(base, room) {
-        return Built::BadMemory;
+    if !room_ok(base, memory.len()) {
+        return Err(BuildError::BadMemory);
     }
-    let mut seen: [bool; 64] = [false; 64];
-    let found = records::lists::check(records, &mut seen);
-    match found {
-        Checked::BadRecord(i) => Built::BadRecord(i),
-        Checked::Overlap(i) => Built::Overlap(i),
-        Checked::Fine => {
-            let len = image::write(records, &seen, base.0, memory);
-            if room < len {
-                return Built::TooLong(records::count(records));
-            }
-            Built::Length(len)
-        }
-    }
+    let mut seen = Notes([false; 64]);
+    lists::check(records, &mut seen)?;
+    image::write(records, &seen, base.0, memory).ok_or(BuildError::TooLong(records::count(records)))
 }

@@ -1,68 +1,49 @@
 // Where the tables of the noted kinds lie.
 ghost use Rattle.std.specs.Prelude.{◌≡◌, ◌<◌, ◌≤◌};
-ghost use Rattle.builder.specs.Names.{length, megabytes, Held, has_table, table_by, first_by};
+ghost use Rattle.builder.specs.Names.{megabytes, table_by, first_by};
 ghost use Rattle.builder.specs.Places.{Placed};
 
-use page::MEGABYTES;
-use tables::Second;
-
-// Whether a megabyte has a table, by the notes.
-fn has_table(seen: &[bool; 64], mb: u32) -> bool
-    requires { mb < megabytes }
-    ensures { result ≡ has_table seen.now mb }
-{
-    let i = mb as usize;
-    seen[16 + i] | seen[32 + i] | seen[48 + i]
-}
+use page::{Kind, MEGABYTES};
+use records::lists::Notes;
+use walk::Table;
 
 // The table of a megabyte, by the notes.
-fn table_by(seen: &[bool; 64], mb: u32) -> Second
+fn table_by(seen: &Notes, mb: u32) -> Option<Table>
     requires { mb < megabytes }
-    ensures { result ≡ table_by seen.now mb }
+    ensures { result ≡ table_by seen.now.0 mb }
 {
-    let i = mb as usize;
-    if seen[48 + i] {
-        return Second::Fine;
+    if seen.has(Kind::Tiny, mb) {
+        Some(Table::Fine)
+    } else if seen.has(Kind::Large, mb) || seen.has(Kind::Small, mb) {
+        Some(Table::Coarse)
+    } else {
+        None
     }
-    if seen[16 + i] {
-        return Second::Coarse;
-    }
-    if seen[32 + i] {
-        return Second::Coarse;
-    }
-    Second::Absent
 }
 
 // The first-level word of a table that begins at an offset, for a base of 0: zero where there is none.
-fn table_word(t: Second, start: u32) -> u32
+fn table_word(t: Option<Table>, start: u32) -> u32
     requires { start ≤ 1048576 }
-    ensures { result ≡ first_by t start Held.Nobody }
+    ensures { result ≡ first_by t start None }
 {
     match t {
-        Second::Fine => start + 3,
-        Second::Coarse => start + 1,
-        Second::Absent => 0,
+        Some(Table::Fine) => start + 3,
+        Some(Table::Coarse) => start + 1,
+        None => 0,
     }
 }
 
 // The first-level words of the tables, for a base of 0, and where the last one ends.
-pub(crate) fn place(seen: &[bool; 64], firsts: &mut [u32]) -> u32
-    requires { length firsts.old ≡ 16 }
-    ensures { Placed seen.now result firsts.new }
+pub(crate) fn place(seen: &Notes) -> ([u32; 16], u32)
+    ensures { Placed seen.now.0 result.1 result.0 }
 {
-    let mut e = 4 * MEGABYTES;
-    let mut i = 0;
-    while i < MEGABYTES {
-        if !has_table(seen, i) {
-            firsts[i as usize] = 0;
-            i += 1;
-            continue;
-        }
+    let mut firsts = [0; 16];
+    let mut end = 4 * MEGABYTES;
+    for i in 0..MEGABYTES {
         let t = table_by(seen, i);
-        let s = tables::start_after(t, e) as u32;
-        firsts[i as usize] = table_word(t, s);
-        e = s + tables::table_size(t);
-        i += 1;
+        let start = tables::start_after(t, end) as u32;
+        firsts[i as usize] = table_word(t, start);
+        end = start + tables::table_size(t);
     }
-    e
+    (firsts, end)
 }

@@ -9,3 +9,4 @@ unfoldable pub use Rattle.calls.specs.Records.{all_good, call_at, call_of, calls
 pub use Rattle.calls.specs.Records.{good_calls, is_good}
 pub use Rattle.page.proofs.Picks.{and_no, and_right, and_yes, pick_no, pick_yes}
 pub use Rattle.page.specs.Ground.{◌-◌, ◌<◌}
+pub use Rattle.std.proofs.lemmas.Bool.Decides.{nat_tests}

@@ -1,5 +1,5 @@
 -- Each form of a call, from the fields of a record (02, P1); what a form does not use is zero.
-use Rattle.calls.specs.Names.{ℕ, eqb, ltb, pick, ◌and◌, virtual, Access, Call}
+use Rattle.calls.specs.Names.{ℕ, eqb, ltb, pick, ◌and◌, virtual, Access, Call, Option, Some, None}
 
 -- a register's values are below this
 abbrev pub value_limit : ℕ
@@ -10,17 +10,17 @@ unfoldable pub access_of : ℕ → Access
 access_of x = pick (eqb x 0) Access.Read Access.Write
 
 -- each kind of call, of the second byte, the address and the value
-unfoldable pub write_by : ℕ → ℕ → ℕ → Call
-write_by x a v = pick (eqb a 0 and ltb v value_limit) (Call.Write x v) Call.Bad
+unfoldable pub write_by : ℕ → ℕ → ℕ → Option Call
+write_by x a v = pick (eqb a 0 and ltb v value_limit) (Some (Call.Write x v)) None
 
-unfoldable pub read_by : ℕ → ℕ → ℕ → Call
-read_by x a v = pick (eqb a 0 and eqb v 0) (Call.Read x) Call.Bad
+unfoldable pub read_by : ℕ → ℕ → ℕ → Option Call
+read_by x a v = pick (eqb a 0 and eqb v 0) (Some (Call.Read x)) None
 
-unfoldable pub request_by : ℕ → ℕ → ℕ → Call
-request_by x a v = pick (ltb x 2 and eqb v 0) (Call.Request (virtual a) (access_of x)) Call.Bad
+unfoldable pub request_by : ℕ → ℕ → ℕ → Option Call
+request_by x a v = pick (ltb x 2 and eqb v 0) (Some (Call.Request (virtual a) (access_of x))) None
 
-unfoldable pub drop_by : ℕ → ℕ → ℕ → Call
-drop_by x a v = pick (eqb x 0 and eqb a 0 and eqb v 0) Call.Drop Call.Bad
+unfoldable pub drop_by : ℕ → ℕ → ℕ → Option Call
+drop_by x a v = pick (eqb x 0 and eqb a 0 and eqb v 0) (Some Call.Drop) None
 
-unfoldable pub report_by : ℕ → ℕ → ℕ → Call
-report_by x a v = pick (eqb x 0 and eqb v 0) (Call.Shift (virtual a)) Call.Bad
+unfoldable pub report_by : ℕ → ℕ → ℕ → Option Call
+report_by x a v = pick (eqb x 0 and eqb v 0) (Some (Call.Shift (virtual a))) None

@@ -11,85 +11,63 @@ use page::{Access, VirtualAddress};
 const VALUES: u32 = 65536;
 
 // The access that a byte says.
+#[tactic(auto, using(page::proofs::Picks::tests), unfolding(crate::specs::Forms::access_of))]
 pub fn access_of(byte: u8) -> Access
     ensures { result ≡ access_of byte }
 {
-    if byte == 0 {
-        return Access::Read;
+    match byte {
+        0 => Access::Read,
+        _ => Access::Write,
     }
-    Access::Write
 }
 
 // A register write: an offset and a value.
-pub(crate) fn write_by(byte: u8, address: u32, value: u32) -> Call
+#[tactic(auto, using(page::proofs::Picks::tests), unfolding(crate::specs::Forms::write_by))]
+fn write_by(byte: u8, address: u32, value: u32) -> Option<Call>
     ensures { result ≡ write_by byte address value }
 {
-    if address != 0 {
-        return Call::Bad;
+    if address == 0 && value < VALUES {
+        Some(Call::Write(byte as u32, value as u16))
+    } else {
+        None
     }
-    if value >= VALUES {
-        return Call::Bad;
-    }
-    Call::Write(byte as u32, value as u16)
 }
 
 // A register read: an offset.
-pub(crate) fn read_by(byte: u8, address: u32, value: u32) -> Call
+#[tactic(auto, using(page::proofs::Picks::tests), unfolding(crate::specs::Forms::read_by))]
+fn read_by(byte: u8, address: u32, value: u32) -> Option<Call>
     ensures { result ≡ read_by byte address value }
 {
-    if address != 0 {
-        return Call::Bad;
-    }
-    if value != 0 {
-        return Call::Bad;
-    }
-    Call::Read(byte as u32)
+    (address == 0 && value == 0).then_some(Call::Read(byte as u32))
 }
 
 // A request: an access and an address.
-pub(crate) fn request_by(byte: u8, address: u32, value: u32) -> Call
+#[tactic(auto, using(page::proofs::Picks::tests), unfolding(crate::specs::Forms::request_by))]
+fn request_by(byte: u8, address: u32, value: u32) -> Option<Call>
     ensures { result ≡ request_by byte address value }
 {
-    if byte >= 2 {
-        return Call::Bad;
-    }
-    if value != 0 {
-        return Call::Bad;
-    }
-    Call::Request(VirtualAddress(address), access_of(byte))
+    (byte < 2 && value == 0).then_some(Call::Request(VirtualAddress(address), access_of(byte)))
 }
 
 // A drop, which uses nothing.
-pub(crate) fn drop_by(byte: u8, address: u32, value: u32) -> Call
+#[tactic(auto, using(page::proofs::Picks::tests), unfolding(crate::specs::Forms::drop_by))]
+fn drop_by(byte: u8, address: u32, value: u32) -> Option<Call>
     ensures { result ≡ drop_by byte address value }
 {
-    if byte != 0 {
-        return Call::Bad;
-    }
-    if address != 0 {
-        return Call::Bad;
-    }
-    if value != 0 {
-        return Call::Bad;
-    }
-    Call::Drop
+    (byte == 0 && address == 0 && value == 0).then_some(Call::Drop)
 }
 
 // A shift report: an address.
-pub(crate) fn shift_by(byte: u8, address: u32, value: u32) -> Call
+#[tactic(auto, using(page::proofs::Picks::tests), unfolding(crate::specs::Forms::report_by))]
+fn shift_by(byte: u8, address: u32, value: u32) -> Option<Call>
     ensures { result ≡ report_by byte address value }
 {
-    if byte != 0 {
-        return Call::Bad;
-    }
-    if value != 0 {
-        return Call::Bad;
-    }
-    Call::Shift(VirtualAddress(address))
+    (byte == 0 && value == 0).then_some(Call::Shift(VirtualAddress(address)))
 }
 
 // The call of a kind with these fields.
-fn call_by(kind: u8, byte: u8, address: u32, value: u32) -> Call
+#[tactic(auto, using(page::proofs::Picks::tests), unfolding(crate::specs::Kinds::call_by))]
+fn call_by(kind: u8, byte: u8, address: u32, value: u32) -> Option<Call>
     ensures { result ≡ call_by kind byte address value }
 {
     match kind {
@@ -98,32 +76,38 @@ fn call_by(kind: u8, byte: u8, address: u32, value: u32) -> Call
         3 => request_by(byte, address, value),
         4 => drop_by(byte, address, value),
         5 => shift_by(byte, address, value),
-        _ => Call::Bad,
+        _ => None,
     }
 }
 
 // The same where the two bytes between are zero.
-pub(crate) fn call_from(kind: u8, byte: u8, third: u8, fourth: u8, address: u32, value: u32) -> Call
+#[tactic(auto, using(page::proofs::Picks::tests), unfolding(crate::specs::Kinds::call_from))]
+pub(crate) fn call_from(
+    kind: u8,
+    byte: u8,
+    third: u8,
+    fourth: u8,
+    address: u32,
+    value: u32,
+) -> Option<Call>
     ensures { result ≡ call_from kind byte third fourth address value }
 {
-    if third != 0 {
-        return Call::Bad;
-    }
-    if fourth != 0 {
-        return Call::Bad;
+    if third != 0 || fourth != 0 {
+        return None;
     }
     call_by(kind, byte, address, value)
 }
 
 // The same for a record that is known to be a call: nothing is tested but its kind.
-pub(crate) fn known(kind: u8, byte: u8, address: u32, value: u32) -> Call
+// Kept: one function with a flag for whether it tests would be no plainer, since this one tests nothing but the kind.
+pub(crate) fn known(kind: u8, byte: u8, address: u32, value: u32) -> Option<Call>
     ensures { is_good (call_by kind byte address value) ≡ true → result ≡ call_by kind byte address value }
 {
     match kind {
-        1 => Call::Write(byte as u32, (value % VALUES) as u16),
-        2 => Call::Read(byte as u32),
-        3 => Call::Request(VirtualAddress(address), access_of(byte)),
-        4 => Call::Drop,
-        _ => Call::Shift(VirtualAddress(address)),
+        1 => Some(Call::Write(byte as u32, (value % VALUES) as u16)),
+        2 => Some(Call::Read(byte as u32)),
+        3 => Some(Call::Request(VirtualAddress(address), access_of(byte))),
+        4 => Some(Call::Drop),
+        _ => Some(Call::Shift(VirtualAddress(address))),
     }
 }

@@ -2,8 +2,8 @@
 // A call as a record of 12 bytes.
 pub mod forms;
 
-ghost use Rattle.std.specs.Prelude.{◌≡◌, ◌≤◌};
-ghost use Rattle.calls.specs.Names.{true, length};
+ghost use Rattle.std.specs.Prelude.{◌≡◌, ◌+◌, ◌<◌, ◌≤◌, MatchOption};
+ghost use Rattle.calls.specs.Names.{true, length, take, drop};
 ghost use Rattle.calls.specs.Records.{call_size, call_of, call_at, call_count, is_good, all_good};
 
 use page::{Access, VirtualAddress};
@@ -11,7 +11,7 @@ use page::{Access, VirtualAddress};
 // The bytes of a record.
 pub const SIZE: usize = 12;
 
-// A call, or a record that is none.
+// A call.
 #[derive(Clone, Copy)]
 pub enum Call {
     Write(u32, u16),
@@ -19,12 +19,18 @@ pub enum Call {
     Request(VirtualAddress, Access),
     Drop,
     Shift(VirtualAddress),
-    Bad,
 }
 
-// The call that a record's bytes say.
-fn call_of(r: &[u8]) -> Call
-    requires { call_size ≤ length r.now }
+// The bytes of the record at an offset, none where they are not all there.
+fn record_at(bytes: &[u8], at: usize) -> Option<&[u8; SIZE]>
+    ensures { MatchOption result (length bytes.now < at + call_size)
+        (λ r. (at + call_size ≤ length bytes.now) × (r.now ≡ take call_size (drop at bytes.now))) }
+{
+    bytes.get(at..)?.first_chunk()
+}
+
+// The call that a record's bytes say, none where they say none.
+fn call_of(r: &[u8; SIZE]) -> Option<Call>
     ensures { result ≡ call_of r.now }
 {
     forms::call_from(
@@ -37,23 +43,16 @@ fn call_of(r: &[u8]) -> Call
     )
 }
 
-// The call of the record at an offset, bad where its bytes are not all there.
-pub fn decode(bytes: &[u8], at: usize) -> Call
+// The call of the record at an offset, none where its bytes are not all there.
+#[tactic(auto, using(crate::proofs::Rest::call_there, crate::proofs::Rest::call_past))]
+pub fn decode(bytes: &[u8], at: usize) -> Option<Call>
     ensures { result ≡ call_at bytes.now at }
 {
-    let len = bytes.len();
-    if len < SIZE {
-        return Call::Bad;
-    }
-    if len - SIZE < at {
-        return Call::Bad;
-    }
-    call_of(&bytes[at..at + SIZE])
+    call_of(record_at(bytes, at)?)
 }
 
 // The call of a record's bytes that are known to be a call.
-fn known_of(r: &[u8]) -> Call
-    requires { call_size ≤ length r.now }
+fn known_of(r: &[u8; SIZE]) -> Option<Call>
     ensures { is_good (call_of r.now) ≡ true → result ≡ call_of r.now }
 {
     forms::known(
@@ -65,17 +64,11 @@ fn known_of(r: &[u8]) -> Call
 }
 
 // The call of the record at an offset that is known to be one: tested are its length and its kind alone.
-pub fn decode_known(bytes: &[u8], at: usize) -> Call
+#[tactic(auto, using(crate::proofs::Rest::call_there, crate::proofs::Rest::call_past))]
+pub fn decode_known(bytes: &[u8], at: usize) -> Option<Call>
     ensures { is_good (call_at bytes.now at) ≡ true → result ≡ call_at bytes.now at }
 {
-    let len = bytes.len();
-    if len < SIZE {
-        return Call::Bad;
-    }
-    if len - SIZE < at {
-        return Call::Bad;
-    }
-    known_of(&bytes[at..at + SIZE])
+    known_of(record_at(bytes, at)?)
 }
 
 // How many whole records there are.
@@ -86,33 +79,16 @@ pub fn count(calls: &[u8]) -> usize
 }
 
 // Whether a record is a call.
-pub fn is_good(call: Call) -> bool
+pub fn is_good(call: Option<Call>) -> bool
     ensures { result ≡ is_good call }
 {
-    match call {
-        Call::Write(_, _) => true,
-        Call::Read(_) => true,
-        Call::Request(_, _) => true,
-        Call::Drop => true,
-        Call::Shift(_) => true,
-        Call::Bad => false,
-    }
+    call.is_some()
 }
 
 // Whether there are only whole records, and each is a call.
 pub fn all_good(calls: &[u8]) -> bool
     ensures { result ≡ all_good calls.now }
 {
-    if calls.len() % SIZE != 0 {
-        return false;
-    }
-    let n = count(calls);
-    let mut i = 0;
-    while i < n {
-        if !is_good(decode(calls, SIZE * i)) {
-            return false;
-        }
-        i += 1;
-    }
-    true
+    let (records, rest) = calls.as_chunks();
+    rest.is_empty() && records.iter().all(|r| is_good(call_of(r)))
 }

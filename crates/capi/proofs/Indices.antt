@@ -1,5 +1,8 @@
 -- A refused record's index, and the count of a list that is tried, have 32 bits. Assumes nothing.
-use Rattle.capi.specs.Names.{◌≡◌, List, ℕ, ◌%◌, ◌^◌, ◌≤◌, length, build_of, Built, ran}
+use Rattle.builder.specs.declared.BuildError.{BuildError}
+use Rattle.std.proofs.Common.{Result, Ok, Err}
+use Rattle.records.specs.declared.BadList.{BadList}
+use Rattle.capi.specs.Names.{◌≡◌, List, ℕ, ◌%◌, ◌^◌, ◌≤◌, length, build_of, ran}
 use Rattle.capi.proofs.Names.{refl, sym, ◌∙◌, ap, ap₂, subst, false, arith, built_word, cut_built}
 use mathlib.Core.Bool.{not, true≢false}
 use Prim.Native.Nat.{zero, suc, ◌<◌}
@@ -9,7 +12,6 @@ use Rattle.page.specs.Words.{megabytes}
 use Rattle.page.proofs.Picks.{pick_by}
 use Rattle.records.specs.Mappings.{mappings}
 use Rattle.records.proofs.Listed.{mappings-length}
-use Rattle.records.specs.declared.Checked.{Checked}
 use Rattle.records.specs.Refusals.{most, bad, overlapping, checked_from, begun, checked, checked_index}
 use Rattle.records.proofs.Refusals.{bad_past}
 use Rattle.records.proofs.Accepted.{fine_clean}
@@ -28,15 +30,15 @@ index-from : (n : ℕ) (rs : List ℕ) (k i : ℕ) → i ≤ most → checked_in
 unfolding checked_from
 index-from n rs zero i h = omega arith
 index-from n rs (suc k) i h =
-    pick_by (λ (c : Checked). checked_index c ≤ most) (bad n rs i) _ _
+    pick_by (λ (c : Result Unit BadList). checked_index c ≤ most) (bad n rs i) _ _
     (λ _. h)
-    (λ e. pick_by (λ (c : Checked). checked_index c ≤ most) (overlapping rs i) _ _ (λ _. h) (λ _. index-from n rs k (suc i) (let l = not_past n rs i e in omega arith)))
+    (λ e. pick_by (λ (c : Result Unit BadList). checked_index c ≤ most) (overlapping rs i) _ _ (λ _. h) (λ _. index-from n rs k (suc i) (let l = not_past n rs i e in omega arith)))
 
 index-most : (n : ℕ) (rs : List ℕ) → checked_index (checked n rs) ≤ most
 unfolding checked
 index-most n rs = index-from n rs (begun rs) 0 (omega arith)
 
-count_most : (n : ℕ) (rs : List ℕ) → checked n rs ≡ Checked.Fine → length (mappings rs) ≤ most
+count_most : (n : ℕ) (rs : List ℕ) → checked n rs ≡ Ok tt → length (mappings rs) ≤ most
 count_most n rs e =
     let l = mappings-length rs in
     elim (dec_le (begun rs) most) [
@@ -48,17 +50,17 @@ short : (i : ℕ) → i ≤ most → i % 2 ^ 32 ≡ i
 short i h = omega arith
 
 module _ (rs : List ℕ) (room : ℕ) where
-  after : (c : Checked) → checked megabytes rs ≡ c → cut_built (after_check c (length_or (mappings rs) room)) ≡ after_check c (length_or (mappings rs) room)
-  after Checked.Fine e = pick_by (λ (b : Built). cut_built b ≡ b) (ltb room (image_length megabytes (mappings rs))) _ _ (λ _. ap Built.TooLong (short _ (count_most megabytes rs e))) (λ _. refl)
-  after (Checked.BadRecord i) e = ap Built.BadRecord (short i (subst (λ (c : Checked). checked_index c ≤ most) e (index-most megabytes rs)))
-  after (Checked.Overlap i) e = ap Built.Overlap (short i (subst (λ (c : Checked). checked_index c ≤ most) e (index-most megabytes rs)))
+  after : (c : Result Unit BadList) → checked megabytes rs ≡ c → cut_built (after_check c (length_or (mappings rs) room)) ≡ after_check c (length_or (mappings rs) room)
+  after (Ok u) e = pick_by (λ (b : Result ℕ BuildError). cut_built b ≡ b) (ltb room (image_length megabytes (mappings rs))) _ _ (λ _. ap (λ (x : ℕ). Err (BuildError.TooLong x)) (short _ (count_most megabytes rs e))) (λ _. refl)
+  after (Err (BadList.BadRecord i)) e = ap (λ (x : ℕ). Err (BuildError.BadRecord x)) (short i (subst (λ (c : Result Unit BadList). checked_index c ≤ most) e (index-most megabytes rs)))
+  after (Err (BadList.Overlap i)) e = ap (λ (x : ℕ). Err (BuildError.Overlap x)) (short i (subst (λ (c : Result Unit BadList). checked_index c ≤ most) e (index-most megabytes rs)))
 
 built-whole : (rs : List ℕ) (base : ℕ) (l : List ℕ) → cut_built (build_of rs base l).answer ≡ (build_of rs base l).answer
 unfolding build_of answer_of
 built-whole rs base l =
-    pick_by (λ (b : Built). cut_built b ≡ b) (not (room_ok base (length l))) Built.BadMemory _ (λ _. refl) (λ _. after rs (length l) (checked megabytes rs) refl)
+    pick_by (λ (b : Result ℕ BuildError). cut_built b ≡ b) (not (room_ok base (length l))) (Err BuildError.BadMemory) _ (λ _. refl) (λ _. after rs (length l) (checked megabytes rs) refl)
 
-pub built-ran : (rs : List ℕ) (base : ℕ) (l o : List ℕ) (b : Built) (r : ℕ) → r ≡ built_word (cut_built b) → outcome b o ≡ build_of rs base l → ran r o ≡ build_ran rs base l
+pub built-ran : (rs : List ℕ) (base : ℕ) (l o : List ℕ) (b : Result ℕ BuildError) (r : ℕ) → r ≡ built_word (cut_built b) → outcome b o ≡ build_of rs base l → ran r o ≡ build_ran rs base l
 unfolding build_ran
 built-ran rs base l o b r e f =
     ap₂ ran (e ∙ ap (λ (x : Outcome). built_word (cut_built x.answer)) f ∙ ap built_word (built-whole rs base l)) (ap (λ (x : Outcome). x.memory) f)

@@ -1,5 +1,5 @@
 #![tactic(auto)]
-// The byte boundary: the builder, images from elsewhere, two images compared, sessions, recordings and the fetch for callers that speak C, over numbers and bytes alone.
+// The byte boundary: what callers that speak C may call, over numbers and bytes alone.
 mod numbers;
 
 ghost use Rattle.std.specs.Prelude.{◌≡◌};
@@ -7,7 +7,9 @@ ghost use Rattle.capi.specs.Names.{megabytes, lent, prices_of, ran, check_of, cr
 ghost use Rattle.capi.specs.Boundary.{run_of, from_of, fetch_of, build_ran, list_ran, part_ran, record_ran, recorded_ran};
 ghost use Rattle.capi.specs.Numbers.{verdict_word};
 
+use memory::Memories;
 use page::PhysicalAddress;
+use run::{Priced, Start};
 use session::Bench;
 
 // Builds the tables of a list in a memory.
@@ -62,19 +64,22 @@ pub fn nx_run<'a>(
         ≡ run_of (lent on.now onbase ext.now extbase) (prices_of onkind ona onb extkind exta extb) onkind extkind calls.now out.old }
 {
     let prices = state::read::prices_of(onkind, ona, onb, extkind, exta, extb);
-    run::run_from(
-        Bench::fresh(),
-        0,
-        calls,
+    let memories = Memories {
         on,
-        PhysicalAddress(onbase),
+        onbase: PhysicalAddress(onbase),
         ext,
-        PhysicalAddress(extbase),
+        extbase: PhysicalAddress(extbase),
+    };
+    let start = Start {
+        bench: Bench::fresh(),
+        handed: 0,
+    };
+    let priced = Priced {
+        prices,
         onkind,
         extkind,
-        prices,
-        out,
-    )
+    };
+    run::run_from(start, calls, &memories, priced, out)
 }
 
 // Runs calls from a handed-in state.
@@ -104,31 +109,37 @@ pub fn nx_from<'a>(
         return 0;
     }
     let prices = state::read::prices_of(onkind, ona, onb, extkind, exta, extb);
-    let start = state::read::bench_at(state, total, misses);
-    run::run_from(
-        start,
-        state::read::lock_at(state),
-        calls,
+    let start = Start {
+        bench: state::read::bench_at(state, total, misses),
+        handed: state::read::lock_at(state),
+    };
+    let memories = Memories {
         on,
-        PhysicalAddress(onbase),
+        onbase: PhysicalAddress(onbase),
         ext,
-        PhysicalAddress(extbase),
+        extbase: PhysicalAddress(extbase),
+    };
+    let priced = Priced {
+        prices,
         onkind,
         extkind,
-        prices,
-        out,
-    )
+    };
+    run::run_from(start, calls, &memories, priced, out)
 }
 
 // The four bytes at an address.
 pub fn nx_fetch<'a>(on: &'a [u8], onbase: u32, ext: &'a [u8], extbase: u32, address: u32) -> u64
     ensures { result ≡ fetch_of (lent on.now onbase ext.now extbase) address }
 {
+    let memories = Memories {
+        on,
+        onbase: PhysicalAddress(onbase),
+        ext,
+        extbase: PhysicalAddress(extbase),
+    };
     let at = PhysicalAddress(address);
-    let b = PhysicalAddress(onbase);
-    let c = PhysicalAddress(extbase);
-    let part = memory::fetch(on, b, ext, c, at);
-    numbers::place_number(memory::locate(on, b, ext, c, at), wire::word_of(part))
+    let part = memories.fetch(at);
+    numbers::place_number(memories.locate(at), wire::word_of(part))
 }
 
 // Writes calls as a recording.

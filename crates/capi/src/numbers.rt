@@ -1,14 +1,14 @@
-// What the byte boundary answers in one number: a build's answer, the verdict on an image, a list's answer, a recording's, a place with its word; and a comparison, in six words.
+// What the byte boundary answers in one number, and a comparison in six words.
 ghost use Rattle.std.specs.Prelude.{◌≡◌, ◌%◌, ◌^◌, ◌≤◌};
 ghost use Rattle.capi.specs.Names.{cut_place, owner_number};
 ghost use Rattle.capi.specs.Numbers.{refused, place_number, built_word, cut_built, verdict_word, inventory_word, cut_inventory, parting_words, comparison_said, written_word, cut_written};
 
-use audit::{Inventory, Verdict};
-use builder::Built;
+use audit::{ImageError, ListError};
+use builder::BuildError;
 use memory::Place;
 use page::PhysicalAddress;
-use parting::{Comparison, Owner};
-use recording::Written;
+use parting::{Owner, Parting};
+use recording::RecordingError;
 
 // A refusal with an index or a count, in one number.
 fn refusal(number: u64, i: usize) -> u64
@@ -27,51 +27,49 @@ fn refusal_at(number: u64, at: PhysicalAddress) -> u64
 }
 
 // The answer of a build, in one number.
-pub(crate) fn built_number(b: Built) -> u64
+pub(crate) fn built_number(b: Result<usize, BuildError>) -> u64
     ensures { result ≡ built_word (cut_built b) }
 {
     match b {
-        Built::Length(n) => n as u64,
-        Built::BadMemory => refusal(4, 0),
-        Built::BadRecord(i) => refusal(10, i),
-        Built::Overlap(i) => refusal(11, i),
-        Built::TooLong(n) => refusal(12, n),
+        Ok(length) => length as u64,
+        Err(BuildError::BadMemory) => refusal(4, 0),
+        Err(BuildError::BadRecord(i)) => refusal(10, i),
+        Err(BuildError::Overlap(i)) => refusal(11, i),
+        Err(BuildError::TooLong(n)) => refusal(12, n),
     }
 }
 
 // The verdict on an image, in one number.
-pub(crate) fn verdict_number(v: Verdict) -> u64
+pub(crate) fn verdict_number(v: Result<usize, ImageError>) -> u64
     ensures { result ≡ verdict_word v }
 {
     match v {
-        Verdict::Good(_) => 0,
-        Verdict::BadMemory => refusal(4, 0),
-        Verdict::Outside(at) => refusal_at(17, at),
-        Verdict::Unequal(at) => refusal_at(18, at),
+        Ok(_) => 0,
+        Err(ImageError::BadMemory) => refusal(4, 0),
+        Err(ImageError::Outside(at)) => refusal_at(17, at),
+        Err(ImageError::Unequal(at)) => refusal_at(18, at),
     }
 }
 
 // The answer of a listing, in one number.
-pub(crate) fn inventory_number(a: Inventory) -> u64
+pub(crate) fn inventory_number(a: Result<usize, ListError>) -> u64
     ensures { result ≡ inventory_word (cut_inventory a) }
 {
     match a {
-        Inventory::Length(n) => n as u64,
-        Inventory::BadMemory => refusal(4, 0),
-        Inventory::Outside(at) => refusal_at(17, at),
-        Inventory::Unequal(at) => refusal_at(18, at),
-        Inventory::TooShort(n) => refusal(12, n),
+        Ok(n) => n as u64,
+        Err(ListError::Image(e)) => verdict_number(Err(e)),
+        Err(ListError::TooShort(n)) => refusal(12, n),
     }
 }
 
 // The answer of a recording written or read, in one number.
-pub(crate) fn written_number(w: Written) -> u64
+pub(crate) fn written_number(w: Result<usize, RecordingError>) -> u64
     ensures { result ≡ written_word (cut_written w) }
 {
     match w {
-        Written::Length(n) => n as u64,
-        Written::Bad(i) => refusal(16, i),
-        Written::TooShort(n) => refusal(12, n),
+        Ok(n) => n as u64,
+        Err(RecordingError::Bad(i)) => refusal(16, i),
+        Err(RecordingError::TooShort(n)) => refusal(12, n),
     }
 }
 
@@ -107,11 +105,11 @@ fn parting_words(number: u32, o: Owner, start: usize, words: usize) -> [u32; 6]
 }
 
 // A comparison in six words, of a new image of so many bytes.
-pub(crate) fn comparison_words(c: Comparison, len: usize) -> [u32; 6]
+pub(crate) fn comparison_words(c: Option<Parting>, len: usize) -> [u32; 6]
     ensures { result ≡ comparison_said c len }
 {
     match c {
-        Comparison::BadLength => parting_words(4, Owner::New, len, 0),
-        Comparison::Parted(o, k, d) => parting_words(0, o, k, d),
+        None => parting_words(4, Owner::New, len, 0),
+        Some(p) => parting_words(0, p.owner, p.start, p.words),
     }
 }

@@ -1,7 +1,10 @@
--- A request or a retry answers what the walk answers, and with a prefetch it keeps the slots in agreement. Assumes nothing.
-use Rattle.coherence.specs.Names.{ℕ, ◌*◌, ◌%◌, ◌^◌, ◌<◌, ◌≡◌, Bool, limit, slots, by_walk, Access, VirtualAddress, Lent, Bill, Prices, Pending}
+-- A request or a retry answers what the walk answers, and with a prefetch it keeps the slots in agreement. Assumes
+-- nothing.
+use Rattle.std.proofs.Common.{Result, Ok, Err, Option, Some, None}
+use Rattle.walk.specs.declared.Unfound.{Unfound}
+use Rattle.coherence.specs.Names.{ℕ, ◌*◌, ◌%◌, ◌^◌, ◌<◌, ◌≡◌, Bool, limit, slots, by_walk, Access, VirtualAddress, Lent, Bill, Prices, Stall}
 use Rattle.coherence.specs.Names.{Answer, Device, Look}
-use Rattle.coherence.proofs.Names.{arith, refl, sym, ◌∙◌, ap, subst, pick_yes, filled, InRange, by_found, Reads, Page, Found, Walked, attempt_of}
+use Rattle.coherence.proofs.Names.{arith, refl, sym, ◌∙◌, ap, subst, pick_yes, filled, InRange, by_found, Reads, Page, Walked, attempt_of}
 use Rattle.coherence.proofs.Names.{plain, Below, Coherent, Uniform, look_in}
 use Rattle.page.specs.Words.{made_words}
 use Rattle.walk.specs.Distances.{Proper}
@@ -13,14 +16,13 @@ use Rattle.lanes.proofs.Searches.{Lowest, lowest}
 use Rattle.decision.specs.Decisions.{by_matched, settled}
 use Rattle.decision.specs.Prefetches.{page_at, prefetch_found, prefetch_matched, prefetch_decided}
 use Rattle.decision.proofs.Joins.{decided-on}
-use Rattle.decision.specs.Names.{Matched}
 use Rattle.decision.specs.declared.Decision.{Decision}
 use Rattle.unit.specs.Device.{look, applied, decided_by}
 use Rattle.unit.specs.Calls.{prefetched}
 use Rattle.coherence.proofs.Slots.{Held, made_agrees, fill_agrees}
 
 -- a fault is pending anew only at the address that was asked for
-settled-below : (va : VirtualAddress) (a : Access) (q : Pending) (r : Answer) → va.0 < limit → Below q → Below (settled va a q r)
+settled-below : (va : VirtualAddress) (a : Access) (q : Option Stall) (r : Answer) → va.0 < limit → Below q → Below (settled va a q r)
 settled-below va a q (Answer.Address x) l h = tt
 settled-below va a q (Answer.Fault k) l h = l
 settled-below va a q (Answer.Value x) l h = h
@@ -39,9 +41,9 @@ module _ (m : Lent) (base : ℕ) where
     abbrev Walks : Decision → Type 0
     Walks x = x.answer ≡ plain walked va a
 
-    matched_answers : (x : Matched) → Lowest d.bank.cam va slots 0 x → Walks (by_matched (look m d va) d.registers.control d.bank.cam d.bank.ram va a x)
-    matched_answers (Matched.At i) s = h.lanes.agree i va s.1.0 a
-    matched_answers Matched.Nothing s =
+    matched_answers : (x : Option ℕ) → Lowest d.bank.cam va slots 0 x → Walks (by_matched (look m d va) d.registers.control d.bank.cam d.bank.ram va a x)
+    matched_answers (Some i) s = h.lanes.agree i va s.1.0 a
+    matched_answers None s =
         ap (λ (x : Decision). x.answer) (pick_yes _ _ _ h.walking) ∙ ap (λ (w : Walked). (by_walk va a w).answer) (same_walk d h va)
 
     abbrev decision : Decision
@@ -59,20 +61,20 @@ module _ (m : Lent) (base : ℕ) where
     Fits x = Held walked (entry_filled d.bank x.fill)
 
     -- what a walk fills agrees
-    page_fits : (p : Page) → (walked va).found ≡ Found.Page p → Proper (Found.Page p) → Held walked (filled d.bank (made_words p.kind p.frame p.access va))
+    page_fits : (p : Page) → (walked va).found ≡ Ok p → Proper (Ok p) → Held walked (filled d.bank (made_words p.kind p.frame p.access va))
     page_fits p e n = fill_agrees walked d.bank _ r (made_agrees walked u va p l e n.0) h.lanes
 
-    found_fits : (a : Access) (s : Reads) (f : Found) → (walked va).found ≡ f → Proper f → Fits (by_found va a s f)
+    found_fits : (a : Access) (s : Reads) (f : Result Page Unfound) → (walked va).found ≡ f → Proper f → Fits (by_found va a s f)
     unfolding by_found
-    found_fits a s Found.Missing e n = h.lanes
-    found_fits a s Found.NoPage e n = h.lanes
-    found_fits a s (Found.Page p) e n = page_fits p e n
+    found_fits a s (Err Unfound.Missing) e n = h.lanes
+    found_fits a s (Err Unfound.NoPage) e n = h.lanes
+    found_fits a s (Ok p) e n = page_fits p e n
 
-    prefetch_found_fits : (s : Reads) (f : Found) → (walked va).found ≡ f → Proper f → Fits (prefetch_found va s f)
+    prefetch_found_fits : (s : Reads) (f : Result Page Unfound) → (walked va).found ≡ f → Proper f → Fits (prefetch_found va s f)
     unfolding prefetch_found
-    prefetch_found_fits s Found.Missing e n = h.lanes
-    prefetch_found_fits s Found.NoPage e n = h.lanes
-    prefetch_found_fits s (Found.Page p) e n = page_fits p e n
+    prefetch_found_fits s (Err Unfound.Missing) e n = h.lanes
+    prefetch_found_fits s (Err Unfound.NoPage) e n = h.lanes
+    prefetch_found_fits s (Ok p) e n = page_fits p e n
 
     walk_is : (walked va).found ≡ (look m d va).found
     walk_is = ap (λ (w : Walked). w.found) (sym (same_walk d h va))
@@ -80,13 +82,13 @@ module _ (m : Lent) (base : ℕ) where
     proper : Proper (look m d va).found
     proper = walk-proper (read_in m) va.0 d.registers.base.0
 
-    matched_fits : (a : Access) (x : Matched) → Fits (by_matched (look m d va) d.registers.control d.bank.cam d.bank.ram va a x)
-    matched_fits a (Matched.At i) = h.lanes
-    matched_fits a Matched.Nothing = subst Fits (sym (pick_yes _ _ _ h.walking)) (found_fits a (look m d va).reads (look m d va).found walk_is proper)
+    matched_fits : (a : Access) (x : Option ℕ) → Fits (by_matched (look m d va) d.registers.control d.bank.cam d.bank.ram va a x)
+    matched_fits a (Some i) = h.lanes
+    matched_fits a None = subst Fits (sym (pick_yes _ _ _ h.walking)) (found_fits a (look m d va).reads (look m d va).found walk_is proper)
 
-    prefetch_matched_fits : (x : Matched) → Fits (prefetch_matched (look m d va) va x)
-    prefetch_matched_fits (Matched.At i) = h.lanes
-    prefetch_matched_fits Matched.Nothing = prefetch_found_fits (look m d va).reads (look m d va).found walk_is proper
+    prefetch_matched_fits : (x : Option ℕ) → Fits (prefetch_matched (look m d va) va x)
+    prefetch_matched_fits (Some i) = h.lanes
+    prefetch_matched_fits None = prefetch_found_fits (look m d va).reads (look m d va).found walk_is proper
 
     -- a decision whose fill agrees keeps every slot in agreement
     applied_keeps : (a : Access) (x : Decision) → Fits x → Coherent walked base (applied d x.fill x.answer va a)

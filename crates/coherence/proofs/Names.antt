@@ -9,7 +9,7 @@ pub use Rattle.coherence.specs.Agreement.{Below, Coherent, Lanes, plain}
 pub use Rattle.coherence.specs.Sessions.{started}
 pub use Rattle.walk.specs.Uniform.{look_in, Uniform}
 unfoldable pub use Rattle.decision.specs.Decisions.{by_found}
-pub use Rattle.decision.specs.Names.{Found, Page, PhysicalAddress, Reads, Walked}
+pub use Rattle.decision.specs.Names.{Page, PhysicalAddress, Reads, Walked}
 pub use Rattle.page.proofs.Picks.{and_yes, pick_by, pick_yes}
 pub use Rattle.page.specs.Ground.{replicate}
 unfoldable pub use Rattle.page.specs.Pick.{◌or◌}

@@ -1,6 +1,8 @@
--- Every admitted call keeps the slots in agreement, so after any of them each answer is the plain walk's. Assumes nothing.
+-- Every admitted call keeps the slots in agreement, so after any of them each answer is the plain walk's. Assumes
+-- nothing.
+use Rattle.std.proofs.Common.{Option, Some, None}
 use Rattle.coherence.specs.Names.{ℕ, ◌%◌, ◌<◌, ◌≡◌, Bool, true, false, List, [], ◌∷◌, eqb, pick, ◌and◌, is_prefetch, is_refusal, limit, is_on}
-use Rattle.coherence.specs.Names.{is_walking, Access, VirtualAddress, Lent, Bill, Prices, Pending, Answer, Device, in_range, acknowledge_at}
+use Rattle.coherence.specs.Names.{is_walking, Access, VirtualAddress, Lent, Bill, Prices, Stall, Answer, Device, in_range, acknowledge_at}
 use Rattle.coherence.specs.Names.{request_of, write_of, Call, request, write, read, drop-fault, shift, Said, step, Look}
 use Rattle.coherence.proofs.Names.{arith, refl, sym, ◌∙◌, ap, subst, true≢false, eqb-true, pick_yes, InRange, listed, command_of, Command}
 use Rattle.coherence.proofs.Names.{Outcome, cleared, done_with, refused_with, attempt_of, request_refusals, write_refusals, retried, carried, plain}
@@ -75,7 +77,7 @@ module _ (m : Lent) (base : ℕ) where
       subst (Plain r va) q (subst (λ (x : VirtualAddress). Plain r x w) p h)
 
   -- only an acknowledgement asks again
-  asked_again : (o v : ℕ) (q : Pending) (va : VirtualAddress) (a : Access) → pick (eqb o acknowledge_at and eqb (v % 2) 1) (retried_of q) nothing ≡ asks va a
+  asked_again : (o v : ℕ) (q : Option Stall) (va : VirtualAddress) (a : Access) → pick (eqb o acknowledge_at and eqb (v % 2) 1) (retried_of q) nothing ≡ asks va a
       → (command_of o v ≡ Command.Acknowledge true) × (retried_of q ≡ asks va a)
   unfolding pick
   asked_again o v q va a = by (eqb o acknowledge_at and eqb (v % 2) 1) refl
@@ -100,9 +102,9 @@ module _ (m : Lent) (base : ℕ) where
     held_right true at w l e = none-asked e
     held_right false at w l e = λ n. same_asked _ at va w a e (l, attempt-answers m base d h at w)
 
-    retry_right : (q : Pending) → Below q → retried_of q ≡ asks va a → RightOut (retried m p b d q)
-    retry_right Pending.Nothing l e = none-asked e
-    retry_right (Pending.Held k at w) l e = held_right (is_prefetch k) at w l e
+    retry_right : (q : Option Stall) → Below q → retried_of q ≡ asks va a → RightOut (retried m p b d q)
+    retry_right None l e = none-asked e
+    retry_right (Some s) l e = held_right (is_prefetch s.fault) s.at s.access l e
 
   -- a request or a retry that is not refused answers what the plain walk answers
   pub step_right : (d : Device) (b : Bill) (c : Call) (va : VirtualAddress) (a : Access) → Coherent walked base d → asked d c ≡ asks va a → RightSaid va a (step m d b c).said

@@ -1,8 +1,10 @@
--- A slot that a walk made agrees, one that is not valid agrees with anything, and fills and flushes keep every slot in agreement.
--- Assumes nothing.
+-- A slot that a walk made agrees, one that is not valid agrees with anything, and fills and flushes keep every slot
+-- in agreement. Assumes nothing.
+use Rattle.std.proofs.Common.{Result, Ok}
+use Rattle.walk.specs.declared.Unfound.{Unfound}
 use Rattle.coherence.specs.Names.{ℕ, ◌<◌, ◌≡◌, Bool, true, false, List, eqb, get_or, limit, slots, by_access, VirtualAddress, Look}
 use Rattle.coherence.proofs.Names.{arith, refl, sym, ◌∙◌, ap, ap₂, subst, replicate, eqb-true, pick_by, filled, InRange, by_found}
-use Rattle.coherence.proofs.Names.{PhysicalAddress, Page, Found, Lanes, Uniform}
+use Rattle.coherence.proofs.Names.{PhysicalAddress, Page, Lanes, Uniform}
 use Prim.Native.Nat.{zero, suc}
 use mathlib.Core.Bool.{false≢true}
 use lib.ListN.{length-set, length-map}
@@ -35,12 +37,12 @@ module _ (look : Look) where
   flushed_at_agrees at c r h = pick_by (λ (x : ℕ). Agrees look x r) _ _ _ (λ _. dropped_agrees c r) (λ _. h)
 
   -- what a walk makes agrees at every address of its page, where the tables agree with themselves
-  pub made_agrees : Uniform limit look → (va : VirtualAddress) (p : Page) → va.0 < limit → (look va).found ≡ Found.Page p → p.access < 4
+  pub made_agrees : Uniform limit look → (va : VirtualAddress) (p : Page) → va.0 < limit → (look va).found ≡ Ok p → p.access < 4
       → Agrees look (made_cam p.kind va.0) (made_ram p.kind p.frame.0 p.access)
   unfolding by_found
   made_agrees u va p l e n at h a =
       ap₂ (λ (x : ℕ) (y : PhysicalAddress). by_access x y a) (made_access p.kind p.frame.0 p.access n) (made-address p.kind p.frame.0 p.access va.0 at)
-      ∙ sym (ap (λ (f : Found). (by_found at a (look at).reads f).answer) (u va at p l e (eqb-true _ _ (sym (made-matches p.kind va.0 at) ∙ h))))
+      ∙ sym (ap (λ (f : Result Page Unfound). (by_found at a (look at).reads f).answer) (u va at p l e (eqb-true _ _ (sym (made-matches p.kind va.0 at) ∙ h))))
 
   -- every slot of a bank agrees
   abbrev pub Held : Bank → Type 0

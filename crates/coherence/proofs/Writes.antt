@@ -1,5 +1,6 @@
 -- A register write other than to control and base keeps the slots in agreement. Assumes nothing.
-use Rattle.coherence.specs.Names.{ℕ, ◌≡◌, true, false, List, pick, ◌and◌, limit, is_walking, Lent, Bill, Prices, Pending, Device}
+use Rattle.std.proofs.Common.{Option, Some, None}
+use Rattle.coherence.specs.Names.{ℕ, ◌≡◌, true, false, List, pick, ◌and◌, limit, is_walking, Lent, Bill, Prices, Stall, Device}
 use Rattle.coherence.proofs.Names.{sym, ◌∙◌, subst, true≢false, ◌or◌, pick_by, and_yes, InRange, listed, command_of, Setting, Command, Outcome}
 use Rattle.coherence.proofs.Names.{cleared, is_untimely, retried, carried, Lanes, Below, Coherent, Uniform, look_in}
 use Rattle.page.proofs.Picks.{or_yes}
@@ -108,9 +109,9 @@ module _ (m : Lent) (base : ℕ) (u : Uniform limit (look_in m base)) (d : Devic
     abbrev Ends : Outcome → Type 0
     Ends x = Keeps x.device
 
-    retry_keeps : (q : Pending) → Below q → Ends (retried m p b d q)
-    retry_keeps Pending.Nothing l = h
-    retry_keeps (Pending.Held k va a) l = pick_by Ends _ _ _ (λ _. cleared_keeps) (λ _. attempt_keeps m base u d h r va l p b true a)
+    retry_keeps : (q : Option Stall) → Below q → Ends (retried m p b d q)
+    retry_keeps None l = h
+    retry_keeps (Some s) l = pick_by Ends _ _ _ (λ _. cleared_keeps) (λ _. attempt_keeps m base u d h r s.at l p b true s.access)
 
     pub carried_keeps : (c : Command) → Tame c → Ends (carried m p b d c)
     carried_keeps (Command.Refused k) e = h

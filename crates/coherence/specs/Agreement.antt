@@ -1,7 +1,7 @@
 -- What the slots hold never shows: the plain answer, and slots that agree with it (01, demand 3).
-use Rattle.std.specs.Prelude.{◌<◌, ◌≡◌}
+use Rattle.std.specs.Prelude.{Option, Some, None, ◌<◌, ◌≡◌}
 use Rattle.coherence.specs.Names.{ℕ, true, List, get_or, length, word_matches, word_access, word_address, limit, slots, is_on, is_walking}
-use Rattle.coherence.specs.Names.{Pending, Look, Access, VirtualAddress, Answer, by_access, by_walk, Device}
+use Rattle.coherence.specs.Names.{Stall, Look, Access, VirtualAddress, Answer, by_access, by_walk, Device}
 
 -- what the walk alone answers
 abbrev pub plain : Look → VirtualAddress → Access → Answer
@@ -19,12 +19,12 @@ pub record Lanes (look : Look) (cam ram : List ℕ) : Type 0 where
   pub agree : (i : ℕ) → Agrees look (get_or cam i 0) (get_or ram i 0)
 
 -- a pending fault is at an address below 2^24: refusal 1 lets no other by, and a prefetch names no other
-abbrev pub Below : Pending → Type 0
-Below Pending.Nothing = Unit {0}
-Below (Pending.Held k va a) = va.0 < limit
+abbrev pub Below : Option Stall → Type 0
+Below None = Unit {0}
+Below (Some s) = s.at.0 < limit
 
 -- what a session keeps, part by part: on, walking, the base fixed, every slot in agreement
-pub record Kept (look : Look) (base control at : ℕ) (cam ram : List ℕ) (pending : Pending) : Type 0 where
+pub record Kept (look : Look) (base control at : ℕ) (cam ram : List ℕ) (pending : Option Stall) : Type 0 where
   pub on : is_on control ≡ true
   pub walking : is_walking control ≡ true
   pub base-is : at ≡ base

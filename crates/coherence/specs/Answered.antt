@@ -1,6 +1,7 @@
--- What keeps the promise from being hollow: a request or a retry that the paper does not refuse is answered (01, "When the unit says no").
-use Rattle.std.specs.Prelude.{◌%◌, ◌<◌, ◌≡◌}
-use Rattle.coherence.specs.Names.{ℕ, true, false, is_missing, money_ok, is_prefetch, is_refusal, limit, Pending, Access}
+-- What keeps the promise from being hollow: a request or a retry that the paper does not refuse is answered (01,
+-- "When the unit says no").
+use Rattle.std.specs.Prelude.{Some, None, ◌%◌, ◌<◌, ◌≡◌}
+use Rattle.coherence.specs.Names.{ℕ, true, false, is_missing, money_ok, is_prefetch, is_refusal, limit, stall, Access}
 use Rattle.coherence.specs.Names.{VirtualAddress, Lent, lent_ok, Bill, Prices, Fault, Answer, Device, in_range, acknowledge_at, request_of, write_of}
 use Rattle.coherence.specs.Names.{Look}
 use Rattle.coherence.specs.Agreement.{plain, Coherent}
@@ -23,7 +24,7 @@ RequestAnswered m base =
     (p : Prices) (b : Bill) (d : Device) (va : VirtualAddress) (a : Access) →
     Coherent (look_in m base) base d →
     Ready m p b d →
-    d.pending ≡ Pending.Nothing →
+    d.pending ≡ None →
     va.0 < limit →
     is_missing (look_in m base va).found ≡ false →
     Answered (look_in m base) va a (request_of m p b d va a).answer
@@ -34,7 +35,7 @@ RetryAnswered m base =
     (p : Prices) (b : Bill) (d : Device) (v : ℕ) (k : Fault) (va : VirtualAddress) (a : Access) →
     Coherent (look_in m base) base d →
     Ready m p b d →
-    d.pending ≡ Pending.Held k va a →
+    d.pending ≡ Some (stall k va a) →
     is_prefetch k ≡ false →
     v % 2 ≡ 1 →
     is_missing (look_in m base va).found ≡ false →

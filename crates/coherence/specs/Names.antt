@@ -4,7 +4,7 @@ pub use Rattle.bank.specs.Slots.{fresh_bank}
 unfoldable pub use Rattle.bill.specs.Bill.{money_ok}
 unfoldable pub use Rattle.decision.specs.Decisions.{by_access}
 pub use Rattle.decision.specs.Decisions.{by_walk}
-pub use Rattle.decision.specs.Names.{Access, Answer, Bill, Fault, Lent, Pending, Prices, VirtualAddress, lent_ok}
+pub use Rattle.decision.specs.Names.{Access, Answer, Bill, Fault, Lent, Stall, stall, Prices, VirtualAddress, lent_ok}
 pub use Rattle.lanes.specs.Lanes.{slots}
 pub use Rattle.page.specs.Ground.{Bool, List, [], eqb, false, get_or, length, not, true, ℕ}
 unfoldable pub use Rattle.page.specs.Pick.{◌and◌, pick}

@@ -1,7 +1,8 @@
--- A session: any calls but writes to control or base, each with its own prices and bill, and what each asks (01, demand 3).
-use Rattle.std.specs.Prelude.{◌%◌, ◌<◌, ◌≡◌, ◌∷◌}
+-- A session: any calls but writes to control or base, each with its own prices and bill, and what each asks (01,
+-- demand 3).
+use Rattle.std.specs.Prelude.{Option, Some, None, ◌%◌, ◌<◌, ◌≡◌, ◌∷◌}
 use Rattle.coherence.specs.Names.{ℕ, Bool, true, false, not, List, [], eqb, pick, ◌and◌, physical, limit, Lent, Bill}
-use Rattle.coherence.specs.Names.{fresh_bank, is_prefetch, is_refusal, no_entry, Pending, Access, VirtualAddress, Answer, Device, control_at}
+use Rattle.coherence.specs.Names.{fresh_bank, is_prefetch, is_refusal, no_entry, Stall, Access, VirtualAddress, Answer, Device, control_at}
 use Rattle.coherence.specs.Names.{acknowledge_at, base_high_at, base_low_at, one_of, Call, request, write, read, drop-fault, shift, Said, step}
 use Rattle.coherence.specs.Agreement.{plain}
 use Rattle.walk.specs.Uniform.{look_in}
@@ -38,9 +39,9 @@ pub data Asked : Type 0 where
   nothing : Asked
 
 -- what an acknowledgement asks: a pending prefetch is only dropped
-abbrev pub retried_of : Pending → Asked
-retried_of Pending.Nothing = nothing
-retried_of (Pending.Held k va a) = pick (is_prefetch k) nothing (asks va a)
+abbrev pub retried_of : Option Stall → Asked
+retried_of None = nothing
+retried_of (Some s) = pick (is_prefetch s.fault) nothing (asks s.at s.access)
 
 -- what a call asks of a device
 abbrev pub asked : Device → Call → Asked
@@ -55,7 +56,7 @@ abbrev pub started : ℕ → ℕ → Device
 started control base = record {
   registers = record { control = control; base = physical base; prefetch = 0; staged = no_entry; copied = no_entry };
   bank = fresh_bank;
-  pending = Pending.Nothing;
+  pending = None;
 }
 
 -- after any admitted calls, each request or retry that is not refused answers what the plain walk alone answers

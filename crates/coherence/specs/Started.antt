@@ -1,4 +1,5 @@
--- The start of a session: a fresh device, the base set to its two halves, on and walking (01, "Registers", "Bench sheet").
+-- The start of a session: a fresh device, the base set to its two halves, on and walking (01, "Registers", "Bench
+-- sheet").
 use Rattle.std.specs.Prelude.{◌+◌, ◌*◌, ◌/◌, ◌%◌, ◌^◌, ◌<◌, ◌≡◌, ◌∷◌}
 use Rattle.coherence.specs.Names.{ℕ, List, [], Lent, Bill, Prices, Device, fresh_device, control_at}
 use Rattle.coherence.specs.Names.{base_high_at, base_low_at, write}

@@ -3,19 +3,20 @@
 ghost use Rattle.std.specs.Prelude.{◌≡◌};
 ghost use Rattle.registers.specs.Table.{command_of, control_command, lock_command, load_command, when_bit};
 
-use registers::{Command, Setting, Tending, offsets};
+use registers::{Command, Setting, Tending, offsets, refusals};
 
 // What a write asks for, in the order of Table 3.
+#[tactic(auto, unfolding(registers::specs::Table::command_of, registers::specs::Table::listed, page::specs::Pick::pick))]
 pub fn command_at(offset: u32, v: u16) -> Command
     ensures { result ≡ command_of offset v }
 {
     match offset {
         offsets::PREFETCH => Command::Prefetch(v),
-        offsets::WALK_STATUS => Command::Refused(6),
+        offsets::WALK_STATUS => Command::Refused(refusals::ONE_WAY),
         offsets::CONTROL => control_command(v),
-        offsets::FAULT_HIGH => Command::Refused(6),
-        offsets::FAULT_LOW => Command::Refused(6),
-        offsets::FAULT_STATUS => Command::Refused(6),
+        offsets::FAULT_HIGH => Command::Refused(refusals::ONE_WAY),
+        offsets::FAULT_LOW => Command::Refused(refusals::ONE_WAY),
+        offsets::FAULT_STATUS => Command::Refused(refusals::ONE_WAY),
         offsets::ACKNOWLEDGE => Command::Acknowledge(v % 2 == 1),
         offsets::BASE_HIGH => Command::Set(Setting::BaseHigh(v)),
         offsets::BASE_LOW => Command::Set(Setting::BaseLow(v / 128 * 128)),
@@ -27,63 +28,61 @@ pub fn command_at(offset: u32, v: u16) -> Command
         offsets::RAM_LOW => Command::Set(Setting::RamLow(v / 256 * 256)),
         offsets::FLUSH => when_bit(v, Tending::Flush),
         offsets::ENTRY_FLUSH => when_bit(v, Tending::FlushEntry),
-        offsets::READ_CAM_HIGH => Command::Refused(6),
-        offsets::READ_CAM_LOW => Command::Refused(6),
-        offsets::READ_RAM_HIGH => Command::Refused(6),
-        offsets::READ_RAM_LOW => Command::Refused(6),
-        _ => Command::Refused(5),
+        offsets::READ_CAM_HIGH => Command::Refused(refusals::ONE_WAY),
+        offsets::READ_CAM_LOW => Command::Refused(refusals::ONE_WAY),
+        offsets::READ_RAM_HIGH => Command::Refused(refusals::ONE_WAY),
+        offsets::READ_RAM_LOW => Command::Refused(refusals::ONE_WAY),
+        _ => Command::Refused(refusals::NO_REGISTER),
     }
 }
 
 // A write of the control register.
-pub(crate) fn control_command(v: u16) -> Command
+#[tactic(auto, using(page::proofs::Picks::tests), unfolding(registers::specs::Table::control_command))]
+fn control_command(v: u16) -> Command
     ensures { result ≡ control_command v }
 {
     if v % 2 == 1 {
-        return Command::Set(Setting::Control(v / 32 % 2 * 32 + v % 8));
+        Command::Set(Setting::Control(v / 32 % 2 * 32 + v % 8))
+    } else {
+        Command::Reset
     }
-    Command::Reset
 }
 
 // A write of the lock register.
-#[tactic(auto, using(crate::proofs::Locks::base_refused, crate::proofs::Locks::victim_refused, crate::proofs::Locks::locked))]
-pub(crate) fn lock_command(v: u16) -> Command
+#[tactic(auto, using(page::proofs::Picks::tests), unfolding(registers::specs::Table::lock_command))]
+fn lock_command(v: u16) -> Command
     ensures { result ≡ lock_command v }
 {
     let lock = v / 1024;
     let victim = v / 16 % 64;
-    if lock >= 32 {
-        return Command::Refused(8);
+    if lock < 32 && victim < 32 {
+        Command::Tend(Tending::Lock(lock as u8, victim as u8))
+    } else {
+        Command::Refused(refusals::RANGE)
     }
-    if victim >= 32 {
-        return Command::Refused(8);
-    }
-    Command::Tend(Tending::Lock(lock as u8, victim as u8))
 }
 
 // A write of the load register.
-pub(crate) fn load_command(v: u16) -> Command
+#[tactic(auto, using(page::proofs::Picks::tests), unfolding(registers::specs::Table::load_command))]
+fn load_command(v: u16) -> Command
     ensures { result ≡ load_command v }
 {
-    let bits = v % 4;
-    if bits == 0 {
-        return Command::Nothing;
+    match v % 4 {
+        0 => Command::Nothing,
+        1 => Command::Load,
+        2 => Command::Copy,
+        _ => Command::Refused(refusals::RANGE),
     }
-    if bits == 1 {
-        return Command::Load;
-    }
-    if bits == 2 {
-        return Command::Copy;
-    }
-    Command::Refused(8)
 }
 
 // A write of a flush register.
-pub(crate) fn when_bit(v: u16, t: Tending) -> Command
+#[tactic(auto, using(page::proofs::Picks::tests), unfolding(registers::specs::Table::when_bit))]
+fn when_bit(v: u16, t: Tending) -> Command
     ensures { result ≡ when_bit v t }
 {
     if v % 2 == 1 {
-        return Command::Tend(t);
+        Command::Tend(t)
+    } else {
+        Command::Nothing
     }
-    Command::Nothing
 }

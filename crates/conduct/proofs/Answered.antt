@@ -1,6 +1,7 @@
 -- Demand 2: one acknowledgement suffices, and off is virtual. Assumes nothing.
-use Rattle.conduct.specs.Names.{◌≡◌, Bool, true, false, ℕ, ◌%◌, eqb, get_or, pick, physical, permits, word_access, word_address, Seen, Matched}
-use Rattle.conduct.specs.Names.{is_prefetch, is_on, listed, Pending, look, acknowledge_at, request, write, read, drop-fault, shift, Said, Access}
+use Rattle.std.proofs.Common.{None, Some}
+use Rattle.conduct.specs.Names.{◌≡◌, Bool, true, false, ℕ, ◌%◌, eqb, get_or, pick, physical, permits, word_access, word_address, Seen}
+use Rattle.conduct.specs.Names.{is_prefetch, is_on, listed, stall, look, acknowledge_at, request, write, read, drop-fault, shift, Said, Access}
 use Rattle.conduct.specs.Names.{VirtualAddress, Lent, Bill, Prices, Fault, Answer, Decision, Device, Outcome}
 use Rattle.conduct.proofs.Names.{refl, sym, ◌∙◌, ap, subst, false≢true, eq-eqb, pick_yes, pick_no, found, command_of, by_access, metered_once}
 use Rattle.conduct.proofs.Names.{decided-on, decided_by, attempt_of, retried, carried, Attempted, nothing, attempt, prefetch, attempted}
@@ -19,11 +20,11 @@ module _ (m : Lent) (d : Device) (b : Bill) (p : Prices) where
       → decided_by (look m d va) d va a ≡ plainly (Answer.Address (word_address (get_or d.bank.cam i 0) (get_or d.bank.ram i 0) va)) Seen.Match
   unfolding by_access
   attempt_permitted again va a i on l h =
-      decided-on (look m d va) d.registers.control d.bank.cam d.bank.ram va a (Matched.At i) on (found d.bank.cam va i l.slot l.matches l.below)
+      decided-on (look m d va) d.registers.control d.bank.cam d.bank.ram va a (Some i) on (found d.bank.cam va i l.slot l.matches l.below)
       ∙ ap (λ (r : Answer). plainly r Seen.Match) (pick_yes _ _ _ h)
 
   -- an acknowledgement with bit 0 of a fault that is no prefetch retries it
-  acknowledged : (v : ℕ) (k : Fault) (va : VirtualAddress) (a : Access) → d.pending ≡ Pending.Held k va a → is_prefetch k ≡ false → v % 2 ≡ 1
+  acknowledged : (v : ℕ) (k : Fault) (va : VirtualAddress) (a : Access) → d.pending ≡ Some (stall k va a) → is_prefetch k ≡ false → v % 2 ≡ 1
       → carried m p b d (command_of acknowledge_at v) ≡ attempt_of m p b true d va a
   unfolding command_of listed pick
   acknowledged v k va a e n h =
@@ -36,12 +37,12 @@ one_acknowledgement m d b p v k va a i on e n l h g =
   where
     Answers : Outcome → Type 0
     Answers x =
-        (Said.Answered x.answer ≡ Said.Answered (Answer.Address (word_address (get_or d.bank.cam i 0) (get_or d.bank.ram i 0) va))) × (x.device.pending ≡ Pending.Nothing)
+        (Said.Answered x.answer ≡ Said.Answered (Answer.Address (word_address (get_or d.bank.cam i 0) (get_or d.bank.ram i 0) va))) × (x.device.pending ≡ None)
 
 -- off
 module _ (b : Bill) (again : Bool) (va : VirtualAddress) (a : Access) where
   abbrev Virtual : Outcome → Type 0
-  Virtual x = (Said.Answered x.answer ≡ Said.Answered (Answer.Address (physical va.0))) × (x.tally.words ≡ 0) × (x.bill ≡ b) × (x.device.pending ≡ Pending.Nothing)
+  Virtual x = (Said.Answered x.answer ≡ Said.Answered (Answer.Address (physical va.0))) × (x.tally.words ≡ 0) × (x.bill ≡ b) × (x.device.pending ≡ None)
 
   abbrev Off : Attempted → Outcome → Type 0
   Off q x = q ≡ attempt again va a → Virtual x

@@ -1,8 +1,11 @@
 -- Demand 2: what a request or a retry answers while the unit is on, a prefetch and a shift report. Assumes nothing.
+use Rattle.decision.specs.declared.ShiftError.{ShiftError}
+use Rattle.std.proofs.Common.{Result, Ok, Err, Option, Some, None}
+use Rattle.walk.specs.declared.Unfound.{Unfound}
 use Rattle.conduct.specs.Names.{◌≡◌, Bool, true, false, not, ℕ, ◌<◌, get_or, pick, limit, permits, word_access, word_address, physical_of, slots}
-use Rattle.conduct.specs.Names.{looked_up, is_refusal, is_on, is_walking, listed, Fault, Answer, page_at, Shift, in_range, look, cleared, prefetch_at}
+use Rattle.conduct.specs.Names.{looked_up, is_refusal, is_on, is_walking, listed, Fault, Answer, page_at, in_range, look, cleared, prefetch_at}
 use Rattle.conduct.specs.Names.{no_match, drop_refusals, request, write, read, drop-fault, shift, Said, Access, VirtualAddress, PhysicalAddress}
-use Rattle.conduct.specs.Names.{Lent, lent_ok, Reads, Page, Found, Bill, Prices, Matched, Decision, Device, Outcome, Told}
+use Rattle.conduct.specs.Names.{Lent, lent_ok, Reads, Page, Bill, Prices, Decision, Device, Outcome, Told}
 use Rattle.conduct.proofs.Names.{refl, sym, ◌∙◌, ap, subst, true≢false, false≢true, pick_yes, pick_no, is_missing, found, command_of, by_access}
 use Rattle.conduct.proofs.Names.{by_found, prefetch_found, prefetch_matched, prefetch_decided, shift_by, decided-on, refuses, told, told_refused}
 use Rattle.conduct.proofs.Names.{decided_by, attempt_of, lacks, write_of, drop_of, shift_of, refuses_by, Accepted, Attempted, nothing, attempt}
@@ -17,12 +20,12 @@ use Rattle.conduct.proofs.Writes.{write_by_lem}
 use Rattle.conduct.proofs.Calls.{accepted-request, accepted-write}
 
 -- a search that no slot answers finds nothing
-no_slot : (d : Device) (va : VirtualAddress) → NoSlot d va → looked_up d.bank.cam va ≡ Matched.Nothing
+no_slot : (d : Device) (va : VirtualAddress) → NoSlot d va → looked_up d.bank.cam va ≡ None
 no_slot d va n = by (looked_up d.bank.cam va) (lowest d.bank.cam va)
   where
-    by : (x : Matched) → Lowest d.bank.cam va slots 0 x → x ≡ Matched.Nothing
-    by (Matched.At k) h = absurd (true≢false (sym h.1.0 ∙ n k h.0))
-    by Matched.Nothing h = refl
+    by : (x : Option ℕ) → Lowest d.bank.cam va slots 0 x → x ≡ None
+    by (Some k) h = absurd (true≢false (sym h.1.0 ∙ n k h.0))
+    by None h = refl
 
 -- an access that is permitted answers the byte, one that is not 23
 module _ (bits : ℕ) (at : PhysicalAddress) (a : Access) where
@@ -36,11 +39,11 @@ module _ (bits : ℕ) (at : PhysicalAddress) (a : Access) where
 
 -- what is found is what is answered
 module _ (va : VirtualAddress) (a : Access) (r : Reads) where
-  found-answers : (f : Found) → is_missing f ≡ false → WalkAnswers f va a (Said.Answered (by_found va a r f).answer)
+  found-answers : (f : Result Page Unfound) → is_missing f ≡ false → WalkAnswers f va a (Said.Answered (by_found va a r f).answer)
   unfolding by_found
-  found-answers Found.Missing h = absurd (true≢false h)
-  found-answers Found.NoPage h = record { byte = λ g e t. cc; refused = λ g e t. cc; none = λ _. refl; there = λ e. absurd (false≢true (ap is_missing e)) }
-  found-answers (Found.Page p) h = record {
+  found-answers (Err Unfound.Missing) h = absurd (true≢false h)
+  found-answers (Err Unfound.NoPage) h = record { byte = λ g e t. cc; refused = λ g e t. cc; none = λ _. refl; there = λ e. absurd (false≢true (ap is_missing e)) }
+  found-answers (Ok p) h = record {
     byte = λ g e t. let q : p ≡ g = cc in ap Said.Answered (access_yes _ _ a (ap (λ (x : Page). permits x.access a) q ∙ t) ∙ ap (λ (x : Page). Answer.Address (physical_of x va)) q);
     refused = λ g e t. let q : p ≡ g = cc in ap Said.Answered (access_no _ _ a (ap (λ (x : Page). permits x.access a) q ∙ t));
     none = λ e. cc;
@@ -54,7 +57,7 @@ module _ (m : Lent) (d : Device) (va : VirtualAddress) (a : Access) (on : is_on 
   at_slot : (i : ℕ) → LowestMatch d va i → x.answer ≡ by_access (word_access (get_or d.bank.ram i 0)) (word_address (get_or d.bank.cam i 0) (get_or d.bank.ram i 0) va) a
   at_slot i l =
       ap (λ (y : Decision). y.answer)
-      (decided-on (look m d va) d.registers.control d.bank.cam d.bank.ram va a (Matched.At i) on (found d.bank.cam va i l.slot l.matches l.below))
+      (decided-on (look m d va) d.registers.control d.bank.cam d.bank.ram va a (Some i) on (found d.bank.cam va i l.slot l.matches l.below))
 
   is-there : NoSlot d va → is_walking d.registers.control ≡ true → is_missing (look m d va).found ≡ false
   unfolding lacks
@@ -109,19 +112,19 @@ answers-on m d b (shift x) again va a on e h = no_attempt again va a nothing ref
 
 -- a prefetch
 module _ (m : Lent) (d : Device) (va : VirtualAddress) where
-  matched_answers : (x : Matched) → looked_up d.bank.cam va ≡ x → (prefetch_decided (look m d va) d.bank.cam va).answer ≡ (prefetch_matched (look m d va) va x).answer
+  matched_answers : (x : Option ℕ) → looked_up d.bank.cam va ≡ x → (prefetch_decided (look m d va) d.bank.cam va).answer ≡ (prefetch_matched (look m d va) va x).answer
   unfolding prefetch_decided
-  matched_answers x e = ap (λ (y : Matched). (prefetch_matched (look m d va) va y).answer) e
+  matched_answers x e = ap (λ (y : Option ℕ). (prefetch_matched (look m d va) va y).answer) e
 
-  walk-answers : NoSlot d va → (f : Found) → (look m d va).found ≡ f → (prefetch_decided (look m d va) d.bank.cam va).answer ≡ (prefetch_found va (look m d va).reads f).answer
-  walk-answers n f e = matched_answers Matched.Nothing (no_slot d va n) ∙ ap (λ (y : Found). (prefetch_found va (look m d va).reads y).answer) e
+  walk-answers : NoSlot d va → (f : Result Page Unfound) → (look m d va).found ≡ f → (prefetch_decided (look m d va) d.bank.cam va).answer ≡ (prefetch_found va (look m d va).reads f).answer
+  walk-answers n f e = matched_answers None (no_slot d va n) ∙ ap (λ (y : Result Page Unfound). (prefetch_found va (look m d va).reads y).answer) e
 
   fetch_answers : PrefetchAnswers m d va (Said.Answered (prefetch_decided (look m d va) d.bank.cam va).answer)
   unfolding prefetch_found
   fetch_answers = record {
-    match = λ i l. ap Said.Answered (matched_answers (Matched.At i) (found d.bank.cam va i l.slot l.matches l.below));
-    page = λ g n e. ap Said.Answered (walk-answers n (Found.Page g) e);
-    none = λ n e. ap Said.Answered (walk-answers n Found.NoPage e);
+    match = λ i l. ap Said.Answered (matched_answers (Some i) (found d.bank.cam va i l.slot l.matches l.below));
+    page = λ g n e. ap Said.Answered (walk-answers n (Ok g) e);
+    none = λ n e. ap Said.Answered (walk-answers n (Err Unfound.NoPage) e);
   }
 
 pub prefetch-answered : PrefetchAnswered
@@ -130,15 +133,15 @@ prefetch-answered m d b v p =
     accepted-write m p b d (λ (x : Outcome). PrefetchAnswers m d (page_at v) (Said.Answered x.answer)) prefetch_at v (λ _. fetch_answers m d (page_at v))
 
 -- a shift report
-found_tells : (va : VirtualAddress) (f : Found) → ShiftTells va f (pick (is_missing f) (Shift.Refused 3) (shift_by va f))
+found_tells : (va : VirtualAddress) (f : Result Page Unfound) → ShiftTells va f (pick (is_missing f) (Err (ShiftError.Refused 3)) (shift_by va f))
 unfolding pick
-found_tells va (Found.Page g) = record { number = refl; values = refl }
-found_tells va Found.NoPage = record { number = refl; values = refl }
-found_tells va Found.Missing = record { number = refl; values = refl }
+found_tells va (Ok g) = record { number = refl; values = refl }
+found_tells va (Err Unfound.NoPage) = record { number = refl; values = refl }
+found_tells va (Err Unfound.Missing) = record { number = refl; values = refl }
 
 shift_is :
     (m : Lent) (d : Device) (va : VirtualAddress) → in_range d ≡ true → va.0 < limit → lent_ok m ≡ true
-    → shift_of m d va ≡ pick (is_missing (look m d va).found) (Shift.Refused 3) (shift_by va (look m d va).found)
+    → shift_of m d va ≡ pick (is_missing (look m d va).found) (Err (ShiftError.Refused 3)) (shift_by va (look m d va).found)
 unfolding shift_of refuses
 shift_is m d va r l o = pick_no _ _ _ (ap not r) ∙ pick_no _ _ _ (lt-leb limit va.0 l) ∙ pick_no _ _ _ (ap not o)
 

@@ -1,6 +1,9 @@
 -- What a request, a retry or a prefetch comes to, by the plain walk of its address. Assumes nothing.
-use Rattle.conduct.specs.Names.{◌≡◌, Bool, true, false, List, ℕ, get_or, pick, ◌and◌, word_access, looked_up, Fill, is_refusal, is_on, is_walking}
-use Rattle.conduct.specs.Names.{look, no_match, Access, VirtualAddress, PhysicalAddress, Lent, Reads, Found, Walked, Seen, Matched, Answer}
+use Rattle.std.proofs.Common.{Result, Ok, Err, Option, Some, None}
+use Rattle.walk.specs.declared.Unfound.{Unfound}
+use Rattle.walk.specs.declared.Page.{Page}
+use Rattle.conduct.specs.Names.{◌≡◌, Bool, true, false, List, ℕ, get_or, pick, ◌and◌, word_access, looked_up, is_refusal, is_on, is_walking}
+use Rattle.conduct.specs.Names.{look, no_match, Access, VirtualAddress, PhysicalAddress, Lent, Reads, Walked, Seen, Answer}
 use Rattle.conduct.specs.Names.{Decision, Device}
 use Rattle.conduct.proofs.Names.{refl, sym, ◌∙◌, ap, true≢false, false≢true, pick_yes, pick_no, pick_by, and_left, and_right, is_missing}
 use Rattle.conduct.proofs.Names.{by_access, by_found, by_matched, decided, metered_once, decided-on, decided_by, lacks, walks_for, reads_for}
@@ -31,63 +34,63 @@ met_tally again n Answer.Done h = absurd (false≢true h)
 met_tally again n (Answer.Refused k) h = absurd (false≢true h)
 
 -- a page, or none, is a decision that fills, reads and is seen so
-found_fill : (va : VirtualAddress) (a : Access) (r : Reads) (f : Found) → (by_found va a r f).fill ≡ page_fill va f
+found_fill : (va : VirtualAddress) (a : Access) (r : Reads) (f : Result Page Unfound) → (by_found va a r f).fill ≡ page_fill va f
 unfolding by_found
-found_fill va a r Found.Missing = refl
-found_fill va a r Found.NoPage = refl
-found_fill va a r (Found.Page p) = refl
+found_fill va a r (Err Unfound.Missing) = refl
+found_fill va a r (Err Unfound.NoPage) = refl
+found_fill va a r (Ok p) = refl
 
 access_met : (bits : ℕ) (at : PhysicalAddress) (a : Access) → is_met (by_access bits at a) ≡ true
 unfolding by_access
 access_met bits at a = pick_by (λ (r : Answer). is_met r ≡ true) _ _ _ (λ _. refl) (λ _. refl)
 
 module _ (va : VirtualAddress) (a : Access) (r : Reads) where
-  found_met : (f : Found) → is_missing f ≡ false → is_met (by_found va a r f).answer ≡ true
+  found_met : (f : Result Page Unfound) → is_missing f ≡ false → is_met (by_found va a r f).answer ≡ true
   unfolding by_found
-  found_met Found.Missing h = absurd (true≢false h)
-  found_met Found.NoPage h = refl
-  found_met (Found.Page p) h = access_met p.access _ a
+  found_met (Err Unfound.Missing) h = absurd (true≢false h)
+  found_met (Err Unfound.NoPage) h = refl
+  found_met (Ok p) h = access_met p.access _ a
 
-  found_reads : (f : Found) → is_missing f ≡ false → (by_found va a r f).reads ≡ r
+  found_reads : (f : Result Page Unfound) → is_missing f ≡ false → (by_found va a r f).reads ≡ r
   unfolding by_found
-  found_reads Found.Missing h = absurd (true≢false h)
-  found_reads Found.NoPage h = refl
-  found_reads (Found.Page p) h = refl
+  found_reads (Err Unfound.Missing) h = absurd (true≢false h)
+  found_reads (Err Unfound.NoPage) h = refl
+  found_reads (Ok p) h = refl
 
-  found_seen : (f : Found) → is_missing f ≡ false → (by_found va a r f).seen ≡ Seen.NoMatch
+  found_seen : (f : Result Page Unfound) → is_missing f ≡ false → (by_found va a r f).seen ≡ Seen.NoMatch
   unfolding by_found
-  found_seen Found.Missing h = absurd (true≢false h)
-  found_seen Found.NoPage h = refl
-  found_seen (Found.Page p) h = refl
+  found_seen (Err Unfound.Missing) h = absurd (true≢false h)
+  found_seen (Err Unfound.NoPage) h = refl
+  found_seen (Ok p) h = refl
 
 -- a decision that neither fills nor reads
 abbrev pub Still : Decision → Type 0
-Still x = (x.fill ≡ Fill.Nothing) × (x.reads ≡ Reads.Nothing)
+Still x = (x.fill ≡ None) × (x.reads ≡ Reads.Nothing)
 
 module _ (w : Walked) (c : ℕ) (cam ram : List ℕ) (va : VirtualAddress) (a : Access) where
-  abbrev by : Matched → Decision
+  abbrev by : Option ℕ → Decision
   by x = by_matched w c cam ram va a x
 
-  matched_met : (x : Matched) → (no_match x and is_walking c and is_missing w.found) ≡ false → is_met (by x).answer ≡ true
-  matched_met (Matched.At i) h = access_met (word_access (get_or ram i 0)) _ a
-  matched_met Matched.Nothing h =
+  matched_met : (x : Option ℕ) → (no_match x and is_walking c and is_missing w.found) ≡ false → is_met (by x).answer ≡ true
+  matched_met (Some i) h = access_met (word_access (get_or ram i 0)) _ a
+  matched_met None h =
       pick_by (λ (x : Decision). is_met x.answer ≡ true) _ _ _
       (λ e. found_met va a w.reads w.found (rest _ _ e (rest true _ refl h))) (λ _. refl)
 
-  matched_seen : (x : Matched) → (no_match x and is_walking c and is_missing w.found) ≡ false → (by x).seen ≡ pick (no_match x) Seen.NoMatch Seen.Match
-  matched_seen (Matched.At i) h = sym (pick_no _ _ _ refl)
-  matched_seen Matched.Nothing h =
+  matched_seen : (x : Option ℕ) → (no_match x and is_walking c and is_missing w.found) ≡ false → (by x).seen ≡ pick (no_match x) Seen.NoMatch Seen.Match
+  matched_seen (Some i) h = sym (pick_no _ _ _ refl)
+  matched_seen None h =
       pick_by (λ (x : Decision). x.seen ≡ Seen.NoMatch) _ _ _
       (λ e. found_seen va a w.reads w.found (rest _ _ e (rest true _ refl h))) (λ _. refl)
       ∙ sym (pick_yes _ _ _ refl)
 
-  matched_still : (x : Matched) → (no_match x and is_walking c) ≡ false → Still (by x)
-  matched_still (Matched.At i) h = (refl, refl)
-  matched_still Matched.Nothing h = pick_by Still _ _ _ (λ e. absurd (true≢false (sym e ∙ rest true _ refl h))) (λ _. (refl, refl))
+  matched_still : (x : Option ℕ) → (no_match x and is_walking c) ≡ false → Still (by x)
+  matched_still (Some i) h = (refl, refl)
+  matched_still None h = pick_by Still _ _ _ (λ e. absurd (true≢false (sym e ∙ rest true _ refl h))) (λ _. (refl, refl))
 
-  matched_walks : (x : Matched) → (no_match x and is_walking c) ≡ true → by x ≡ by_walk va a w
-  matched_walks (Matched.At i) h = absurd (false≢true (and_left false _ h))
-  matched_walks Matched.Nothing h = pick_yes _ _ _ (and_right true _ h)
+  matched_walks : (x : Option ℕ) → (no_match x and is_walking c) ≡ true → by x ≡ by_walk va a w
+  matched_walks (Some i) h = absurd (false≢true (and_left false _ h))
+  matched_walks None h = pick_yes _ _ _ (and_right true _ h)
 
 module _ (m : Lent) (d : Device) (va : VirtualAddress) where
   -- a decision fills what the walk for the address finds and reads its words

@@ -1,9 +1,13 @@
--- Demand 2, the place stands beside the rest: nothing else depends on where a word lies, and the bill only on which memory holds it.
--- Assumes nothing.
-use Rattle.conduct.specs.Names.{◌≡◌, Bool, true, false, List, ℕ, ◌%◌, ◌^◌, ◌and◌, Lent, Place, Reads, Found, Walked, word_count, reads_posted}
+-- Demand 2, the place stands beside the rest: nothing else depends on where a word lies, and the bill only on which
+-- memory holds it. Assumes nothing.
+use Rattle.page.specs.declared.Words.{Words}
+use Rattle.std.proofs.Common.{Result, Ok, Err, Option, Some, None}
+use Rattle.walk.specs.declared.Unfound.{Unfound}
+use Rattle.walk.specs.declared.Page.{Page}
+use Rattle.conduct.specs.Names.{◌≡◌, Bool, true, false, List, ℕ, ◌%◌, ◌^◌, ◌and◌, Lent, Place, Reads, Walked, word_count, reads_posted}
 use Rattle.conduct.specs.Names.{seen_posted, looked_up, is_prefetch, is_on, is_walking, no_match, page_at, look, nowhere, moved_walked}
 use Rattle.conduct.specs.Names.{request_refusals, write_refusals, Refusals, Call, request, write, read, drop-fault, shift, Said, step_out, step}
-use Rattle.conduct.specs.Names.{Access, VirtualAddress, Tally, Bill, Prices, Fill, Matched, Pending, Answer, Decision, Command}
+use Rattle.conduct.specs.Names.{Access, VirtualAddress, Tally, Bill, Prices, Stall, Answer, Decision, Command}
 use Rattle.conduct.specs.Names.{Outcome, Device}
 use Rattle.conduct.proofs.Names.{refl, sym, ◌∙◌, ap, ap₂, is_missing, by_found, by_matched, decided, prefetch_found, prefetch_matched}
 use Rattle.conduct.proofs.Names.{prefetch_decided, prefetch_kept, command_of, refuses, refused_with, attempt_of, lacks, write_lacks, request_of, prefetched}
@@ -24,7 +28,7 @@ use Rattle.conduct.proofs.Refused.{nothing_changes}
 use Rattle.conduct.proofs.Metered.{billed}
 
 -- what a decision says and fills, and how many words it read
-abbrev counted : Decision → Answer × Fill × ℕ
+abbrev counted : Decision → Answer × (Option Words) × ℕ
 counted x = (x.answer, x.fill, word_count x.reads)
 
 abbrev Alike : Decision → Decision → Type 0
@@ -32,34 +36,34 @@ Alike x y = counted x ≡ counted y
 
 -- walks that find the same and read as many words come to such decisions
 module _ (va : VirtualAddress) (r r' : Reads) (e : word_count r ≡ word_count r') where
-  found_alike : (a : Access) (f : Found) → Alike (by_found va a r f) (by_found va a r' f)
+  found_alike : (a : Access) (f : Result Page Unfound) → Alike (by_found va a r f) (by_found va a r' f)
   unfolding by_found
-  found_alike a Found.Missing = refl
-  found_alike a Found.NoPage = ap (λ (n : ℕ). ((by_found va a r Found.NoPage).answer, Fill.Nothing, n)) e
-  found_alike a (Found.Page p) = ap (λ (n : ℕ). ((by_found va a r (Found.Page p)).answer, (by_found va a r (Found.Page p)).fill, n)) e
+  found_alike a (Err Unfound.Missing) = refl
+  found_alike a (Err Unfound.NoPage) = ap (λ (n : ℕ). ((by_found va a r (Err Unfound.NoPage)).answer, None, n)) e
+  found_alike a (Ok p) = ap (λ (n : ℕ). ((by_found va a r (Ok p)).answer, (by_found va a r (Ok p)).fill, n)) e
 
-  ahead_alike : (f : Found) → Alike (prefetch_found va r f) (prefetch_found va r' f)
+  ahead_alike : (f : Result Page Unfound) → Alike (prefetch_found va r f) (prefetch_found va r' f)
   unfolding prefetch_found
-  ahead_alike Found.Missing = refl
-  ahead_alike Found.NoPage = ap (λ (n : ℕ). ((prefetch_found va r Found.NoPage).answer, Fill.Nothing, n)) e
-  ahead_alike (Found.Page p) = ap (λ (n : ℕ). (Answer.Done, (prefetch_found va r (Found.Page p)).fill, n)) e
+  ahead_alike (Err Unfound.Missing) = refl
+  ahead_alike (Err Unfound.NoPage) = ap (λ (n : ℕ). ((prefetch_found va r (Err Unfound.NoPage)).answer, None, n)) e
+  ahead_alike (Ok p) = ap (λ (n : ℕ). (Answer.Done, (prefetch_found va r (Ok p)).fill, n)) e
 
 module _ (w w' : Walked) (f : w.found ≡ w'.found) (e : word_count w.reads ≡ word_count w'.reads) (va : VirtualAddress) where
   module _ (c : ℕ) (cam ram : List ℕ) (a : Access) where
-    matched_alike : (x : Matched) → Alike (by_matched w c cam ram va a x) (by_matched w' c cam ram va a x)
-    matched_alike (Matched.At i) = refl
-    matched_alike Matched.Nothing =
+    matched_alike : (x : Option ℕ) → Alike (by_matched w c cam ram va a x) (by_matched w' c cam ram va a x)
+    matched_alike (Some i) = refl
+    matched_alike None =
         pick-both Alike (is_walking c) _ _ _ _
-        (λ _. found_alike va w.reads w'.reads e a w.found ∙ ap (λ (g : Found). counted (by_found va a w'.reads g)) f) (λ _. refl)
+        (λ _. found_alike va w.reads w'.reads e a w.found ∙ ap (λ (g : Result Page Unfound). counted (by_found va a w'.reads g)) f) (λ _. refl)
 
     decided_alike : Alike (decided w c cam ram va a) (decided w' c cam ram va a)
     unfolding decided
     decided_alike = pick-both Alike (is_on c) _ _ _ _ (λ _. matched_alike (looked_up cam va)) (λ _. refl)
 
   module _ (cam : List ℕ) where
-    prefetch_by : (x : Matched) → Alike (prefetch_matched w va x) (prefetch_matched w' va x)
-    prefetch_by (Matched.At i) = refl
-    prefetch_by Matched.Nothing = ahead_alike va w.reads w'.reads e w.found ∙ ap (λ (g : Found). counted (prefetch_found va w'.reads g)) f
+    prefetch_by : (x : Option ℕ) → Alike (prefetch_matched w va x) (prefetch_matched w' va x)
+    prefetch_by (Some i) = refl
+    prefetch_by None = ahead_alike va w.reads w'.reads e w.found ∙ ap (λ (g : Result Page Unfound). counted (prefetch_found va w'.reads g)) f
 
     prefetch_alike : Alike (prefetch_decided w cam va) (prefetch_decided w' cam va)
     unfolding prefetch_decided
@@ -89,11 +93,11 @@ module _ (m m' : Lent) (d : Device) (h : AlikeBut nowhere m m' d) where
   same_lacks : (va : VirtualAddress) → lacks m d va ≡ lacks m' d va
   unfolding lacks
   same_lacks va =
-      ap (λ (f : Found). is_on d.registers.control and no_match (looked_up d.bank.cam va) and is_walking d.registers.control and is_missing f) (same_found va)
+      ap (λ (f : Result Page Unfound). is_on d.registers.control and no_match (looked_up d.bank.cam va) and is_walking d.registers.control and is_missing f) (same_found va)
 
-  retry_lacks_lem : (q : Pending) → retry_lacks m d q ≡ retry_lacks m' d q
-  retry_lacks_lem Pending.Nothing = refl
-  retry_lacks_lem (Pending.Held k va a) = rw (same_lacks va)
+  retry_lacks_lem : (q : Option Stall) → retry_lacks m d q ≡ retry_lacks m' d q
+  retry_lacks_lem None = refl
+  retry_lacks_lem (Some s) = rw (same_lacks s.at)
 
   write_lacks_lem : (o v : ℕ) → write_lacks m d o v ≡ write_lacks m' d o v
   unfolding write_lacks
@@ -102,21 +106,21 @@ module _ (m m' : Lent) (d : Device) (h : AlikeBut nowhere m m' d) where
   module _ (p : Prices) (b : Bill) where
     attempt_same : (again : Bool) (va : VirtualAddress) (a : Access) → Same (attempt_of m p b again d va a) (attempt_of m' p b again d va a)
     attempt_same again va a =
-        ap (λ (x : Answer × Fill × ℕ). (applied d x.1 x.0 va a, tally_of again x.2 x.0, x.0))
+        ap (λ (x : Answer × (Option Words) × ℕ). (applied d x.1 x.0 va a, tally_of again x.2 x.0, x.0))
         (decided_alike (look m d va) (look m' d va) (same_found va) (same_count va) va d.registers.control d.bank.cam d.bank.ram a)
 
     prefetch_same : (v : ℕ) → Same (prefetched m p b d v) (prefetched m' p b d v)
     prefetch_same v =
-        ap (λ (x : Answer × Fill × ℕ). (
+        ap (λ (x : Answer × (Option Words) × ℕ). (
           applied (set_registers d (with_prefetch d.registers (prefetch_kept (v % 2 ^ 14) d.registers.prefetch x.0))) x.1 x.0 (page_at v) Access.Read,
           words_only x.2,
           x.0,
         ))
         (prefetch_alike (look m d (page_at v)) (look m' d (page_at v)) (same_found (page_at v)) (same_count (page_at v)) (page_at v) d.bank.cam)
 
-    retried_same : (q : Pending) → Same (retried m p b d q) (retried m' p b d q)
-    retried_same Pending.Nothing = refl
-    retried_same (Pending.Held k va a) = pick-both Same (is_prefetch k) _ _ _ _ (λ _. refl) (λ _. attempt_same true va a)
+    retried_same : (q : Option Stall) → Same (retried m p b d q) (retried m' p b d q)
+    retried_same None = refl
+    retried_same (Some s) = pick-both Same (is_prefetch s.fault) _ _ _ _ (λ _. refl) (λ _. attempt_same true s.at s.access)
 
     carried_same : (c : Command) → Same (carried m p b d c) (carried m' p b d c)
     carried_same (Command.Refused k) = refl

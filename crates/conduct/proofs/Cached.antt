@@ -1,7 +1,10 @@
 -- Demand 2: a translation fault is never cached. Assumes nothing.
-use Rattle.conduct.specs.Names.{◌≡◌, Bool, true, false, List, ℕ, looked_up, Fill, page_at, look, cleared, request_refusals, write_refusals}
+use Rattle.std.proofs.Common.{Result, Ok, Err, Option, Some, None}
+use Rattle.walk.specs.declared.Unfound.{Unfound}
+use Rattle.walk.specs.declared.Page.{Page}
+use Rattle.conduct.specs.Names.{◌≡◌, Bool, true, false, List, ℕ, looked_up, page_at, look, cleared, request_refusals, write_refusals}
 use Rattle.conduct.specs.Names.{read_refusals, drop_refusals, Call, request, write, read, drop-fault, shift, Said, step, Access, VirtualAddress}
-use Rattle.conduct.specs.Names.{PhysicalAddress, Lent, Reads, Found, Walked, Bill, Matched, Fault, Answer, Decision, Device, Outcome, Told}
+use Rattle.conduct.specs.Names.{PhysicalAddress, Lent, Reads, Walked, Bill, Fault, Answer, Decision, Device, Outcome, Told}
 use Rattle.conduct.proofs.Names.{refl, sym, ◌∙◌, ap, subst, false≢true, pick_by, entry_filled, command_of, value_at, by_access, by_found}
 use Rattle.conduct.proofs.Names.{prefetch_found, prefetch_matched, prefetch_decided, told, told_refused, refused_with, decided_by, attempt_of}
 use Rattle.conduct.proofs.Names.{request_of, carried, write_of, read_of, drop_of, Attempted, walks_for, refuses_by}
@@ -24,17 +27,17 @@ is_unmapped (Answer.Refused k) = false
 
 -- a decision that answers a translation fault fills nothing
 abbrev Uncached : Decision → Type 0
-Uncached x = is_unmapped x.answer ≡ true → x.fill ≡ Fill.Nothing
+Uncached x = is_unmapped x.answer ≡ true → x.fill ≡ None
 
 access_mapped : (bits : ℕ) (at : PhysicalAddress) (a : Access) → is_unmapped (by_access bits at a) ≡ false
 unfolding by_access
 access_mapped bits at a = pick_by (λ (r : Answer). is_unmapped r ≡ false) _ _ _ (λ _. refl) (λ _. refl)
 
-found_uncached : (va : VirtualAddress) (a : Access) (r : Reads) (f : Found) → Uncached (by_found va a r f)
+found_uncached : (va : VirtualAddress) (a : Access) (r : Reads) (f : Result Page Unfound) → Uncached (by_found va a r f)
 unfolding by_found
-found_uncached va a r Found.Missing = λ _. refl
-found_uncached va a r Found.NoPage = λ _. refl
-found_uncached va a r (Found.Page p) = λ e. absurd (false≢true (sym (access_mapped p.access _ a) ∙ e))
+found_uncached va a r (Err Unfound.Missing) = λ _. refl
+found_uncached va a r (Err Unfound.NoPage) = λ _. refl
+found_uncached va a r (Ok p) = λ e. absurd (false≢true (sym (access_mapped p.access _ a) ∙ e))
 
 attempt_uncached : (m : Lent) (d : Device) (va : VirtualAddress) (a : Access) → Uncached (decided_by (look m d va) d va a)
 attempt_uncached m d va a = by (walks_for d va) refl
@@ -43,15 +46,15 @@ attempt_uncached m d va a = by (walks_for d va) refl
     by false e = λ _. (decided_still m d va a e).0
     by true e = subst Uncached (sym (decided-walks m d va a e)) (found_uncached va a (look m d va).reads (look m d va).found)
 
-prefetch_found_uncached : (va : VirtualAddress) (r : Reads) (f : Found) → Uncached (prefetch_found va r f)
+prefetch_found_uncached : (va : VirtualAddress) (r : Reads) (f : Result Page Unfound) → Uncached (prefetch_found va r f)
 unfolding prefetch_found
-prefetch_found_uncached va r Found.Missing = λ _. refl
-prefetch_found_uncached va r Found.NoPage = λ _. refl
-prefetch_found_uncached va r (Found.Page p) = λ e. absurd (false≢true e)
+prefetch_found_uncached va r (Err Unfound.Missing) = λ _. refl
+prefetch_found_uncached va r (Err Unfound.NoPage) = λ _. refl
+prefetch_found_uncached va r (Ok p) = λ e. absurd (false≢true e)
 
-prefetch_matched_uncached : (w : Walked) (va : VirtualAddress) (x : Matched) → Uncached (prefetch_matched w va x)
-prefetch_matched_uncached w va (Matched.At i) = λ _. refl
-prefetch_matched_uncached w va Matched.Nothing = prefetch_found_uncached va w.reads w.found
+prefetch_matched_uncached : (w : Walked) (va : VirtualAddress) (x : Option ℕ) → Uncached (prefetch_matched w va x)
+prefetch_matched_uncached w va (Some i) = λ _. refl
+prefetch_matched_uncached w va None = prefetch_found_uncached va w.reads w.found
 
 prefetch_uncached : (w : Walked) (cam : List ℕ) (va : VirtualAddress) → Uncached (prefetch_decided w cam va)
 unfolding prefetch_decided

@@ -1,7 +1,8 @@
 -- The theorems are not empty: small devices, computed by hand and here. Assumes nothing.
+use Rattle.std.proofs.Common.{Some, Option, None}
 use Rattle.conduct.specs.Names.{◌≡◌, Bool, true, false, [], ◌∷◌, ℕ, ◌+◌, ◌*◌, ◌/◌, ◌%◌, ◌^◌, ◌<◌, length, pick, ◌and◌, lent_ok, Place}
 use Rattle.conduct.specs.Names.{moved_walked, physical, word_matches, word_address, slot_at, next_slot, next_victim, cam_address}
-use Rattle.conduct.specs.Names.{listed, Pending, Answer, Fault, fresh_device, in_range, acknowledge_at, flush_at, entry_flush_at, request, write, shift}
+use Rattle.conduct.specs.Names.{listed, stall, Answer, Fault, fresh_device, in_range, acknowledge_at, flush_at, entry_flush_at, request, write, shift}
 use Rattle.conduct.specs.Names.{Said, Step, step, Access, Words, Lent, Prices, Device}
 use Rattle.conduct.proofs.Names.{refl, sym, ◌∙◌, ap, arith, leb, pick_by, pick_no, take, ◌or◌, word_flushed, word_flushed_at, place_in, word_of, read_in, walk_from, bank_ok, first_of, all_from}
 use Rattle.conduct.proofs.Names.{registers_ok, no_register, when_bit, command_of, by_access, by_found, decided, refuses, set_bank, lacks, is_malformed}
@@ -14,7 +15,6 @@ use Prim.Native.Nat.{zero, suc}
 use borrow.Author.Tests.{lt-leb}
 use Rattle.memory.specs.Memory.{lent, memory_ok, apart, memories_ok, lies_in, place_within, part_at}
 use Rattle.walk.specs.Walk.{first_at, read_at, after_first}
-use Rattle.walk.specs.declared.Read.{Read}
 use Rattle.prices.specs.Prices.{f0, figure_ok, every}
 use Rattle.bill.specs.Bill.{fresh_bill, money_ok}
 use Rattle.prices.specs.declared.Price.{Price}
@@ -80,13 +80,13 @@ abbrev waiting : Device
 waiting = record {
   registers = with_control fresh_registers 3;
   bank = stored_at fresh_bank 0 section;
-  pending = Pending.Held Fault.Miss (virtual 0x012345) Access.Read;
+  pending = Some (stall Fault.Miss (virtual 0x012345) Access.Read);
 }
 
 acknowledged :
     ((step two_words waiting fresh_bill (write acknowledge_at 1 free)).said ≡ Said.Answered (Answer.Address (physical 0x11212345)))
     × ((step two_words waiting fresh_bill (write acknowledge_at 1 free)).tally ≡ one_retry 0)
-    × ((step two_words waiting fresh_bill (write acknowledge_at 1 free)).device.pending ≡ Pending.Nothing)
+    × ((step two_words waiting fresh_bill (write acknowledge_at 1 free)).device.pending ≡ None)
 unfolding write_of refuses pick ◌and◌ ◌or◌ in_range registers_ok entry_ok bank_ok all_from memories_ok memory_ok apart money_ok every figure_ok le lt eq of_bits
     of_fields odd count_trailing_zeros no_register is_malformed is_untimely write_lacks lacks command_of listed decided looked_from word_matches kind_of by_access
     word_address upper joined
@@ -97,7 +97,7 @@ abbrev loaded : Device
 loaded = record {
   registers = with_staged fresh_registers (record { camhi = 0; camlo = 0x4000; ramhi = 0; ramlo = 0 });
   bank = stored_at (stored_at fresh_bank 0 section) 1 (record { cam = 0x400c; ram = 0x11300200 });
-  pending = Pending.Nothing;
+  pending = None;
 }
 
 -- a global flush leaves slot 1, an entry flush clears its V, preserved or not
@@ -108,7 +108,8 @@ unfolding write_of refuses pick ◌and◌ ◌or◌ in_range registers_ok entry_o
     when_bit flushed_all flushed_entry cam_address word_flushed word_flushed_at word_dropped word_matches kind_of
 flushed = (refl, refl)
 
--- a walk that finds a page and one that finds none come from their word; a refusal, and a unit that is off, from nowhere
+-- a walk that finds a page and one that finds none come from their word; a refusal, and a unit that is off, from
+-- nowhere
 walk_from_lem :
     ((asking running 0x012345 Access.Write).from ≡ Place.OnChip 0)
     × ((asking running 0x112345 Access.Read).from ≡ Place.OnChip 4)
@@ -141,7 +142,7 @@ behind : (b n a : ℕ) → b + n < a + 4 → lies_in b n a ≡ false
 unfolding lies_in
 behind b n a h = fails (leb b a) (leb (a + 4) (b + n)) (lt-leb (a + 4) (b + n) h)
 
-read_behind : (m : Lent) (a : ℕ) → m.onbase + length m.on < a + 4 → m.extbase + length m.ext < a + 4 → read_in m a ≡ Read.Missing
+read_behind : (m : Lent) (a : ℕ) → m.onbase + length m.on < a + 4 → m.extbase + length m.ext < a + 4 → read_in m a ≡ None
 unfolding read_in place_in place_within
 read_behind m a h k =
     ap (λ (p : Place). read_at (word_of (part_at m p)) p)
@@ -155,8 +156,8 @@ alike_further = record { refused = refl; walks = λ va. by va.0 (va.0 / 2 ^ 20 %
     by : (v i : ℕ) → moved_walked memory_of (walk_from (read_in at_start) first_of v (0x80 + 4 * i)) ≡ moved_walked memory_of (walk_from (read_in further) first_of v (0x80 + 4 * i))
     by v zero = refl
     by v (suc i) =
-        ap (λ (r : Read). moved_walked memory_of (after_first (read_in at_start) first_of v (0x80 + 4 * suc i) r)) (read_behind at_start (0x80 + 4 * suc i) (omega arith) (omega arith))
-        ∙ ap (λ (r : Read). moved_walked memory_of (after_first (read_in further) first_of v (0x80 + 4 * suc i) r)) (sym (read_behind further (0x80 + 4 * suc i) (omega arith) (omega arith)))
+        ap (λ (r : Option (ℕ × Place)). moved_walked memory_of (after_first (read_in at_start) first_of v (0x80 + 4 * suc i) r)) (read_behind at_start (0x80 + 4 * suc i) (omega arith) (omega arith))
+        ∙ ap (λ (r : Option (ℕ × Place)). moved_walked memory_of (after_first (read_in further) first_of v (0x80 + 4 * suc i) r)) (sym (read_behind further (0x80 + 4 * suc i) (omega arith) (omega arith)))
 
 from_further :
     ((step at_start based fresh_bill (request (virtual 0x012345) Access.Read free)).from ≡ Place.OnChip 0)

@@ -1,7 +1,10 @@
 -- Demand 2, the slots: one fill, at the lock base or above it, of the page that the plain walk finds. Assumes nothing.
-use Rattle.conduct.specs.Names.{◌≡◌, Bool, true, false, ℕ, ◌<◌, Found, slots, slot_at, next_slot, page_at, in_range, look, may_walk, request_refusals}
-use Rattle.conduct.specs.Names.{write_refusals, Call, request, write, read, drop-fault, shift, step, VirtualAddress, Lent, Bill, Bank, Fill}
-use Rattle.conduct.specs.Names.{Pending, Device, Outcome}
+use Rattle.page.specs.declared.Words.{Words}
+use Rattle.std.proofs.Common.{Err, Option, Some, None}
+use Rattle.walk.specs.declared.Unfound.{Unfound}
+use Rattle.conduct.specs.Names.{◌≡◌, Bool, true, false, ℕ, ◌<◌, slots, slot_at, next_slot, page_at, in_range, look, may_walk, request_refusals}
+use Rattle.conduct.specs.Names.{write_refusals, Call, request, write, read, drop-fault, shift, step, VirtualAddress, Lent, Bill, Bank}
+use Rattle.conduct.specs.Names.{Stall, Device, Outcome}
 use Rattle.conduct.proofs.Names.{refl, sym, ◌∙◌, ap, subst, true≢false, false≢true, pick_by, and_left, and_right, or_yes, or_no, entry_filled}
 use Rattle.conduct.proofs.Names.{fill_lock, in_range_lem, registers_ok, pending_ok, command_of, prefetch_decided, refused_with, decided_by, attempt_of}
 use Rattle.conduct.proofs.Names.{request_of, carried, write_of, said_refused, Accepted, Attempted, nothing, attempt, prefetch, write_attempted}
@@ -15,9 +18,9 @@ use Rattle.conduct.proofs.Refused.{nothing_changes, accepted-in_range}
 use Rattle.conduct.proofs.Calls.{attempt-bank, prefetch-bank, accepted-request, accepted-write}
 
 -- no fill touches a slot below the lock base
-fill_locked : (b : Bank) (f : Fill) (j : ℕ) → j < b.lock → slot_at (entry_filled b f) j ≡ slot_at b j
-fill_locked b Fill.Nothing j h = refl
-fill_locked b (Fill.Slot w) j h = fill_keeps_locked b w j h
+fill_locked : (b : Bank) (f : Option Words) (j : ℕ) → j < b.lock → slot_at (entry_filled b f) j ≡ slot_at b j
+fill_locked b None j h = refl
+fill_locked b (Some w) j h = fill_keeps_locked b w j h
 
 pub locked-kept : LockedKept
 unfolding request_of write_of
@@ -48,9 +51,9 @@ bank-after m d b (read o) e = absurd (false≢true e)
 bank-after m d b drop-fault e = absurd (false≢true e)
 bank-after m d b (shift va) e = λ _. refl
 
-filled_by : (b : Bank) (f : Fill) → LanesFit b → next_slot b.victim b.lock < slots → FilledBy f b (entry_filled b f)
-filled_by b Fill.Nothing l h = refl
-filled_by b (Fill.Slot w) l h = record {
+filled_by : (b : Bank) (f : Option Words) → LanesFit b → next_slot b.victim b.lock < slots → FilledBy f b (entry_filled b f)
+filled_by b None l h = refl
+filled_by b (Some w) l h = record {
   has = fill_has b w (subst (λ (n : ℕ). next_slot b.victim b.lock < n) (sym l.0) h) (subst (λ (n : ℕ). next_slot b.victim b.lock < n) (sym l.1) h);
   others = fill_keeps b w;
   lock = fill_lock b w;
@@ -65,17 +68,17 @@ one-slot-filled m d b c l e h =
     (filled_by d.bank (fill_asked m d (attempted d c)) l (next_slot-lt slots d.bank.victim d.bank.lock r.victim r.lock))
 
 -- where no page is found nothing is filled
-none_found : (m : Lent) (d : Device) (va : VirtualAddress) → (look m d va).found ≡ Found.NoPage → fill_for m d va ≡ Fill.Nothing
+none_found : (m : Lent) (d : Device) (va : VirtualAddress) → (look m d va).found ≡ Err Unfound.NoPage → fill_for m d va ≡ None
 unfolding fill_for
-none_found m d va e = pick_by (λ (f : Fill). f ≡ Fill.Nothing) _ _ _ (λ _. ap (page_fill va) e) (λ _. refl)
+none_found m d va e = pick_by (λ (f : Option Words). f ≡ None) _ _ _ (λ _. ap (page_fill va) e) (λ _. refl)
 
-none-asked : (m : Lent) (d : Device) (q : Attempted) (va : VirtualAddress) → AttemptedAt va q → (look m d va).found ≡ Found.NoPage → fill_asked m d q ≡ Fill.Nothing
+none-asked : (m : Lent) (d : Device) (q : Attempted) (va : VirtualAddress) → AttemptedAt va q → (look m d va).found ≡ Err Unfound.NoPage → fill_asked m d q ≡ None
 none-asked m d nothing va e h = absurd e
 none-asked m d (attempt again x a) va e h = none_found m d x (ap (λ (y : VirtualAddress). (look m d y).found) e ∙ h)
 none-asked m d (prefetch x) va e h = none_found m d x (ap (λ (y : VirtualAddress). (look m d y).found) e ∙ h)
 
 -- only a call that may walk asks for an address
-write_fill : (q : Pending) (o v : ℕ) (va : VirtualAddress) → AttemptedAt va (write_attempted q o v) → may_walk o ≡ true
+write_fill : (q : Option Stall) (o v : ℕ) (va : VirtualAddress) → AttemptedAt va (write_attempted q o v) → may_walk o ≡ true
 unfolding write_attempted
 write_fill q o v va =
     pick_by Fills _ _ _ (λ e _. or_yes _ _ e)

@@ -1,4 +1,5 @@
--- A call with a list of refusals is refused by the first whose condition holds, and goes on where none does. Assumes nothing.
+-- A call with a list of refusals is refused by the first whose condition holds, and goes on where none does. Assumes
+-- nothing.
 use Rattle.conduct.specs.Names.{◌≡◌, Bool, true, false, [], ◌∷◌, ℕ, Refusals, First, Clear, Said}
 use Rattle.conduct.proofs.Names.{refl, sym, ◌∙◌, ap, subst, true≢false, pick_yes, pick_no, clear_goes_on, refuses_by, refuses, said_refused}
 use mathlib.Core.Logic.{◌⊎◌, inl, inr}
@@ -38,8 +39,8 @@ module _ {A : Type 0} (say : ℕ → A) (else : A) where
       → said_refused (said (refuses rs say else)) ≡ false → P (refuses rs say else)
   accepted_by P said rs f g = refuses_by say else (λ (x : A). said_refused (said x) ≡ false → P x) rs (λ k h. absurd (true≢false (sym (f k) ∙ h))) (λ c _. g c)
 
--- one law for every list of refusals: where a refusal is told by what it says, and what follows is none, it is answered exactly
--- where its condition holds first
+-- one law for every list of refusals: where a refusal is told by what it says, and what follows is none, it is
+-- answered exactly where its condition holds first
 module _ {K A : Type 0} (say : K → A) (else : A) (rs : Refusing K) (no : A → Bool) (key : A → K) (goes_on : Clear rs → no else ≡ false) where
   pub refused-first : no (refuses rs say else) ≡ true → (k : K) × First rs k
   refused-first h = by (first-or_clear rs)

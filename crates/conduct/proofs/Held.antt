@@ -1,8 +1,11 @@
 -- Demand 2: what is pending after each call. Assumes nothing.
+use Rattle.std.proofs.Common.{Result, Ok, Err, Option, Some, None}
+use Rattle.walk.specs.declared.Unfound.{Unfound}
+use Rattle.walk.specs.declared.Page.{Page}
 use Rattle.conduct.specs.Names.{◌≡◌, Bool, true, false, List, ℕ, ◌%◌, eqb, looked_up, is_refusal, is_prefetch, listed, page_at, pick, Clear, look}
 use Rattle.conduct.specs.Names.{cleared, done_with, prefetch_at, acknowledge_at, request_refusals, write_refusals, read_refusals, drop_refusals}
-use Rattle.conduct.specs.Names.{request, write, read, drop-fault, shift, Said, step_out, Access, VirtualAddress, Lent, Reads, Found, Walked}
-use Rattle.conduct.specs.Names.{Bill, Prices, Matched, Fault, Pending, Answer, Device, Outcome, Told}
+use Rattle.conduct.specs.Names.{request, write, read, drop-fault, shift, Said, step_out, Access, VirtualAddress, Lent, Reads, Walked}
+use Rattle.conduct.specs.Names.{Bill, Prices, Fault, Stall, stall, Answer, Device, Outcome, Told}
 use Rattle.conduct.proofs.Names.{refl, sym, ◌∙◌, ap, true≢false, false≢true, arith, eq-eqb, ne_eqb, command_of, value_at, by_offset, settled}
 use Rattle.conduct.proofs.Names.{prefetch_found, prefetch_matched, prefetch_decided, pick_yes, pick_no, told, told_refused, refused_with, decided_by}
 use Rattle.conduct.proofs.Names.{attempt_of, request_of, retried, carried, write_of, read_of, drop_of, refuses_by, said_refused, Attempted, nothing}
@@ -22,7 +25,7 @@ module _ (q : Attempted) (s : Said) (n : said_met s ≡ false) where
   unmet r h e = absurd (true≢false (sym h ∙ sym (ap said_met e) ∙ n))
 
   -- where such an answer leaves what is pending, that is as said
-  still : (before : Pending) → HeldBy q before before s
+  still : (before : Option Stall) → HeldBy q before before s
   still before = record {
     fault = λ again va a k _ e. unmet (Answer.Fault k) refl e;
     prefetched = λ va k _ e. unmet (Answer.Fault k) refl e;
@@ -31,7 +34,7 @@ module _ (q : Attempted) (s : Said) (n : said_met s ≡ false) where
   }
 
   -- and where it is no refusal, whatever it leaves
-  quiet : said_refused s ≡ false → (before after : Pending) → HeldBy q before after s
+  quiet : said_refused s ≡ false → (before after : Option Stall) → HeldBy q before after s
   quiet f before after = record {
     fault = λ again va a k _ e. unmet (Answer.Fault k) refl e;
     prefetched = λ va k _ e. unmet (Answer.Fault k) refl e;
@@ -39,8 +42,8 @@ module _ (q : Attempted) (s : Said) (n : said_met s ≡ false) where
     refused = λ h. absurd (true≢false (sym h ∙ f));
   }
 
-module _ (va : VirtualAddress) (a : Access) (q : Pending) where
-  settled-fault : (r : Answer) (k : Fault) → r ≡ Answer.Fault k → settled va a q r ≡ Pending.Held k va a
+module _ (va : VirtualAddress) (a : Access) (q : Option Stall) where
+  settled-fault : (r : Answer) (k : Fault) → r ≡ Answer.Fault k → settled va a q r ≡ Some (stall k va a)
   settled-fault r k e = ap (settled va a q) e
 
   settled-refused : (r : Answer) → is_refusal r ≡ true → settled va a q r ≡ q
@@ -58,7 +61,7 @@ module _ (va : VirtualAddress) (a : Access) (q : Pending) where
     refused = settled-refused r;
   }
     where
-      by : (t : Bool) (x : VirtualAddress) (y : Access) (k : Fault) → attempt again va a ≡ attempt t x y → r ≡ Answer.Fault k → settled va a q r ≡ Pending.Held k x y
+      by : (t : Bool) (x : VirtualAddress) (y : Access) (k : Fault) → attempt again va a ≡ attempt t x y → r ≡ Answer.Fault k → settled va a q r ≡ Some (stall k x y)
       by t x y k g e = settled-fault r k e ∙ (let u : va ≡ x = cc in let w : a ≡ y = cc in cc)
 
 -- a prefetch answers 24, or nothing
@@ -69,21 +72,21 @@ Fetches (Answer.Value x) = Unit {0}
 Fetches Answer.Done = Unit {0}
 Fetches (Answer.Refused k) = Unit {0}
 
-found_fetches : (va : VirtualAddress) (r : Reads) (f : Found) → Fetches (prefetch_found va r f).answer
+found_fetches : (va : VirtualAddress) (r : Reads) (f : Result Page Unfound) → Fetches (prefetch_found va r f).answer
 unfolding prefetch_found
-found_fetches va r Found.Missing = tt
-found_fetches va r Found.NoPage = refl
-found_fetches va r (Found.Page p) = tt
+found_fetches va r (Err Unfound.Missing) = tt
+found_fetches va r (Err Unfound.NoPage) = refl
+found_fetches va r (Ok p) = tt
 
-matched_fetches : (w : Walked) (va : VirtualAddress) (x : Matched) → Fetches (prefetch_matched w va x).answer
-matched_fetches w va (Matched.At i) = tt
-matched_fetches w va Matched.Nothing = found_fetches va w.reads w.found
+matched_fetches : (w : Walked) (va : VirtualAddress) (x : Option ℕ) → Fetches (prefetch_matched w va x).answer
+matched_fetches w va (Some i) = tt
+matched_fetches w va None = found_fetches va w.reads w.found
 
 fetches : (w : Walked) (cam : List ℕ) (va : VirtualAddress) → Fetches (prefetch_decided w cam va).answer
 unfolding prefetch_decided
 fetches w cam va = matched_fetches w va (looked_up cam va)
 
-prefetch-held : (va : VirtualAddress) (q : Pending) (r : Answer) → Fetches r → HeldBy (prefetch va) q (settled va Access.Read q r) (Said.Answered r)
+prefetch-held : (va : VirtualAddress) (q : Option Stall) (r : Answer) → Fetches r → HeldBy (prefetch va) q (settled va Access.Read q r) (Said.Answered r)
 prefetch-held va q (Answer.Address x) f = absurd f
 prefetch-held va q (Answer.Value x) f = still (prefetch va) (Said.Answered (Answer.Value x)) refl q
 prefetch-held va q Answer.Done f = still (prefetch va) (Said.Answered Answer.Done) refl q
@@ -111,7 +114,7 @@ module _ (d : Device) where
   abbrev Tells : Told → Type 0
   Tells t = HeldBy nothing d.pending t.device.pending (Said.Answered t.answer)
 
-  done : (x : Pending) → HeldBy nothing d.pending x (Said.Answered Answer.Done)
+  done : (x : Option Stall) → HeldBy nothing d.pending x (Said.Answered Answer.Done)
   done x = quiet nothing (Said.Answered Answer.Done) refl refl d.pending x
 
 pub fault-held : FaultHeld
@@ -134,7 +137,7 @@ fault-held m d b (read o) =
 fault-held m d b drop-fault =
     refuses_by (told_refused d) (told (cleared d) Answer.Done) (Tells d) (drop_refusals d)
     (λ k. still nothing (Said.Answered (Answer.Refused k)) refl d.pending)
-    (λ _. done d Pending.Nothing)
+    (λ _. done d None)
 fault-held m d b (shift va) = still nothing (Said.Reported _) refl d.pending
 
 module _ (m : Lent) (p : Prices) (b : Bill) (d : Device) (v : ℕ) where
@@ -143,7 +146,7 @@ module _ (m : Lent) (p : Prices) (b : Bill) (d : Device) (v : ℕ) where
   unfolding command_of listed pick
   acknowledge_bit t e = ap (λ (x : Bool). pick x (retried m p b d d.pending) (done_with b d)) e
 
-  dropped-prefetch : (va : VirtualAddress) (a : Access) → d.pending ≡ Pending.Held Fault.Prefetch va a → v % 2 ≡ 1 → carried m p b d (command_of acknowledge_at v) ≡ done_with b (cleared d)
+  dropped-prefetch : (va : VirtualAddress) (a : Access) → d.pending ≡ Some (stall Fault.Prefetch va a) → v % 2 ≡ 1 → carried m p b d (command_of acknowledge_at v) ≡ done_with b (cleared d)
   dropped-prefetch va a e h =
       acknowledge_bit true (eq-eqb (v % 2) 1 h) ∙ pick_yes true _ _ refl ∙ ap (retried m p b d) e ∙ pick_yes (is_prefetch Fault.Prefetch) _ _ refl
 
@@ -163,7 +166,7 @@ pub fault-dropped : FaultDropped
 unfolding write_of drop_of
 fault-dropped m d b = record {
   drop =
-      refuses_by (told_refused d) (told (cleared d) Answer.Done) (λ (t : Told). is_refusal t.answer ≡ false → t.device.pending ≡ Pending.Nothing) (drop_refusals d)
+      refuses_by (told_refused d) (told (cleared d) Answer.Done) (λ (t : Told). is_refusal t.answer ≡ false → t.device.pending ≡ None) (drop_refusals d)
       (λ k h. absurd (true≢false h)) (λ _ _. refl);
   acknowledged = λ va a v p e h g.
       ap step_out (accepted-write m p b d (λ (x : Outcome). x ≡ done_with b (cleared d)) acknowledge_at v (λ _. dropped-prefetch m p b d v va a e h) g);

@@ -1,8 +1,10 @@
 -- Demand 2: what each call leaves alone. Assumes nothing.
+use Rattle.page.specs.declared.Words.{Words}
+use Rattle.std.proofs.Common.{Option, Some, None}
 use Rattle.conduct.specs.Names.{◌≡◌, Bool, true, false, ◌≢◌, ℕ, ◌+◌, ◌*◌, ◌/◌, ◌%◌, ◌^◌, ◌<◌, eqb, pick, ◌and◌, listed, Answer, Tending, page_at}
 use Rattle.conduct.specs.Names.{Clear, look, cleared, done_with, prefetch_at, control_at, acknowledge_at, base_high_at, base_low_at, lock_at, load_at, cam_high_at}
 use Rattle.conduct.specs.Names.{cam_low_at, ram_high_at, ram_low_at, flush_at, entry_flush_at, may_walk, request_refusals, write_refusals, read_refusals}
-use Rattle.conduct.specs.Names.{drop_refusals, request, write, read, shift, Access, VirtualAddress, Lent, Bill, Prices, Bank, Fill, Pending}
+use Rattle.conduct.specs.Names.{drop_refusals, request, write, read, shift, Access, VirtualAddress, Lent, Bill, Prices, Bank, Stall}
 use Rattle.conduct.specs.Names.{Command, Device, Outcome, Told}
 use Rattle.conduct.proofs.Names.{refl, sym, ◌∙◌, ap, true≢false, arith, eq-eqb, eqb-false, ◌or◌, pick_by, entry_filled, fill_lock}
 use Rattle.conduct.proofs.Names.{control_command, lock_command, load_command, when_bit, command_of, value_at, by_offset, prefetch_decided, told}
@@ -11,9 +13,9 @@ use Rattle.conduct.proofs.Names.{refuses_by}
 use Rattle.conduct.specs.Kept.{is_reset, WriteKeeps, Frames}
 
 -- no fill moves the lock base
-fill_lock-kept : (b : Bank) (f : Fill) → (entry_filled b f).lock ≡ b.lock
-fill_lock-kept b Fill.Nothing = refl
-fill_lock-kept b (Fill.Slot w) = fill_lock b w
+fill_lock-kept : (b : Bank) (f : Option Words) → (entry_filled b f).lock ≡ b.lock
+fill_lock-kept b None = refl
+fill_lock-kept b (Some w) = fill_lock b w
 
 keeps_all : (o : ℕ) (d : Device) → WriteKeeps o d d
 keeps_all o d = record {
@@ -114,9 +116,9 @@ module _ (m : Lent) (p : Prices) (b : Bill) (d : Device) (v : ℕ) where
   unfolding ◌or◌
   drop_keeps = keeps_bank acknowledge_at d _ refl (λ _ _ _ _. refl) (λ _ _. refl) (λ _. refl) (λ _ _. refl) (λ n. absurd (true≢false n))
 
-  retry_keeps : (q : Pending) → Keeps acknowledge_at (retried m p b d q)
-  retry_keeps Pending.Nothing = keeps_all acknowledge_at d
-  retry_keeps (Pending.Held k va a) = pick_by (Keeps acknowledge_at) _ _ _ (λ _. drop_keeps) (λ _. attempt_keeps va a)
+  retry_keeps : (q : Option Stall) → Keeps acknowledge_at (retried m p b d q)
+  retry_keeps None = keeps_all acknowledge_at d
+  retry_keeps (Some s) = pick_by (Keeps acknowledge_at) _ _ _ (λ _. drop_keeps) (λ _. attempt_keeps s.at s.access)
 
   acknowledge_keeps : (go : Bool) → Does acknowledge_at (Command.Acknowledge go)
   acknowledge_keeps go = pick_by (Keeps acknowledge_at) _ _ _ (λ _. retry_keeps d.pending) (λ _. keeps_all acknowledge_at d)

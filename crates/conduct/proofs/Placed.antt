@@ -1,4 +1,5 @@
 -- Demand 2, where the last word of each call's walk comes from. Assumes nothing.
+use Rattle.std.proofs.Common.{Option, Some, None}
 use Rattle.conduct.specs.Names.{◌≡◌, Bool, true, false, ◌⊎◌, ◌≢◌, ℕ, eqb, ◌and◌, Lent, Place, Reads, LastLies, last_place, word_count}
 use Rattle.conduct.specs.Names.{look, is_on, page_at, prefetch_at, Clear, request_refusals, write_refusals}
 use Rattle.conduct.specs.Names.{shift_refusals, Call, request, write, read, drop-fault, shift, step, Access, VirtualAddress, Bill, Prices, Outcome, Device}
@@ -6,7 +7,6 @@ use Rattle.conduct.proofs.Names.{refl, sym, ◌∙◌, ap, subst, true≢false, 
 use Rattle.conduct.proofs.Names.{clear_goes_on, is_missing, command_of, attempt_of, prefetched, carried, refused_with, lacks, request_of, write_of, said_refused}
 use Rattle.conduct.proofs.Names.{Accepted, Attempted, nothing, attempt, prefetch, attempted, reads_for, walks_for, first_of, place_in, read_in}
 use mathlib.Core.Logic.{inl, inr}
-use Rattle.walk.specs.declared.Read.{Read}
 use Rattle.walk.specs.Walk.{read_at}
 use Rattle.walk.specs.Statements.{LiesAt}
 use Rattle.walk.proofs.Words.{walk_lies, none_where_missing}
@@ -82,11 +82,11 @@ module _ (m : Lent) (d : Device) where
   still_call (shift va) h = absurd (true≢false h)
 
 -- a word that is read lies somewhere
-abbrev Somewhere : Read → Type 0
-Somewhere (Read.Word w (Place.OnChip k)) = Unit {0}
-Somewhere (Read.Word w (Place.External k)) = Unit {0}
-Somewhere (Read.Word w Place.Nowhere) = ⊥
-Somewhere Read.Missing = Unit {0}
+abbrev Somewhere : Option (ℕ × Place) → Type 0
+Somewhere (Some (w, (Place.OnChip k))) = Unit {0}
+Somewhere (Some (w, (Place.External k))) = Unit {0}
+Somewhere (Some (w, Place.Nowhere)) = ⊥
+Somewhere None = Unit {0}
 
 read_somewhere : (w : ℕ) (p : Place) → Somewhere (read_at w p)
 read_somewhere w (Place.OnChip k) = tt

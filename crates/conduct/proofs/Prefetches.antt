@@ -1,52 +1,56 @@
 -- What a prefetch comes to, by the plain walk of its address. Assumes nothing.
+use Rattle.std.specs.Prelude.{ℕ}
+use Rattle.std.proofs.Common.{Result, Ok, Err, Option, Some, None}
+use Rattle.walk.specs.declared.Unfound.{Unfound}
+use Rattle.walk.specs.declared.Page.{Page}
 use Rattle.conduct.specs.Names.{◌≡◌, Bool, true, false, ◌and◌, Seen, looked_up, is_refusal, is_on, is_walking, look, no_match, VirtualAddress, Lent}
-use Rattle.conduct.specs.Names.{Reads, Found, Walked, Matched, Decision, Device}
+use Rattle.conduct.specs.Names.{Reads, Walked, Decision, Device}
 use Rattle.conduct.proofs.Names.{refl, ◌∙◌, ap, true≢false, false≢true, and_left, and_right, is_missing, prefetch_found, prefetch_matched}
 use Rattle.conduct.proofs.Names.{prefetch_decided, walks_for, page_fill}
 use Rattle.conduct.proofs.Tests.{rest, front}
 use Rattle.conduct.proofs.Attempts.{Still, Does, does_still, does_walk}
 
 module _ (va : VirtualAddress) (r : Reads) where
-  found-answers : (f : Found) → is_missing f ≡ false → is_refusal (prefetch_found va r f).answer ≡ false
+  found-answers : (f : Result Page Unfound) → is_missing f ≡ false → is_refusal (prefetch_found va r f).answer ≡ false
   unfolding prefetch_found
-  found-answers Found.Missing h = absurd (true≢false h)
-  found-answers Found.NoPage h = refl
-  found-answers (Found.Page p) h = refl
+  found-answers (Err Unfound.Missing) h = absurd (true≢false h)
+  found-answers (Err Unfound.NoPage) h = refl
+  found-answers (Ok p) h = refl
 
-  found_fill : (f : Found) → (prefetch_found va r f).fill ≡ page_fill va f
+  found_fill : (f : Result Page Unfound) → (prefetch_found va r f).fill ≡ page_fill va f
   unfolding prefetch_found
-  found_fill Found.Missing = refl
-  found_fill Found.NoPage = refl
-  found_fill (Found.Page p) = refl
+  found_fill (Err Unfound.Missing) = refl
+  found_fill (Err Unfound.NoPage) = refl
+  found_fill (Ok p) = refl
 
-  found_reads : (f : Found) → is_missing f ≡ false → (prefetch_found va r f).reads ≡ r
+  found_reads : (f : Result Page Unfound) → is_missing f ≡ false → (prefetch_found va r f).reads ≡ r
   unfolding prefetch_found
-  found_reads Found.Missing h = absurd (true≢false h)
-  found_reads Found.NoPage h = refl
-  found_reads (Found.Page p) h = refl
+  found_reads (Err Unfound.Missing) h = absurd (true≢false h)
+  found_reads (Err Unfound.NoPage) h = refl
+  found_reads (Ok p) h = refl
 
-  found_seen : (f : Found) → (prefetch_found va r f).seen ≡ Seen.Nothing
+  found_seen : (f : Result Page Unfound) → (prefetch_found va r f).seen ≡ Seen.Nothing
   unfolding prefetch_found
-  found_seen Found.Missing = refl
-  found_seen Found.NoPage = refl
-  found_seen (Found.Page p) = refl
+  found_seen (Err Unfound.Missing) = refl
+  found_seen (Err Unfound.NoPage) = refl
+  found_seen (Ok p) = refl
 
 module _ (w : Walked) (va : VirtualAddress) where
-  matched_answers : (x : Matched) → (no_match x and is_missing w.found) ≡ false → is_refusal (prefetch_matched w va x).answer ≡ false
-  matched_answers (Matched.At i) h = refl
-  matched_answers Matched.Nothing h = found-answers va w.reads w.found (rest true _ refl h)
+  matched_answers : (x : Option ℕ) → (no_match x and is_missing w.found) ≡ false → is_refusal (prefetch_matched w va x).answer ≡ false
+  matched_answers (Some i) h = refl
+  matched_answers None h = found-answers va w.reads w.found (rest true _ refl h)
 
-  matched_seen : (x : Matched) → (prefetch_matched w va x).seen ≡ Seen.Nothing
-  matched_seen (Matched.At i) = refl
-  matched_seen Matched.Nothing = found_seen va w.reads w.found
+  matched_seen : (x : Option ℕ) → (prefetch_matched w va x).seen ≡ Seen.Nothing
+  matched_seen (Some i) = refl
+  matched_seen None = found_seen va w.reads w.found
 
-  matched_still : (x : Matched) → no_match x ≡ false → Still (prefetch_matched w va x)
-  matched_still (Matched.At i) h = (refl, refl)
-  matched_still Matched.Nothing h = absurd (true≢false h)
+  matched_still : (x : Option ℕ) → no_match x ≡ false → Still (prefetch_matched w va x)
+  matched_still (Some i) h = (refl, refl)
+  matched_still None h = absurd (true≢false h)
 
-  matched_walks : (x : Matched) → no_match x ≡ true → prefetch_matched w va x ≡ prefetch_found va w.reads w.found
-  matched_walks (Matched.At i) h = absurd (false≢true h)
-  matched_walks Matched.Nothing h = refl
+  matched_walks : (x : Option ℕ) → no_match x ≡ true → prefetch_matched w va x ≡ prefetch_found va w.reads w.found
+  matched_walks (Some i) h = absurd (false≢true h)
+  matched_walks None h = refl
 
 module _ (m : Lent) (d : Device) (va : VirtualAddress) where
   abbrev x : Decision

@@ -1,7 +1,10 @@
 -- Demand 1: from a device in range every call hands back one in range. Assumes nothing.
+use Rattle.std.proofs.Common.{Result, Ok, Err, Option, Some, None}
+use Rattle.walk.specs.declared.Unfound.{Unfound}
+use Rattle.walk.specs.declared.Page.{Page}
 use Rattle.conduct.specs.Names.{◌≡◌, Bool, true, false, List, ℕ, ◌%◌, ◌^◌, ◌<◌, ◌and◌, looked_up, limit, page_at, fresh_device, in_range, cleared}
 use Rattle.conduct.specs.Names.{look, request_refusals, write_refusals, read_refusals, drop_refusals, request, write, read, drop-fault, shift}
-use Rattle.conduct.specs.Names.{Access, VirtualAddress, Lent, Reads, Found, Walked, Bill, Prices, Matched, Fault, Pending, Answer, Decision}
+use Rattle.conduct.specs.Names.{Access, VirtualAddress, Lent, Reads, Walked, Bill, Prices, Stall, Answer, Decision}
 use Rattle.conduct.specs.Names.{Command, Device, Outcome, Told}
 use Rattle.conduct.proofs.Names.{refl, ◌∙◌, arith, lt-ltb, leb-false, pick_by, and_yes, and_left, and_right, all_from, bank_ok, registers_ok}
 use Rattle.conduct.proofs.Names.{pending_ok, command_of, value_at, registers_in-range, by_found, by_matched, decided, settled, prefetch_found}
@@ -38,40 +41,40 @@ unfolding bank_ok all_from ◌and◌
 fresh_in_range = ranged fresh_device fresh_ok refl refl
 
 -- what a decision fills is in range where the page is
-page_ok : (f : Found) (va : VirtualAddress) → FrameFits f → va.0 < limit → (a : Access) (r : Reads) → fill_ok (by_found va a r f).fill
+page_ok : (f : Result Page Unfound) (va : VirtualAddress) → FrameFits f → va.0 < limit → (a : Access) (r : Reads) → fill_ok (by_found va a r f).fill
 unfolding by_found
-page_ok Found.Missing va g l a r = tt
-page_ok Found.NoPage va g l a r = tt
-page_ok (Found.Page p) va g l a r = and_yes _ _ (made_cam_ok p.kind va.0 l) ∙ made_ram_ok p.kind p.frame.0 p.access g
+page_ok (Err Unfound.Missing) va g l a r = tt
+page_ok (Err Unfound.NoPage) va g l a r = tt
+page_ok (Ok p) va g l a r = and_yes _ _ (made_cam_ok p.kind va.0 l) ∙ made_ram_ok p.kind p.frame.0 p.access g
 
-prefetch-page_ok : (f : Found) (va : VirtualAddress) → FrameFits f → va.0 < limit → (r : Reads) → fill_ok (prefetch_found va r f).fill
+prefetch-page_ok : (f : Result Page Unfound) (va : VirtualAddress) → FrameFits f → va.0 < limit → (r : Reads) → fill_ok (prefetch_found va r f).fill
 unfolding prefetch_found
-prefetch-page_ok Found.Missing va g l r = tt
-prefetch-page_ok Found.NoPage va g l r = tt
-prefetch-page_ok (Found.Page p) va g l r = and_yes _ _ (made_cam_ok p.kind va.0 l) ∙ made_ram_ok p.kind p.frame.0 p.access g
+prefetch-page_ok (Err Unfound.Missing) va g l r = tt
+prefetch-page_ok (Err Unfound.NoPage) va g l r = tt
+prefetch-page_ok (Ok p) va g l r = and_yes _ _ (made_cam_ok p.kind va.0 l) ∙ made_ram_ok p.kind p.frame.0 p.access g
 
 module _ (w : Walked) (va : VirtualAddress) (g : FrameFits w.found) (l : va.0 < limit) where
   abbrev FillOk : Decision → Type 0
   FillOk x = fill_ok x.fill
 
-  matched_ok : (c : ℕ) (cam ram : List ℕ) (a : Access) (x : Matched) → FillOk (by_matched w c cam ram va a x)
-  matched_ok c cam ram a (Matched.At i) = tt
-  matched_ok c cam ram a Matched.Nothing = pick_by FillOk _ _ _ (λ _. page_ok w.found va g l a w.reads) (λ _. tt)
+  matched_ok : (c : ℕ) (cam ram : List ℕ) (a : Access) (x : Option ℕ) → FillOk (by_matched w c cam ram va a x)
+  matched_ok c cam ram a (Some i) = tt
+  matched_ok c cam ram a None = pick_by FillOk _ _ _ (λ _. page_ok w.found va g l a w.reads) (λ _. tt)
 
   decided_ok : (c : ℕ) (cam ram : List ℕ) (a : Access) → FillOk (decided w c cam ram va a)
   unfolding decided
   decided_ok c cam ram a = pick_by FillOk _ _ _ (λ _. matched_ok c cam ram a (looked_up cam va)) (λ _. tt)
 
-  prefetch_matched_ok : (x : Matched) → FillOk (prefetch_matched w va x)
-  prefetch_matched_ok (Matched.At i) = tt
-  prefetch_matched_ok Matched.Nothing = prefetch-page_ok w.found va g l w.reads
+  prefetch_matched_ok : (x : Option ℕ) → FillOk (prefetch_matched w va x)
+  prefetch_matched_ok (Some i) = tt
+  prefetch_matched_ok None = prefetch-page_ok w.found va g l w.reads
 
   prefetch_ok : (cam : List ℕ) → FillOk (prefetch_decided w cam va)
   unfolding prefetch_decided
   prefetch_ok cam = prefetch_matched_ok (looked_up cam va)
 
 -- a fault at an address in range is pending in range
-settled_ok : (va : VirtualAddress) (a : Access) (q : Pending) (r : Answer) → va.0 < limit → pending_ok q ≡ true → pending_ok (settled va a q r) ≡ true
+settled_ok : (va : VirtualAddress) (a : Access) (q : Option Stall) (r : Answer) → va.0 < limit → pending_ok q ≡ true → pending_ok (settled va a q r) ≡ true
 settled_ok va a q (Answer.Address x) l h = refl
 settled_ok va a q (Answer.Fault k) l h = lt-ltb va.0 limit l
 settled_ok va a q (Answer.Value x) l h = h
@@ -114,9 +117,9 @@ module _ (m : Lent) (f : BytesFit m) (p : Prices) (b : Bill) (d : Device) (h : i
       (settled_ok (page_at v) Access.Read d.pending x.answer l (pending_ok_lem d h))
       (entry_ok_lem d.bank (bank_ok_lem d h) x.fill (prefetch_ok (look m d (page_at v)) (page_at v) (walk_fits m f _ _) l d.bank.cam))
 
-  retried_ok : (q : Pending) → pending_ok q ≡ true → Ranged (retried m p b d q)
-  retried_ok Pending.Nothing g = h
-  retried_ok (Pending.Held k va a) g = pick_by Ranged _ _ _ (λ _. cleared_ok) (λ _. attempt_ok true va a (ltb-true va.0 limit g))
+  retried_ok : (q : Option Stall) → pending_ok q ≡ true → Ranged (retried m p b d q)
+  retried_ok None g = h
+  retried_ok (Some s) g = pick_by Ranged _ _ _ (λ _. cleared_ok) (λ _. attempt_ok true s.at s.access (ltb-true s.at.0 limit g))
 
   carried_ok : (c : Command) → CommandOk c → Ranged (carried m p b d c)
   carried_ok (Command.Refused k) g = h

@@ -1,8 +1,13 @@
 -- Demand 1 for every call: refused exactly when the paper says, and then nothing changes. Assumes nothing.
+use Rattle.std.specs.Prelude.{ℤ}
+use Rattle.decision.specs.declared.ShiftError.{ShiftError}
+use Rattle.std.proofs.Common.{Result, Ok, Err}
+use Rattle.walk.specs.declared.Unfound.{Unfound}
+use Rattle.walk.specs.declared.Page.{Page}
 use Rattle.conduct.specs.Names.{◌≡◌, true, false, ℕ, no_tally, pick, is_refusal, listed, Answer, page_at, Refusals, First, Clear, in_range, look}
 use Rattle.conduct.specs.Names.{cleared, request_refusals, write_refusals, read_refusals, drop_refusals, shift_refusals, Call, request, write, read}
-use Rattle.conduct.specs.Names.{drop-fault, shift, Said, said_number, Step, step_out, step, Access, VirtualAddress, Lent, Found, Bill, Prices}
-use Rattle.conduct.specs.Names.{Shift, Device, Outcome}
+use Rattle.conduct.specs.Names.{drop-fault, shift, Said, said_number, Step, step_out, step, Access, VirtualAddress, Lent, Bill, Prices}
+use Rattle.conduct.specs.Names.{Device, Outcome}
 use Rattle.conduct.proofs.Names.{refl, sym, ◌∙◌, true≢false, not-false, is_missing, command_of, value_at, by_offset, shift_by, refuses, told}
 use Rattle.conduct.proofs.Names.{told_refused, refused_with, decided_by, attempt_of, lacks, request_of, carried, write_of, read_of, drop_of, shift_of}
 use Rattle.conduct.proofs.Names.{said_refused, Accepted, Unchanged, Attempted}
@@ -36,10 +41,10 @@ read-answers d =
     (λ _. refl) (λ _. refl) (λ _. refl) (λ _. refl) (λ _. refl) (λ _. refl) (λ _. refl)
     (λ o e c. absurd (true≢false (sym e ∙ c.1.0)))
 
-shift-answers : (va : VirtualAddress) (f : Found) → is_missing f ≡ false → shift_refused (shift_by va f) ≡ false
-shift-answers va Found.Missing h = absurd (true≢false h)
-shift-answers va Found.NoPage h = refl
-shift-answers va (Found.Page p) h = refl
+shift-answers : (va : VirtualAddress) (f : Result Page Unfound) → is_missing f ≡ false → shift_refused (shift_by va f) ≡ false
+shift-answers va (Err Unfound.Missing) h = absurd (true≢false h)
+shift-answers va (Err Unfound.NoPage) h = refl
+shift-answers va (Ok p) h = refl
 
 module _ (d : Device) (b : Bill) where
   -- a step is refused with the first of its refusals, and then changes nothing
@@ -60,7 +65,7 @@ module _ (d : Device) (b : Bill) where
     still = refused_by say else rs (λ x. said_refused (out x).said) (λ x. said_number (out x).said) goes_on (λ x. Unchanged d b (out x)) still;
   }
 
-  abbrev said_shift : Place → Shift → Step
+  abbrev said_shift : Place → Result ℤ ShiftError → Step
   said_shift f s = record { device = d; bill = b; tally = no_tally; said = Said.Reported s; from = f }
 
   same : (s : Step) → s.device ≡ d → s.bill ≡ b → s.tally ≡ no_tally → Unchanged d b s
@@ -81,7 +86,7 @@ settled m d b drop-fault =
     settles d b (step_told b) (told_refused d) (told (cleared d) Answer.Done) (drop_refusals d)
     (λ k. (refl, refl)) (λ k. same d b _ refl refl refl) (λ _. refl)
 settled m d b (shift va) =
-    settles d b (said_shift d b (shift_from m d va)) Shift.Refused (shift_by va (look m d va).found) (shift_refusals m d va)
+    settles d b (said_shift d b (shift_from m d va)) (λ (k : ℕ). Err (ShiftError.Refused k)) (shift_by va (look m d va).found) (shift_refusals m d va)
     (λ k. (refl, refl)) (λ k. same d b _ refl refl refl) (λ c. shift-answers va (look m d va).found c.1.1.1.0)
 
 pub exactly-when : ExactlyWhen

@@ -1,7 +1,8 @@
 -- What a write does past its refusals, by its offset: it is never refused there. Assumes nothing.
+use Rattle.std.proofs.Common.{Option, Some, None}
 use Rattle.conduct.specs.Names.{◌≡◌, true, false, not, ℕ, ◌/◌, ◌%◌, eqb, pick, ◌and◌, slots, looked_up, is_prefetch, is_on, is_walking, listed}
 use Rattle.conduct.specs.Names.{page_at, Clear, look, cleared, done_with, prefetch_at, acknowledge_at, lock_at, load_at, no_match, may_walk}
-use Rattle.conduct.specs.Names.{write_refusals, Access, VirtualAddress, Lent, Bill, Prices, Fault, Pending, Command, Device, Outcome, Tending}
+use Rattle.conduct.specs.Names.{write_refusals, Access, VirtualAddress, Lent, Bill, Prices, Fault, Stall, stall, Command, Device, Outcome, Tending}
 use Rattle.conduct.proofs.Names.{refl, sym, ◌∙◌, ap, subst, true≢false, arith, leb, eqb-false, leb-false, lt-ltb, not-false, ◌or◌, pick_yes}
 use Rattle.conduct.proofs.Names.{pick_by, and_yes, and_left, and_right, is_missing, control_command, lock_command, load_command, when_bit}
 use Rattle.conduct.proofs.Names.{command_of, by_offset, attempt_of, lacks, write_lacks, is_malformed, is_untimely, prefetched, retried, carried}
@@ -15,12 +16,12 @@ module _ (m : Lent) (p : Prices) (b : Bill) (d : Device) (v : ℕ) (P : Attempte
       (stays : P nothing (done_with b d))
       (drops : P nothing (done_with b (cleared d)))
       (retries : (va : VirtualAddress) (a : Access) → lacks m d va ≡ false → P (attempt true va a) (attempt_of m p b true d va a)) where
-    held_by : (k : Fault) (va : VirtualAddress) (a : Access) → retry_lacks m d (Pending.Held k va a) ≡ false → P (retry_attempted (Pending.Held k va a)) (held_retried m p b d k va a)
+    held_by : (k : Fault) (va : VirtualAddress) (a : Access) → retry_lacks m d (Some (stall k va a)) ≡ false → P (retry_attempted (Some (stall k va a))) (held_retried m p b d k va a)
     held_by k va a h = pick-both P _ _ _ _ _ (λ _. drops) (λ e. retries va a (rest (not (is_prefetch k)) _ (ap not e) h))
 
-    retry_by : (q : Pending) → retry_lacks m d q ≡ false → P (retry_attempted q) (retried m p b d q)
-    retry_by Pending.Nothing h = stays
-    retry_by (Pending.Held k va a) h = held_by k va a h
+    retry_by : (q : Option Stall) → retry_lacks m d q ≡ false → P (retry_attempted q) (retried m p b d q)
+    retry_by None h = stays
+    retry_by (Some s) h = held_by s.fault s.at s.access h
 
     acknowledge_by : write_lacks m d acknowledge_at v ≡ false → P (write_attempted d.pending acknowledge_at v) (carried m p b d (Command.Acknowledge (eqb (v % 2) 1)))
     unfolding write_attempted write_lacks pick ◌and◌ ◌or◌

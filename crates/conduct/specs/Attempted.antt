@@ -1,8 +1,8 @@
 -- What a call asks of the slots, and what the plain walk gives for it (01, "The unit", "The walk", "Registers").
-use Rattle.std.specs.Prelude.{◌%◌, ◌≡◌}
+use Rattle.std.specs.Prelude.{Option, Some, None, ◌%◌, ◌≡◌}
 use Rattle.conduct.specs.Names.{ℕ, Bool, true, false, eqb, pick, ◌and◌, looked_up, is_prefetch, is_on, is_walking, page_at, look}
 use Rattle.conduct.specs.Names.{prefetch_at, acknowledge_at, no_match, may_walk, Call, request, write, read, drop-fault, shift, Access}
-use Rattle.conduct.specs.Names.{VirtualAddress, Lent, Reads, Pending, Device}
+use Rattle.conduct.specs.Names.{VirtualAddress, Lent, Reads, Stall, Device}
 
 -- nothing, an attempt (a retry or a fresh request), or a prefetch
 pub data Attempted : Type 0 where
@@ -11,12 +11,12 @@ pub data Attempted : Type 0 where
   prefetch : VirtualAddress → Attempted
 
 -- an acknowledgement retries the pending request as it was; a pending prefetch is only dropped
-abbrev pub retry_attempted : Pending → Attempted
-retry_attempted Pending.Nothing = nothing
-retry_attempted (Pending.Held k va a) = pick (is_prefetch k) nothing (attempt true va a)
+abbrev pub retry_attempted : Option Stall → Attempted
+retry_attempted None = nothing
+retry_attempted (Some s) = pick (is_prefetch s.fault) nothing (attempt true s.at s.access)
 
 -- a write of prefetch asks for its page, one of acknowledge with bit 0 for the retry
-unfoldable pub write_attempted : Pending → ℕ → ℕ → Attempted
+unfoldable pub write_attempted : Option Stall → ℕ → ℕ → Attempted
 write_attempted q o v =
     pick (eqb o prefetch_at) (prefetch (page_at v))
     (pick (eqb o acknowledge_at and eqb (v % 2) 1) (retry_attempted q) nothing)

@@ -25,8 +25,8 @@ flush_keeps w = word_preserved w
 abbrev pub entry_flush_keeps : Device → ℕ → Bool
 entry_flush_keeps d w = not (word_matches w (cam_address d.registers.staged))
 
--- with bit 0 set a global flush keeps V exactly where P is set, and an entry flush exactly where the slot does not match the CAM
--- address; with bit 0 clear neither changes anything
+-- with bit 0 set a global flush keeps V exactly where P is set, and an entry flush exactly where the slot does not
+-- match the CAM address; with bit 0 clear neither changes anything
 pub record Flushes (m : Lent) (d : Device) (b : Bill) (p : Prices) (v : ℕ) : Type 0 where
   pub all : in_range d ≡ true → v % 2 ≡ 1 → ValidWhere flush_keeps d (step m d b (write flush_at v p)).device
   pub entry : in_range d ≡ true → v % 2 ≡ 1 → ValidWhere (entry_flush_keeps d) d (step m d b (write entry_flush_at v p)).device

@@ -25,8 +25,8 @@ pub record WriteKeeps (o : ℕ) (before after : Device) : Type 0 where
   pub victim : may_walk o ≡ false → o ≢ lock_at → after.bank.victim ≡ before.bank.victim
   pub pending : may_walk o ≡ false → after.pending ≡ before.pending
 
--- a request leaves every register and the lock base, a write that is no reset all but its own part, a drop all but the fault, and
--- a read and a shift report everything
+-- a request leaves every register and the lock base, a write that is no reset all but its own part, a drop all but
+-- the fault, and a read and a shift report everything
 pub record LeavesAlone (m : Lent) (d : Device) (b : Bill) : Type 0 where
   pub request :
       (va : VirtualAddress) (a : Access) (p : Prices)

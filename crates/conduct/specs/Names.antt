@@ -1,10 +1,10 @@
 -- The types that the theorems speak of. Others take them from here.
-pub use Rattle.unit.specs.Names.{Access, VirtualAddress, PhysicalAddress, Words, Lent, lent_ok, Reads, Page, Found, Walked, Tally, Bill, Prices, Seen}
-pub use Rattle.unit.specs.Names.{Bank, Fill, Matched, Fault, Pending, Answer, Decision, Shift, Setting, Tending, Command}
+pub use Rattle.std.specs.Prelude.{ℤ, ◌≢◌, ◌⊎◌, ◌%◌, ◌*◌, ◌+◌, ◌/◌, ◌<◌, ◌^◌, ◌∷◌, ◌≡◌}
+pub use Rattle.unit.specs.Names.{Access, VirtualAddress, PhysicalAddress, Words, Lent, lent_ok, Reads, Page, Walked, Tally, Bill, Prices, Seen}
+pub use Rattle.unit.specs.Names.{Bank, Fault, Stall, stall, Answer, Decision, Setting, Tending, Command}
 pub use Rattle.unit.specs.declared.Device.{Device}
 pub use Rattle.unit.specs.declared.Outcome.{Outcome}
 pub use Rattle.unit.specs.declared.Told.{Told}
-pub use Rattle.std.specs.Prelude.{ℤ, ◌≢◌, ◌⊎◌, ◌%◌, ◌*◌, ◌+◌, ◌/◌, ◌<◌, ◌^◌, ◌∷◌, ◌≡◌}
 unfoldable pub use Rattle.bank.specs.Changes.{next_slot, next_victim}
 pub use Rattle.bank.specs.Slots.{slot_at}
 pub use Rattle.bill.specs.Bill.{Good, reads_posted, seen_posted}

@@ -59,8 +59,8 @@ pub record SameCall (s s' : Step) : Type 0 where
   pub tally : s.tally ≡ s'.tally
   pub said : s.said ≡ s'.said
 
--- the place stands beside the rest, as before: addresses, faults, slots, registers and meters do not depend on where a word lies,
--- and the bill only on which memory holds it
+-- the place stands beside the rest, as before: addresses, faults, slots, registers and meters do not depend on where
+-- a word lies, and the bill only on which memory holds it
 pub record PlaceBeside : Type 0 where
   pub rest : (m m' : Lent) (d : Device) (b : Bill) (c : Call) → AlikeBut nowhere m m' d → SameCall (step m d b c) (step m' d b c)
   pub bill : (m m' : Lent) (d : Device) (b : Bill) (c : Call) → AlikeBut memory_of m m' d → (step m d b c).bill ≡ (step m' d b c).bill

@@ -1,6 +1,8 @@
--- Demand 1, for every call: a refusal comes exactly when the paper says, and then nothing changes; a device in range stays in range.
-use Rattle.std.specs.Prelude.{◌^◌, ◌<◌, ◌≡◌, ◌∷◌}
-use Rattle.conduct.specs.Names.{ℕ, Bool, true, false, [], get_or, Lent, no_tally, BelowStop, Bill, Good, is_refusal, Shift}
+-- Demand 1, for every call: a refusal comes exactly when the paper says, and then nothing changes; a device in range
+-- stays in range.
+use Rattle.std.specs.Prelude.{ℤ, Result, Ok, Err, ◌^◌, ◌<◌, ◌≡◌, ◌∷◌}
+use Rattle.decision.specs.declared.ShiftError.{ShiftError}
+use Rattle.conduct.specs.Names.{ℕ, Bool, true, false, [], get_or, Lent, no_tally, BelowStop, Bill, Good, is_refusal}
 use Rattle.conduct.specs.Names.{Device, Refusals, First, Clear, in_range, request_refusals, write_refusals, read_refusals, drop_refusals}
 use Rattle.conduct.specs.Names.{shift_refusals, Call, request, write, read, drop-fault, shift, Said, said_number, Step, step, Bench, run}
 
@@ -13,10 +15,10 @@ refusals_of m d b drop-fault = drop_refusals d
 refusals_of m d b (shift va) = shift_refusals m d va
 
 -- what is said is a refusal
-abbrev pub shift_refused : Shift → Bool
-shift_refused (Shift.Distance z) = false
-shift_refused Shift.Fault = false
-shift_refused (Shift.Refused k) = true
+abbrev pub shift_refused : Result ℤ ShiftError → Bool
+shift_refused (Ok z) = false
+shift_refused (Err ShiftError.Fault) = false
+shift_refused (Err (ShiftError.Refused k)) = true
 
 abbrev pub said_refused : Said → Bool
 said_refused (Said.Answered r) = is_refusal r

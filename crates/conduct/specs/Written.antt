@@ -8,7 +8,8 @@ use Rattle.conduct.specs.Names.{Step, step, Lent, Bill, Prices, Device}
 use Rattle.conduct.specs.Refused.{Accepted, BytesFit}
 use Rattle.conduct.specs.Filled.{LanesFit}
 
--- what a register keeps of a value: reserved bits are dropped, load and the flushes read zero, and so does control after a reset
+-- what a register keeps of a value: reserved bits are dropped, load and the flushes read zero, and so does control
+-- after a reset
 unfoldable pub kept_bits : ℕ → ℕ → ℕ
 kept_bits o v =
     listed (

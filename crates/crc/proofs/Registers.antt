@@ -1,12 +1,16 @@
 -- The register behind bytes: list after list, and all bytes of a list at once, as the number that they are. Assumes nothing.
-use Rattle.crc.specs.Names.{ℕ, suc, ◌+◌, ◌*◌, ◌^◌, ◌<◌, ◌≤◌, ◌≡◌, List, [], ◌∷◌, ◌++◌, length, get_or, take, drop, bit_xor, pick, Bytes}
+use Rattle.crc.specs.Names.{ℕ, zero, suc, ◌+◌, ◌*◌, ◌^◌, ◌<◌, ◌≤◌, ◌≡◌, List, [], ◌∷◌, ◌++◌, length, get_or, take, drop, bit_xor, pick, Bytes}
 use Rattle.crc.proofs.Names.{◌∙◌, ap, ap₂, refl, sym, arith, xor_comm, xor_lt, xor_shifted, xor_zero_r, bit_steps, byte_step, crc32, crc_from, ones}
 use Rattle.crc.proofs.Xors.{xor_assoc}
 use Rattle.crc.proofs.Steps.{steps_add, steps_lt, steps_shift, steps_xor}
 use Rattle.crc.specs.Statements.{ChecksFit}
-use lib.Seq.{drop-cons, drop-drop, take-add, take_all}
-use Rattle.wire.proofs.Reading.{bytes_drop, bytes_take, four_long}
-use Rattle.wire.specs.Words.{word_of, word_at}
+use Rattle.std.proofs.lemmas.List.{take-append-drop}
+use Rattle.std.specs.List.{fold}
+use Rattle.std.specs.Simd.{first_chunks}
+use lib.ListN.{length-drop, length-take}
+use lib.Seq.{take-add, take_all}
+use Rattle.wire.proofs.Reading.{bytes_drop, bytes_take}
+use Rattle.wire.specs.Words.{word_of}
 
 -- a register keeps its 32 bits
 pub byte-lt : (c b : ℕ) → c < 2 ^ 32 → b < 256 → byte_step c b < 2 ^ 32
@@ -66,37 +70,38 @@ four_bytes : (c : ℕ) (s : List ℕ) → Bytes s → length s ≡ 4 → crc_fro
 four_bytes c s h e = crc_from-number c s h ∙ ap₂ (λ (k x : ℕ). bit_steps (8 * k) (bit_xor c x)) e (number_four s e)
 
 -- eight bytes, as two words
-pub eight_bytes : (c : ℕ) (l : List ℕ) (i : ℕ) → Bytes l → i + 8 ≤ length l
-    → crc_from c (take 8 (drop i l)) ≡ bit_xor (bit_steps 64 (bit_xor c (word_at l i))) (bit_steps 32 (word_at l (i + 4)))
-eight_bytes c l i h g =
-    let at : ℕ → List ℕ = λ (k : ℕ). take 4 (drop k l) in
-    let bytes : (k : ℕ) → Bytes (at k) = λ k. bytes_take 4 (drop k l) (bytes_drop k l h) in
-    ap (crc_from c) (take-add 4 4 (drop i l) ∙ ap (λ (s : List ℕ). at i ++ take 4 s) (drop-drop 4 i l))
-    ∙ crc_from-append c (at i) (at (i + 4))
-    ∙ four_bytes (crc_from c (at i)) (at (i + 4)) (bytes (i + 4)) (four_long l (i + 4) (omega arith))
-    ∙ steps_xor 32 (crc_from c (at i)) (word_at l (i + 4))
-    ∙ ap (λ (x : ℕ). bit_xor (bit_steps 32 x) (bit_steps 32 (word_at l (i + 4)))) (four_bytes c (at i) (bytes i) (four_long l i (omega arith)))
-    ∙ ap (λ (x : ℕ). bit_xor x (bit_steps 32 (word_at l (i + 4)))) (sym (steps_add 32 32 (bit_xor c (word_at l i))))
+pub eight_bytes : (c : ℕ) (s : List ℕ) → Bytes s → length s ≡ 8
+    → crc_from c s ≡ bit_xor (bit_steps 64 (bit_xor c (word_of (take 4 s)))) (bit_steps 32 (word_of (take 4 (drop 4 s))))
+eight_bytes c s h g =
+    let a = take 4 s in
+    let b = take 4 (drop 4 s) in
+    ap (crc_from c) (sym (take-append-drop 4 s) ∙ ap (λ l. a ++ l) (sym (take_all 4 (drop 4 s) (omega (arith, length-drop 4 s)))))
+    ∙ crc_from-append c a b
+    ∙ four_bytes (crc_from c a) b (bytes_take 4 (drop 4 s) (bytes_drop 4 s h)) (omega (arith, length-take 4 (drop 4 s), length-drop 4 s))
+    ∙ steps_xor 32 (crc_from c a) (word_of b)
+    ∙ ap (λ (x : ℕ). bit_xor (bit_steps 32 x) (bit_steps 32 (word_of b))) (four_bytes c a (bytes_take 4 s h) (omega (arith, length-take 4 s)))
+    ∙ ap (λ (x : ℕ). bit_xor x (bit_steps 32 (word_of b))) (sym (steps_add 32 32 (bit_xor c (word_of a))))
 
--- a loop begins with no byte
-pub begins : (l : List ℕ) → ones ≡ crc_from ones (take 0 l)
+-- the register behind pieces of eight bytes, and behind single bytes
+pieces_of : (k c : ℕ) (l : List ℕ) → fold crc_from c (first_chunks 8 k l) ≡ crc_from c (take (k * 8) l)
 unfolding crc_from
-begins l = refl
+pieces_of zero c l = refl
+pieces_of (suc k) c l =
+    pieces_of k (crc_from c (take 8 l)) (drop 8 l)
+    ∙ sym (crc_from-append c (take 8 l) (take (k * 8) (drop 8 l)))
+    ∙ ap (crc_from c) (sym (take-add 8 (k * 8) l) ∙ ap (λ n. take n l) (let e : 8 + k * 8 ≡ suc k * 8 = omega arith in e))
 
--- its turn: the register behind i bytes, and behind n more
-pub goes_on : (n : ℕ) (l : List ℕ) (i c r : ℕ) → c ≡ crc_from ones (take i l) → r ≡ crc_from c (take n (drop i l)) → r ≡ crc_from ones (take (i + n) l)
-goes_on n l i c r e f =
-    f
-    ∙ ap (λ (x : ℕ). crc_from x (take n (drop i l))) e
-    ∙ sym (crc_from-append ones (take i l) (take n (drop i l)))
-    ∙ ap (crc_from ones) (sym (take-add i n l))
-
--- a byte as a list of one
-pub byte-taken : (c : ℕ) (l : List ℕ) (i : ℕ) → i < length l → byte_step c (get_or l i 0) ≡ crc_from c (take 1 (drop i l))
+bytes_of : (c : ℕ) (l : List ℕ) → fold byte_step c l ≡ crc_from c l
 unfolding crc_from
-byte-taken c l i h = sym (ap (λ (s : List ℕ). crc_from c (take 1 s)) (drop-cons l i 0 h))
+bytes_of c [] = refl
+bytes_of c (b ∷ l) = bytes_of (byte_step c b) l
 
--- its end: behind all bytes
-pub ends : (l : List ℕ) (i c : ℕ) → length l ≤ i → c ≡ crc_from ones (take i l) → bit_xor c ones ≡ crc32 l
+-- all bytes, in pieces of eight and the rest
+pub in_pieces : (k : ℕ) (l : List ℕ) → bit_xor (fold byte_step (fold crc_from ones (first_chunks 8 k l)) (drop (k * 8) l)) ones ≡ crc32 l
 unfolding crc32
-ends l i c h e = ap (λ (x : ℕ). bit_xor x ones) (e ∙ ap (crc_from ones) (take_all i l h))
+in_pieces k l =
+    ap (λ (x : ℕ). bit_xor x ones)
+    (bytes_of (fold crc_from ones (first_chunks 8 k l)) (drop (k * 8) l)
+    ∙ ap (λ (x : ℕ). crc_from x (drop (k * 8) l)) (pieces_of k ones l)
+    ∙ sym (crc_from-append ones (take (k * 8) l) (drop (k * 8) l))
+    ∙ ap (crc_from ones) (take-append-drop (k * 8) l))

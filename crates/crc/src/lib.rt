@@ -2,31 +2,30 @@
 // CRC-32 of IEEE 802.3, reflected: eight bytes at a time, by a table that is laid once for as many lists as one likes.
 mod words;
 
-ghost use Rattle.std.specs.Prelude.{◌≡◌, ◌+◌, ◌/◌, ◌%◌, ◌<◌, ◌≤◌};
-ghost use Rattle.crc.specs.Names.{length, take, drop};
+ghost use Rattle.std.specs.Prelude.{◌≡◌, ◌+◌, ◌/◌, ◌%◌, ◌<◌, ◌≤◌, fold};
 ghost use Rattle.crc.specs.Crc.{behind, byte_step, crc_from, crc32, IsTable};
 
 // How many words the table has.
 pub const SIZE: usize = 2048;
 
 // The table.
-pub fn table() -> [u32; 2048]
+pub fn table() -> [u32; SIZE]
     ensures { IsTable result }
 {
     words::WORDS
 }
 
 // The word of row j for one byte of x, that whose place is worth d.
-fn share(t: &[u32], j: usize, x: u32, d: u32) -> u32
-    requires { (2048 ≤ length t.now) × (j < 8) × (0 < d) }
+fn share(t: &[u32; SIZE], j: usize, x: u32, d: u32) -> u32
+    requires { (j < 8) × (0 < d) }
     ensures { IsTable t.now → result ≡ behind j (x / d % 256) }
 {
     t[256 * j + (x / d % 256) as usize]
 }
 
 // Four bytes behind the bits of row j, by the words of four rows.
-fn four(t: &[u32], j: usize, x: u32) -> u32
-    requires { (2048 ≤ length t.now) × (j ≤ 4) }
+fn four(t: &[u32; SIZE], j: usize, x: u32) -> u32
+    requires { j ≤ 4 }
     ensures { IsTable t.now → result ≡ behind j x }
 {
     share(t, j, x, 1)
@@ -35,18 +34,15 @@ fn four(t: &[u32], j: usize, x: u32) -> u32
         ^ share(t, j + 3, x, 16777216)
 }
 
-// The register behind eight bytes more, from an offset on.
-fn eight(t: &[u32], c: u32, bytes: &[u8], i: usize) -> u32
-    requires { (2048 ≤ length t.now) × (i + 8 ≤ length bytes.now) }
-    ensures { IsTable t.now → result ≡ crc_from c (take 8 (drop i bytes.now)) }
+// The register behind eight bytes more.
+fn eight(t: &[u32; SIZE], c: u32, bytes: &[u8; 8]) -> u32
+    ensures { IsTable t.now → result ≡ crc_from c bytes.now }
 {
-    four(t, 0, c ^ wire::word_of(&bytes[i..i + 4]))
-        ^ four(t, 4, wire::word_of(&bytes[i + 4..i + 8]))
+    four(t, 0, c ^ wire::word_of(&bytes[..4])) ^ four(t, 4, wire::word_of(&bytes[4..]))
 }
 
 // The register behind one byte more.
-fn one(t: &[u32], c: u32, b: u8) -> u32
-    requires { 2048 ≤ length t.now }
+fn one(t: &[u32; SIZE], c: u32, b: u8) -> u32
     ensures { IsTable t.now → result ≡ byte_step c b }
 {
     share(t, 7, c ^ (b as u32), 1) ^ (c / 256)
@@ -56,27 +52,23 @@ fn one(t: &[u32], c: u32, b: u8) -> u32
 pub fn crc32_by(t: &[u32], bytes: &[u8]) -> u32
     ensures { IsTable t.now → result ≡ crc32 bytes.now }
 {
-    if t.len() < SIZE {
+    let Some(t) = t.first_chunk() else {
         return 0;
+    };
+    let (eights, rest) = bytes.as_chunks();
+    let mut c = u32::MAX;
+    for b in eights {
+        c = eight(t, c, b);
     }
-    let n = bytes.len();
-    let mut c: u32 = 4294967295;
-    let mut i: usize = 0;
-    while 8 <= n - i {
-        c = eight(t, c, bytes, i);
-        i += 8;
+    for b in rest {
+        c = one(t, c, *b);
     }
-    while i < n {
-        c = one(t, c, bytes[i]);
-        i += 1;
-    }
-    c ^ 4294967295
+    c ^ u32::MAX
 }
 
 // The check of a list of bytes.
 pub fn crc32(bytes: &[u8]) -> u32
     ensures { result ≡ crc32 bytes.now }
 {
-    let t = table();
-    crc32_by(&t, bytes)
+    crc32_by(&table(), bytes)
 }

@@ -1,5 +1,5 @@
 // The table's words: word 256 * j + n is n after 8 * (8 - j) bits, so that each of eight bytes has its own 256.
-pub const WORDS: [u32; 2048] = [
+pub const WORDS: [u32; crate::SIZE] = [
     0x00000000, 0xCCAA009E, 0x4225077D, 0x8E8F07E3, 0x844A0EFA, 0x48E00E64, 0xC66F0987, 0x0AC50919,
     0xD3E51BB5, 0x1F4F1B2B, 0x91C01CC8, 0x5D6A1C56, 0x57AF154F, 0x9B0515D1, 0x158A1232, 0xD92012AC,
     0x7CBB312B, 0xB01131B5, 0x3E9E3656, 0xF23436C8, 0xF8F13FD1, 0x345B3F4F, 0xBAD438AC, 0x767E3832,

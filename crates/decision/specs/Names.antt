@@ -1,26 +1,25 @@
 -- The types that decisions are written with, and their cases: the same aliases everywhere. Others take them from here.
+pub use Rattle.decision.specs.declared.ShiftError.{ShiftError}
+pub use Rattle.std.specs.Prelude.{Result, Ok, Err, Option, Some, None, ℤ, ◌%◌, ◌*◌, ◌^◌, ◌∷◌, ◌≡◌}
+pub use Rattle.walk.specs.declared.Unfound.{Unfound}
 pub use Rattle.page.specs.declared.Access.{Access}
 pub use Rattle.page.specs.declared.VirtualAddress.{VirtualAddress}
 pub use Rattle.page.specs.declared.PhysicalAddress.{PhysicalAddress}
 pub use Rattle.page.specs.declared.Words.{Words}
-pub use Rattle.memory.specs.Memory.{Lent, lent, lent_ok}
+pub use Rattle.memory.specs.Memory.{Lent, lent, lent_of, lent_ok}
 pub use Rattle.memory.specs.declared.Reads.{Reads}
 pub use Rattle.walk.specs.declared.Page.{Page}
-pub use Rattle.walk.specs.declared.Found.{Found}
 pub use Rattle.walk.specs.declared.Walked.{Walked}
 pub use Rattle.meters.specs.declared.Tally.{Tally}
 pub use Rattle.bill.specs.declared.Bill.{Bill}
 pub use Rattle.prices.specs.declared.Prices.{Prices}
 pub use Rattle.bill.specs.declared.Seen.{Seen}
 pub use Rattle.bank.specs.declared.Bank.{Bank}
-pub use Rattle.bank.specs.declared.Fill.{Fill}
-pub use Rattle.lanes.specs.declared.Matched.{Matched}
 pub use Rattle.registers.specs.declared.Fault.{Fault}
-pub use Rattle.registers.specs.declared.Pending.{Pending}
+pub use Rattle.registers.specs.declared.Stall.{Stall}
+pub use Rattle.registers.specs.Answers.{stall}
 pub use Rattle.registers.specs.declared.Answer.{Answer}
 pub use Rattle.decision.specs.declared.Decision.{Decision}
-pub use Rattle.decision.specs.declared.Shift.{Shift}
-pub use Rattle.std.specs.Prelude.{ℤ, ◌%◌, ◌*◌, ◌^◌, ◌∷◌, ◌≡◌}
 pub use Rattle.bill.specs.Bill.{reads_posted, seen_posted}
 pub use Rattle.lanes.specs.Lanes.{looked_up}
 pub use Rattle.meters.specs.Posted.{no_tally}

@@ -2,29 +2,28 @@
 // What an access and a matching slot come to, what an answer leaves, and the shift report.
 ghost use Rattle.std.specs.Prelude.{◌≡◌};
 ghost use Rattle.decision.specs.Decisions.{by_access, plainly, by_match, settled, metered_once, tally_of};
-ghost use Rattle.decision.specs.Prefetches.{prefetch_kept, shift_by};
+ghost use Rattle.decision.specs.Prefetches.{prefetch_kept, unshifted, shift_by};
 
-use bank::Fill;
 use bill::Seen;
 use memory::Reads;
 use meters::Tally;
-use page::{Access, PhysicalAddress, VirtualAddress};
-use registers::{Answer, Fault, Pending};
-use walk::Found;
+use page::{Access, PhysicalAddress, VirtualAddress, Words};
+use registers::{Answer, Fault, Stall, refusals};
+use walk::{Page, Unfound};
 
 // What an attempt comes to: its answer, what it puts into the slots, the words it read and what it did with the slots.
 #[derive(Clone, Copy)]
 pub struct Decision {
     pub answer: Answer,
-    pub fill: Fill,
+    pub fill: Option<Words>,
     pub reads: Reads,
     pub seen: Seen,
 }
 
-// Physical minus virtual, or why not.
+// Why there is no shift to report: a translation fault, or a refusal.
+// Kept: `run::answers::put_said` takes a report with any number of a refusal.
 #[derive(Clone, Copy)]
-pub enum Shift {
-    Distance(i64),
+pub enum ShiftError {
     Fault,
     Refused(u8),
 }
@@ -33,17 +32,19 @@ pub enum Shift {
 #[derive(Clone, Copy)]
 pub enum Said {
     Answered(Answer),
-    Reported(Shift),
+    Reported(Result<i64, ShiftError>),
 }
 
 // A page's byte, or a permission fault.
+#[tactic(auto, using(page::proofs::Picks::pick_yes, page::proofs::Picks::pick_no), unfolding(crate::specs::Decisions::by_access))]
 pub fn by_access(bits: u32, at: PhysicalAddress, a: Access) -> Answer
     ensures { result ≡ by_access bits at a }
 {
     if page::permitted(bits, a) {
-        return Answer::Address(at);
+        Answer::Address(at)
+    } else {
+        Answer::Fault(Fault::Permission)
     }
-    Answer::Fault(Fault::Permission)
 }
 
 // A decision that reads no word and fills nothing.
@@ -51,10 +52,10 @@ pub fn plain(answer: Answer, seen: Seen) -> Decision
     ensures { result ≡ plainly answer seen }
 {
     Decision {
-        answer: answer,
-        fill: Fill::Nothing,
+        answer,
+        fill: None,
         reads: Reads::Nothing,
-        seen: seen,
+        seen,
     }
 }
 
@@ -63,20 +64,22 @@ pub fn by_match(cam: u32, ram: u32, va: VirtualAddress, a: Access) -> Decision
     ensures { result ≡ by_match cam ram va a }
 {
     let at = page::translated(cam, ram, va);
-    let answer = by_access(page::access_of(ram), at, a);
-    plain(answer, Seen::Match)
+    plain(by_access(page::access_of(ram), at, a), Seen::Match)
 }
 
 // The pending fault after an answer.
-pub fn settle(p: Pending, answer: Answer, va: VirtualAddress, a: Access) -> Pending
-    ensures { result ≡ settled va a p answer }
+pub fn settle(
+    pending: Option<Stall>,
+    answer: Answer,
+    at: VirtualAddress,
+    access: Access,
+) -> Option<Stall>
+    ensures { result ≡ settled at access pending answer }
 {
     match answer {
-        Answer::Address(_) => Pending::Nothing,
-        Answer::Fault(k) => Pending::Held(k, va, a),
-        Answer::Value(_) => p,
-        Answer::Done => p,
-        Answer::Refused(_) => p,
+        Answer::Address(_) => None,
+        Answer::Fault(fault) => Some(Stall { fault, at, access }),
+        _ => pending,
     }
 }
 
@@ -85,16 +88,17 @@ fn metered(again: bool, words: u32) -> Tally
     ensures { result ≡ metered_once again words }
 {
     if again {
-        return Tally {
+        Tally {
             fresh: 0,
             retries: 1,
-            words: words,
-        };
-    }
-    Tally {
-        fresh: 1,
-        retries: 0,
-        words: words,
+            words,
+        }
+    } else {
+        Tally {
+            fresh: 1,
+            retries: 0,
+            words,
+        }
     }
 }
 
@@ -103,11 +107,8 @@ pub fn tally_of(again: bool, answer: Answer, words: u32) -> Tally
     ensures { result ≡ tally_of again words answer }
 {
     match answer {
-        Answer::Address(_) => metered(again, words),
-        Answer::Fault(_) => metered(again, words),
-        Answer::Value(_) => Tally::zero(),
-        Answer::Done => Tally::zero(),
-        Answer::Refused(_) => Tally::zero(),
+        Answer::Address(_) | Answer::Fault(_) => metered(again, words),
+        _ => Tally::zero(),
     }
 }
 
@@ -117,23 +118,26 @@ pub fn prefetch_kept(v: u16, old: u16, answer: Answer) -> u16
 {
     match answer {
         Answer::Refused(_) => old,
-        Answer::Address(_) => v,
-        Answer::Fault(_) => v,
-        Answer::Value(_) => v,
-        Answer::Done => v,
+        _ => v,
+    }
+}
+
+// A walk without its page, as a shift report says it.
+impl From<Unfound> for ShiftError {
+    ghost from_gives = { λ u e. e ≡ unshifted u };
+
+    fn from(u: Unfound) -> ShiftError {
+        match u {
+            Unfound::Missing => ShiftError::Refused(refusals::NO_WORD),
+            Unfound::NoPage => ShiftError::Fault,
+        }
     }
 }
 
 // The shift of an address by what its plain walk found.
-pub fn shift_by(found: Found, va: VirtualAddress) -> Shift
+pub fn shift_by(found: Result<Page, Unfound>, va: VirtualAddress) -> Result<i64, ShiftError>
     ensures { result ≡ shift_by va found }
 {
-    match found {
-        Found::Missing => Shift::Refused(3),
-        Found::NoPage => Shift::Fault,
-        Found::Page(p) => Shift::Distance(walk::descriptors::distance(
-            walk::descriptors::physical(p, va),
-            va,
-        )),
-    }
+    let page = found?;
+    Ok(walk::descriptors::distance(walk::descriptors::physical(page, va), va))
 }

@@ -1,17 +1,20 @@
 -- The builder's answer is the first of its refusals, else the image's length, and then it leaves the image. Assumes nothing.
+use Rattle.std.proofs.Common.{Ok}
+use Rattle.builder.specs.declared.BuildError.{BuildError}
+use Rattle.std.proofs.Common.{Result, Err}
+use Rattle.records.specs.declared.BadList.{BadList}
 use Rattle.demands.specs.Demands.Names.{◌≡◌, Bool, true, false, not, List, [], ◌∷◌, ℕ, zero, suc, eqb, ltb, length, megabytes, mappings, bad}
-use Rattle.demands.specs.Demands.Names.{overlapping, begun, image_length, image, Built, room_ok, answer_of, build_of, Refusing, First, Clear}
+use Rattle.demands.specs.Demands.Names.{overlapping, begun, image_length, image, room_ok, answer_of, build_of, Refusing, First, Clear}
 use Rattle.demands.proofs.Names.{refl, sym, ◌∙◌, ap, subst, false≢true, inl, inr, pick, image_length-is, accepted, leaves-image}
 use Rattle.records.specs.Refusals.{checked_from, checked}
-use Rattle.records.specs.declared.Checked.{Checked}
 use Rattle.builder.specs.Build.{after_check, length_or, leaves}
 use Rattle.unit.specs.Refusals.{refuses}
 use Rattle.conduct.proofs.Firsts.{exactly-first, accepted_clear}
 use Rattle.demands.specs.Building.{record_refusals, build_refusals, built_refused, built_said, BuildRefuses, BuildLeaves}
 
 -- a refusal as the builder's answer, by its number
-abbrev say : ℕ × ℕ → Built
-say r = pick (eqb r.0 4) Built.BadMemory (pick (eqb r.0 10) (Built.BadRecord r.1) (pick (eqb r.0 11) (Built.Overlap r.1) (Built.TooLong r.1)))
+abbrev say : ℕ × ℕ → Result ℕ BuildError
+say r = pick (eqb r.0 4) (Err BuildError.BadMemory) (pick (eqb r.0 10) (Err (BuildError.BadRecord r.1)) (pick (eqb r.0 11) (Err (BuildError.Overlap r.1)) (Err (BuildError.TooLong r.1))))
 
 abbrev Told : ℕ × ℕ → Type 0
 Told r = (built_refused (say r) ≡ true) × (built_said (say r) ≡ r)
@@ -27,16 +30,16 @@ first_each P (r ∷ rs) k e (inl f) = subst P f.1 e.0
 first_each P (r ∷ rs) k e (inr f) = first_each P rs k e.1 f.1
 
 -- one record: 10, else 11, else what follows
-one_record : (s t : Bool) (i : ℕ) (x : Checked) (b y : Built) → after_check x b ≡ y
-    → after_check (pick s (Checked.BadRecord i) (pick t (Checked.Overlap i) x)) b ≡ pick s (Built.BadRecord i) (pick t (Built.Overlap i) y)
+one_record : (s t : Bool) (i : ℕ) (x : Result Unit BadList) (b y : Result ℕ BuildError) → after_check x b ≡ y
+    → after_check (pick s (Err (BadList.BadRecord i)) (pick t (Err (BadList.Overlap i)) x)) b ≡ pick s (Err (BuildError.BadRecord i)) (pick t (Err (BuildError.Overlap i)) y)
 unfolding pick
 one_record true t i x b y e = refl
 one_record false true i x b y e = refl
 one_record false false i x b y e = e
 
 module _ (rs : List ℕ) (base room : ℕ) where
-  abbrev else : Built
-  else = Built.Length (image_length megabytes (mappings rs))
+  abbrev else : Result ℕ BuildError
+  else = Ok (image_length megabytes (mappings rs))
 
   abbrev last : Refusing (ℕ × ℕ)
   last = (ltb room (image_length megabytes (mappings rs)), (12, length (mappings rs))) ∷ []
@@ -52,7 +55,7 @@ module _ (rs : List ℕ) (base room : ℕ) where
 
   answer-is : answer_of rs base room ≡ refuses (build_refusals rs base room) say else
   unfolding answer_of checked refuses pick
-  answer-is = ap (λ (x : Built). pick (not (room_ok base room)) Built.BadMemory x) (records_are 0 (begun rs))
+  answer-is = ap (λ (x : Result ℕ BuildError). pick (not (room_ok base room)) (Err BuildError.BadMemory) x) (records_are 0 (begun rs))
 
   records-told : (i n : ℕ) → Each Told (record_refusals rs i n last)
   unfolding pick
@@ -69,7 +72,7 @@ module _ (rs : List ℕ) (base room : ℕ) where
       × (First (build_refusals rs base room) (k, i) → (built_refused (answer_of rs base room) ≡ true) × (built_said (answer_of rs base room) ≡ (k, i)))
   exactly k i =
       subst
-      (λ (x : Built).
+      (λ (x : Result ℕ BuildError).
       ((built_refused x ≡ true) × (built_said x ≡ (k, i)) → First (build_refusals rs base room) (k, i))
       × (First (build_refusals rs base room) (k, i) → (built_refused x ≡ true) × (built_said x ≡ (k, i))))
       (sym answer-is)
@@ -80,18 +83,18 @@ module _ (rs : List ℕ) (base room : ℕ) where
       × (Clear (build_refusals rs base room) → built_refused (answer_of rs base room) ≡ false)
   clear =
       subst
-      (λ (x : Built).
+      (λ (x : Result ℕ BuildError).
       (built_refused x ≡ false → Clear (build_refusals rs base room)) × (Clear (build_refusals rs base room) → built_refused x ≡ false))
       (sym answer-is)
       (accepted_clear say else (build_refusals rs base room) built_refused built_said (λ _. refl) (λ r f. first_each Told (build_refusals rs base room) r told f))
 
 -- a refused build leaves the memory
-left : (b : Built) (img before : List ℕ) → built_refused b ≡ true → leaves b img before ≡ before
-left (Built.Length n) img before h = absurd (false≢true h)
-left Built.BadMemory img before h = refl
-left (Built.BadRecord i) img before h = refl
-left (Built.Overlap i) img before h = refl
-left (Built.TooLong c) img before h = refl
+left : (b : Result ℕ BuildError) (img before : List ℕ) → built_refused b ≡ true → leaves b img before ≡ before
+left (Ok n) img before h = absurd (false≢true h)
+left (Err BuildError.BadMemory) img before h = refl
+left (Err (BuildError.BadRecord i)) img before h = refl
+left (Err (BuildError.Overlap i)) img before h = refl
+left (Err (BuildError.TooLong c)) img before h = refl
 
 build_answers : (rs : List ℕ) (base : ℕ) (before : List ℕ) → (build_of rs base before).answer ≡ answer_of rs base (length before)
 unfolding build_of

@@ -1,6 +1,7 @@
 -- Demand 3 in the buyer's order, and a session with list A. Assumes nothing.
+use Rattle.std.proofs.Common.{Ok}
 use Rattle.demands.specs.Demands.Names.{◌≡◌, Bool, true, List, [], ◌∷◌, ◌++◌, ℕ, zero, suc, ◌<◌, ltb, length, drop, replicate, Access, virtual}
-use Rattle.demands.specs.Demands.Names.{megabytes, Lent, LentAt, lent_ok, mappings, meaning, image_length, image, Built, room_ok, answer_of, build_of}
+use Rattle.demands.specs.Demands.Names.{megabytes, Lent, LentAt, lent_ok, mappings, meaning, image_length, image, room_ok, answer_of, build_of}
 use Rattle.demands.specs.Demands.Names.{money_ok, fresh_bill, Answer, BilledCall, after, Admitted, Standing, Bytes, records_a, base_a, Device}
 use Rattle.demands.proofs.Names.{refl, sym, ◌∙◌, ap, ap₂, subst, inl, inr, arith, pick, byte_of, holder, image_length-is, accepted}
 use Rattle.demands.proofs.Names.{leaves-image, meant_as, ValuesFit, Session}
@@ -30,17 +31,17 @@ use Rattle.demands.proofs.Answering.{requests-answered}
 
 -- a memory that was built in has the image, wherever it is lent
 module _ (rs : List ℕ) (base len : ℕ) (before : List ℕ) where
-  pub answer-is : (build_of rs base before).answer ≡ Built.Length len → answer_of rs base (length before) ≡ Built.Length len
+  pub answer-is : (build_of rs base before).answer ≡ Ok len → answer_of rs base (length before) ≡ Ok len
   unfolding build_of
   answer-is e = e
 
-  stands_at : (l : List ℕ) (b : ℕ) → l ≡ (build_of rs base before).memory → b ≡ base → answer_of rs base (length before) ≡ Built.Length len
+  stands_at : (l : List ℕ) (b : ℕ) → l ≡ (build_of rs base before).memory → b ≡ base → answer_of rs base (length before) ≡ Ok len
       → Has l b base (image megabytes (mappings rs) base)
   stands_at l b e f h =
       subst (λ (x : ℕ). Has l x base (image megabytes (mappings rs) base)) (sym f)
       (subst (λ (x : List ℕ). Has x base base (image megabytes (mappings rs) base)) (sym e) (built-has rs base len before h))
 
-  pub stands : (m : Lent) → LentAt (build_of rs base before).memory base m → answer_of rs base (length before) ≡ Built.Length len → Standing m base (image megabytes (mappings rs) base)
+  pub stands : (m : Lent) → LentAt (build_of rs base before).memory base m → answer_of rs base (length before) ≡ Ok len → Standing m base (image megabytes (mappings rs) base)
   stands m (inl l) h = inl (stands_at m.on m.onbase l.0 l.1 h)
   stands m (inr l) h = inr (stands_at m.ext m.extbase l.0 l.1 h)
 
@@ -69,7 +70,7 @@ bytes_below (x ∷ xs) h zero = ltb-true x 256 (and_left _ _ h)
 bytes_below (x ∷ xs) h (suc i) = bytes_below xs (and_right (ltb x 256) _ h) i
 
 -- an accepted build leaves as many bytes as there were, and bytes where there were bytes
-module _ (rs : List ℕ) (base len : ℕ) (before : List ℕ) (e : answer_of rs base (length before) ≡ Built.Length len) where
+module _ (rs : List ℕ) (base len : ℕ) (before : List ℕ) (e : answer_of rs base (length before) ≡ Ok len) where
   abbrev img : List ℕ
   img = image megabytes (mappings rs) base
 
@@ -119,7 +120,7 @@ bytes_a : Bytes records_a
 unfolding ◌and◌
 bytes_a = bytes_below records_a refl
 
-built_a : (build_of records_a base_a (replicate room_a 0)).answer ≡ Built.Length room_a
+built_a : (build_of records_a base_a (replicate room_a 0)).answer ≡ Ok room_a
 unfolding build_of
 built_a = ap (answer_of records_a base_a) (length-replicate {A = ℕ} room_a 0) ∙ accepts_a
 

@@ -1,7 +1,13 @@
 -- What holds of images that were not built here. Assumes nothing.
+use Rattle.memory.specs.declared.Place.{Place}
+use Rattle.walk.specs.declared.Unfound.{Unfound}
+use Rattle.std.proofs.Common.{Result, Ok, Err}
+use Rattle.records.specs.declared.Denial.{Denial}
+use Rattle.page.specs.declared.PhysicalAddress.{PhysicalAddress}
+use Rattle.std.proofs.Common.{Option, Some, None}
 use Rattle.demands.specs.Demands.Names.{◌≡◌, Bool, true, false, List, [], ◌∷◌, ◌++◌, ℕ, zero, suc, ◌%◌, ◌<◌, length, limit, megabytes, Lent, LentAt, lent_alone, lent_ok}
-use Rattle.demands.specs.Demands.Names.{mappings, meaning, Meaning, image_length, image, Built, room_ok, answer_of, build_of, is_refusal, Access, VirtualAddress, Device, Said, step}
-use Rattle.demands.specs.Demands.Names.{after, asked, asks, Bill, Prices, TurnsOn, start, Bytes, Verdict, check_of, pages_in, records_of, plain}
+use Rattle.demands.specs.Demands.Names.{mappings, meaning, image_length, image, room_ok, answer_of, build_of, is_refusal, Access, VirtualAddress, Device, Said, step}
+use Rattle.demands.specs.Demands.Names.{after, asked, asks, Bill, Prices, TurnsOn, start, Bytes, check_of, pages_in, records_of, plain}
 use Rattle.demands.proofs.Names.{refl, sym, ◌∙◌, ap, subst, arith, byte_of, holder, accepted, Uniform, started, look_in, start_control, start-on, start-walking}
 use Rattle.demands.proofs.Names.{started_in_any_order, image_translates, meant_as, AsList}
 use Prim.Native.Nat.{◌+◌, ◌-◌, ◌*◌, ◌≤◌, ◌^◌}
@@ -15,18 +21,14 @@ use Rattle.page.proofs.Picks.{and_right, and_yes, pick_by}
 use Rattle.memory.specs.Memory.{memory_ok}
 use Rattle.wire.specs.Words.{word_at, word_bytes}
 use Rattle.records.specs.declared.Mapping.{Mapping}
-use Rattle.records.specs.declared.Held.{Held}
 use Rattle.records.specs.Mappings.{record_of}
 use Rattle.records.proofs.Alls.{All, all_append}
 use Rattle.records.proofs.Records.{Recordable, records_say}
 use Rattle.tables.specs.Tables.{table_end, table_of, table_size, table_start}
 use Rattle.tables.specs.Words.{first_word}
-use Rattle.tables.specs.declared.Second.{Second}
 use Rattle.tables.proofs.Places.{image-first, end_next, end_last}
 use Rattle.walk.specs.declared.First.{First}
-use Rattle.walk.specs.declared.Found.{Found}
 use Rattle.walk.specs.declared.Page.{Page}
-use Rattle.walk.specs.declared.Read.{Read}
 use Rattle.walk.specs.declared.Table.{Table}
 use Rattle.walk.specs.Descriptors.{first_of, second_of}
 use Rattle.walk.specs.Walk.{read_in}
@@ -55,13 +57,13 @@ use Rattle.demands.proofs.Lists.{list-said, as_list, refused-uniform, refused-pl
 use Rattle.demands.proofs.Buyer.{answer-is, stands, is-lent, built-length, built-lent}
 
 -- a listed page gives its byte and access
-page-gives : (h : Held) (va : VirtualAddress) → Gives h va (found_by h)
+page-gives : (h : Option Mapping) (va : VirtualAddress) → Gives h va (found_by h)
 unfolding byte_of
-page-gives (Held.By m) va = (refl, refl)
-page-gives Held.Nobody va = tt
+page-gives (Some m) va = (refl, refl)
+page-gives None va = tt
 
 -- an accepted image, wherever it is lent
-module _ (l : List ℕ) (base k : ℕ) (e : check_of megabytes l base ≡ Verdict.Good k) where
+module _ (l : List ℕ) (base k : ℕ) (e : check_of megabytes l base ≡ Ok k) where
   said_at : (m : Lent) → lent_ok m ≡ true → LentAt l base m → (va : VirtualAddress) (a : Access) → va.0 < limit
       → plain (look_in m base) va a ≡ meant_as (meaning (pages_in megabytes l base) va a)
   said_at m ok at va a low =
@@ -104,7 +106,7 @@ foreign-called l base k m v p b₀ cs b c va a r acc at on adm =
         absurd (true≢false (sym (ap is_refusal (n.1 ∙ refused-plain m base va a ok)) ∙ f))
 
 -- the words of a built image, read back
-module _ (rs : List ℕ) (base len : ℕ) (before : List ℕ) (bytes : Bytes rs) (e : answer_of rs base (length before) ≡ Built.Length len) where
+module _ (rs : List ℕ) (base len : ℕ) (before : List ℕ) (bytes : Bytes rs) (e : answer_of rs base (length before) ≡ Ok len) where
   abbrev built : List ℕ
   built = (build_of rs base before).memory
 
@@ -120,9 +122,9 @@ module _ (rs : List ℕ) (base len : ℕ) (before : List ℕ) (bytes : Bytes rs)
   long : image_length megabytes (mappings rs) ≤ length built
   long = omega (arith, (accepted rs base (length before) len e).fits, built-length rs base len before e)
 
-  abbrev word_in : Read → ℕ
-  word_in (Read.Word w p) = w
-  word_in Read.Missing = 0
+  abbrev word_in : Option (ℕ × Place) → ℕ
+  word_in (Some (w, p)) = w
+  word_in None = 0
 
   first_word_lem : (i : ℕ) → i < megabytes → word_at built (4 * i) ≡ first_word megabytes (mappings rs) base i
   first_word_lem i h =
@@ -130,20 +132,20 @@ module _ (rs : List ℕ) (base len : ℕ) (before : List ℕ) (bytes : Bytes rs)
       (sym (lent-read lone built base (4 * i) lent_ok_lem (alone_at built base) (omega (arith, long, image-first megabytes (mappings rs))))
       ∙ first_read megabytes (mappings rs) base (read_in lone) (place_in lone) read.words i h)
 
-  named : (i : ℕ) → i < megabytes → (t : Second) → table_of (mappings rs) i ≡ t → NamedInside base (length built) (first_of (first_word megabytes (mappings rs) base i))
+  named : (i : ℕ) → i < megabytes → (t : Option Table) → table_of (mappings rs) i ≡ t → NamedInside base (length built) (first_of (first_word megabytes (mappings rs) base i))
   named i h t f =
       let n = end_next megabytes (mappings rs) i in
       let z = end_last megabytes (mappings rs) (suc i) (omega arith) in
       by t f n z
     where
-      by : (t : Second) → table_of (mappings rs) i ≡ t → ◌≡◌ {A = ℕ} (table_end megabytes (mappings rs) (suc i)) (table_start megabytes (mappings rs) i + table_size (table_of (mappings rs) i))
+      by : (t : Option Table) → table_of (mappings rs) i ≡ t → ◌≡◌ {A = ℕ} (table_end megabytes (mappings rs) (suc i)) (table_start megabytes (mappings rs) i + table_size (table_of (mappings rs) i))
           → table_end megabytes (mappings rs) (suc i) ≤ image_length megabytes (mappings rs) → NamedInside base (length built) (first_of (first_word megabytes (mappings rs) base i))
-      by Second.Fine f n z =
+      by (Some Table.Fine) f n z =
           subst (NamedInside base (length built)) (sym (says_fine megabytes (mappings rs) base i read.unit f)) (omega arith, omega (arith, n, z, long, ap table_size f))
-      by Second.Coarse f n z =
+      by (Some Table.Coarse) f n z =
           subst (NamedInside base (length built)) (sym (says_coarse megabytes (mappings rs) base i read.unit f)) (omega arith, omega (arith, n, z, long, ap table_size f))
-      by Second.Absent f n z =
-          subst (λ (w : ℕ). NamedInside base (length built) (first_of w)) (sym (first-is megabytes (mappings rs) base i Second.Absent f))
+      by None f n z =
+          subst (λ (w : ℕ). NamedInside base (length built) (first_of w)) (sym (first-is megabytes (mappings rs) base i None f))
           (no_table (NamedInside base (length built)) tt (λ _. tt) (holder (mappings rs) (virtual (i * 2 ^ 20))))
 
   image_ok_lem : image_ok base (length built) ≡ true
@@ -162,7 +164,7 @@ module _ (rs : List ℕ) (base len : ℕ) (before : List ℕ) (bytes : Bytes rs)
     groups = image_repeated megabytes (mappings rs) base (read_in lone) (place_in lone) read.words read.apart read.unit;
   }
 
-  good : check_of megabytes built base ≡ Verdict.Good (length (pages_in megabytes built base))
+  good : check_of megabytes built base ≡ Ok (length (pages_in megabytes built base))
   good = (accepted-exactly megabytes built base).1 consistent
 
   -- what the list says of it
@@ -172,16 +174,16 @@ module _ (rs : List ℕ) (base len : ℕ) (before : List ℕ) (bytes : Bytes rs)
       ((image_translates rs base (length before) len lone bytes e lent_ok_lem (stands rs base len before lone (is-lent rs base before) e)).gives va low)
 
 -- two meanings that are answered alike are the same
-meant_once : (x y : Meaning) → meant_as x ≡ meant_as y → x ≡ y
-meant_once (Meaning.Byte p) (Meaning.Byte q) e = cc
-meant_once (Meaning.Byte p) Meaning.Permission e = let z : ◌≡◌ {A = ℕ} 0 1 = cc in absurd (omega arith)
-meant_once (Meaning.Byte p) Meaning.Translation e = let z : ◌≡◌ {A = ℕ} 0 1 = cc in absurd (omega arith)
-meant_once Meaning.Permission (Meaning.Byte q) e = let z : ◌≡◌ {A = ℕ} 0 1 = cc in absurd (omega arith)
-meant_once Meaning.Permission Meaning.Permission e = refl
-meant_once Meaning.Permission Meaning.Translation e = let z : ◌≡◌ {A = ℕ} 0 1 = cc in absurd (omega arith)
-meant_once Meaning.Translation (Meaning.Byte q) e = let z : ◌≡◌ {A = ℕ} 0 1 = cc in absurd (omega arith)
-meant_once Meaning.Translation Meaning.Permission e = let z : ◌≡◌ {A = ℕ} 0 1 = cc in absurd (omega arith)
-meant_once Meaning.Translation Meaning.Translation e = refl
+meant_once : (x y : Result PhysicalAddress Denial) → meant_as x ≡ meant_as y → x ≡ y
+meant_once (Ok p) (Ok q) e = cc
+meant_once (Ok p) (Err Denial.Permission) e = let z : ◌≡◌ {A = ℕ} 0 1 = cc in absurd (omega arith)
+meant_once (Ok p) (Err Denial.Translation) e = let z : ◌≡◌ {A = ℕ} 0 1 = cc in absurd (omega arith)
+meant_once (Err Denial.Permission) (Ok q) e = let z : ◌≡◌ {A = ℕ} 0 1 = cc in absurd (omega arith)
+meant_once (Err Denial.Permission) (Err Denial.Permission) e = refl
+meant_once (Err Denial.Permission) (Err Denial.Translation) e = let z : ◌≡◌ {A = ℕ} 0 1 = cc in absurd (omega arith)
+meant_once (Err Denial.Translation) (Ok q) e = let z : ◌≡◌ {A = ℕ} 0 1 = cc in absurd (omega arith)
+meant_once (Err Denial.Translation) (Err Denial.Permission) e = let z : ◌≡◌ {A = ℕ} 0 1 = cc in absurd (omega arith)
+meant_once (Err Denial.Translation) (Err Denial.Translation) e = refl
 
 pub built-accepted : BuiltAccepted
 built-accepted rs base len before bytes e =
@@ -215,10 +217,10 @@ records-bytes (m ∷ ms) = bytes-append (record_of m) (records_of ms) (record_by
 abbrev PageFits : Page → Type 0
 PageFits p = (p.frame.0 < 2 ^ 32) × (p.access < 4)
 
-abbrev FoundFits : Found → Type 0
-FoundFits (Found.Page p) = PageFits p
-FoundFits Found.NoPage = Unit
-FoundFits Found.Missing = Unit
+abbrev FoundFits : Result Page Unfound → Type 0
+FoundFits (Ok p) = PageFits p
+FoundFits (Err Unfound.NoPage) = Unit
+FoundFits (Err Unfound.Missing) = Unit
 
 abbrev FirstFits : First → Type 0
 FirstFits First.Fault = Unit
@@ -243,11 +245,11 @@ module _ (l : List ℕ) (bytes : Bytes l) where
   word_low : (o : ℕ) → word_at l o < 2 ^ 32
   word_low o = word_lt (take 4 (drop o l)) (bytes_take 4 (drop o l) (bytes_drop o l bytes))
 
-  word_recordable : (t : Table) (i j : ℕ) (f : Found) → i < megabytes → j < index_limit t → FoundFits f → All Recordable (word_pages t i j f)
-  word_recordable t i j (Found.Page p) hi hj g =
+  word_recordable : (t : Table) (i j : ℕ) (f : Result Page Unfound) → i < megabytes → j < index_limit t → FoundFits f → All Recordable (word_pages t i j f)
+  word_recordable t i j (Ok p) hi hj g =
       pick_by (All Recordable) _ (page_mapping (i * 2 ^ 20 + j * 2 ^ word_bits t) p ∷ []) [] (λ _. (mapping_fits _ p (omega (arith, Inside.word_low t j hj)) g, tt)) (λ _. tt)
-  word_recordable t i j Found.NoPage hi hj g = tt
-  word_recordable t i j Found.Missing hi hj g = tt
+  word_recordable t i j (Err Unfound.NoPage) hi hj g = tt
+  word_recordable t i j (Err Unfound.Missing) hi hj g = tt
 
   table_recordable : (t : Table) (o i n j : ℕ) → i < megabytes → j + n ≤ index_limit t → All Recordable (table_pages t l o i j n)
   unfolding table_pages

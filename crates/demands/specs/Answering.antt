@@ -1,7 +1,9 @@
 -- What keeps demand 3 from being hollow: each request that the paper does not refuse is in fact answered, and so is each retry.
+use Rattle.std.specs.Prelude.{Some, None}
+use Rattle.std.specs.Prelude.{Ok}
 use Rattle.std.specs.Prelude.{◌%◌, ◌<◌, ◌≡◌, ◌∷◌}
 use Rattle.demands.specs.Demands.Names.{megabytes, limit, ℕ, true, false, List, [], Lent, lent_ok, money_ok, mappings}
-use Rattle.demands.specs.Demands.Names.{meaning, Built, image, answer_of, is_prefetch, Pending, Access, VirtualAddress, Bill, Prices, Fault}
+use Rattle.demands.specs.Demands.Names.{meaning, image, answer_of, is_prefetch, stall, Access, VirtualAddress, Bill, Prices, Fault}
 use Rattle.demands.specs.Demands.Names.{Device, acknowledge_at, request_of, write_of, BytesFit, ValueFits, BilledCall, after, Admitted, TurnsOn}
 use Rattle.demands.specs.Demands.Names.{start, Bytes, Standing}
 use Rattle.demands.specs.Demands.{AsList}
@@ -20,7 +22,7 @@ pub record Session (rs : List ℕ) (base : ℕ) (m : Lent) (d : Device) : Type 0
   pub b : Bill
   pub calls : List BilledCall
   pub bytes : Bytes rs
-  pub accepted : answer_of rs base room ≡ Built.Length len
+  pub accepted : answer_of rs base room ≡ Ok len
   pub lent : lent_ok m ≡ true
   pub lent-bytes : BytesFit m
   pub standing : Standing m base (image megabytes (mappings rs) base)
@@ -34,7 +36,7 @@ abbrev pub RequestsAnswered : Type 0
 RequestsAnswered =
     (rs : List ℕ) (base : ℕ) (m : Lent) (d : Device) → Session rs base m d →
     (p : Prices) (b : Bill) (va : VirtualAddress) (a : Access) →
-    d.pending ≡ Pending.Nothing → va.0 < limit → money_ok p b ≡ true →
+    d.pending ≡ None → va.0 < limit → money_ok p b ≡ true →
     AsList (request_of m p b d va a).answer (meaning (mappings rs) va a)
 
 -- and so does the retry of a pending request
@@ -42,5 +44,5 @@ abbrev pub RetriesAnswered : Type 0
 RetriesAnswered =
     (rs : List ℕ) (base : ℕ) (m : Lent) (d : Device) → Session rs base m d →
     (p : Prices) (b : Bill) (v : ℕ) (k : Fault) (va : VirtualAddress) (a : Access) →
-    d.pending ≡ Pending.Held k va a → is_prefetch k ≡ false → v % 2 ≡ 1 → money_ok p b ≡ true →
+    d.pending ≡ Some (stall k va a) → is_prefetch k ≡ false → v % 2 ≡ 1 → money_ok p b ≡ true →
     AsList (write_of m p b d acknowledge_at v).answer (meaning (mappings rs) va a)

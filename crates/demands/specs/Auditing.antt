@@ -1,7 +1,10 @@
 -- The check and the list of an image, demand 1 (02, P4): each refusal, with the address or count beside it, exactly when the paper says, in the one order of words.
+use Rattle.audit.specs.declared.ListError.{ListError}
+use Rattle.std.specs.Prelude.{Result}
+use Rattle.audit.specs.declared.ImageError.{ImageError}
 use Rattle.std.specs.Prelude.{◌+◌, ◌-◌, ◌*◌, ◌≡◌, ◌∷◌}
 use Rattle.demands.specs.Demands.Names.{megabytes, ℕ, zero, suc, Bool, true, false, not, List, [], eqb, ltb, length, Refusing, First, Clear}
-use Rattle.demands.specs.Demands.Names.{Verdict, Inventory, check_of, list_of, pages_in, record_size, broken, image_ok, table_in, verdict_number, verdict_value}
+use Rattle.demands.specs.Demands.Names.{check_of, list_of, pages_in, record_size, broken, image_ok, table_in, verdict_number, verdict_value}
 use Rattle.demands.specs.Demands.Names.{inventory_number, inventory_value, Entry, Table, index_limit, first_of, word_at}
 
 -- n words of a table from word j on, 18 with each one's address; then the rest
@@ -34,16 +37,16 @@ list_refusals l base room =
     image_refusals l base ((ltb room (record_size * length (pages_in megabytes l base)), (12, length (pages_in megabytes l base))) ∷ [])
 
 -- refused: the number is not 0; what is said is the number and the value beside it
-abbrev pub verdict_refused : Verdict → Bool
+abbrev pub verdict_refused : Result ℕ ImageError → Bool
 verdict_refused v = not (eqb (verdict_number v) 0)
 
-abbrev pub verdict_said : Verdict → ℕ × ℕ
+abbrev pub verdict_said : Result ℕ ImageError → ℕ × ℕ
 verdict_said v = (verdict_number v, verdict_value v)
 
-abbrev pub inventory_refused : Inventory → Bool
+abbrev pub inventory_refused : Result ℕ ListError → Bool
 inventory_refused a = not (eqb (inventory_number a) 0)
 
-abbrev pub inventory_said : Inventory → ℕ × ℕ
+abbrev pub inventory_said : Result ℕ ListError → ℕ × ℕ
 inventory_said a = (inventory_number a, inventory_value a)
 
 -- an answer refuses with a number and a value exactly when their condition is the first of a list that holds, and goes on exactly when none does

@@ -1,8 +1,10 @@
 -- The builder, demand 1: each refusal, with its index or count, exactly when the paper says (01, "When the unit says no"); and demand 2:
 -- what an accepted build answers and leaves (01, "The builder").
+use Rattle.std.specs.Prelude.{Result, Ok}
+use Rattle.builder.specs.declared.BuildError.{BuildError}
 use Rattle.std.specs.Prelude.{◌≡◌, ◌∷◌, ◌++◌}
 use Rattle.demands.specs.Demands.Names.{megabytes, ℕ, zero, suc, Bool, true, false, not, List, [], eqb, ltb, length, drop}
-use Rattle.demands.specs.Demands.Names.{mappings, bad, overlapping, begun, image_length, image, Built, room_ok, answer_of, build_of, built_number}
+use Rattle.demands.specs.Demands.Names.{mappings, bad, overlapping, begun, image_length, image, room_ok, answer_of, build_of, built_number}
 use Rattle.demands.specs.Demands.Names.{built_value, Refusing, First, Clear}
 
 -- record by record, 10 then 11, each with the record's index; then the rest
@@ -17,10 +19,10 @@ build_refusals rs base room =
     ∷ record_refusals rs 0 (begun rs) ((ltb room (image_length megabytes (mappings rs)), (12, length (mappings rs))) ∷ [])
 
 -- a build is refused: its number is not 0; what it says is the number and the value beside it
-abbrev pub built_refused : Built → Bool
+abbrev pub built_refused : Result ℕ BuildError → Bool
 built_refused x = not (eqb (built_number x) 0)
 
-abbrev pub built_said : Built → ℕ × ℕ
+abbrev pub built_said : Result ℕ BuildError → ℕ × ℕ
 built_said x = (built_number x, built_value x)
 
 -- a build refuses with a number and a value exactly when their condition is the first that holds, is accepted exactly when none
@@ -45,5 +47,5 @@ pub record ImageLeft (rs : List ℕ) (base len : ℕ) (before after : List ℕ) 
 
 abbrev pub BuildLeaves : Type 0
 BuildLeaves =
-    (rs : List ℕ) (base len : ℕ) (before : List ℕ) → (build_of rs base before).answer ≡ Built.Length len
+    (rs : List ℕ) (base len : ℕ) (before : List ℕ) → (build_of rs base before).answer ≡ Ok len
     → ImageLeft rs base len before (build_of rs base before).memory

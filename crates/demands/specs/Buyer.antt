@@ -1,7 +1,8 @@
 -- Demand 3 in the buyer's order: build a list into a memory, lend that memory, start, call. And a session with list A.
+use Rattle.std.specs.Prelude.{Ok}
 use Rattle.std.specs.Prelude.{◌≡◌, ◌∷◌}
 use Rattle.demands.specs.Demands.Names.{lock_at, virtual, physical, ℕ, false, List, [], replicate, PhysicalAddress, Lent, LentAt, lent_alone, f1}
-use Rattle.demands.specs.Demands.Names.{fresh_bill, mappings, meaning, Built, build_of, Price, is_refusal, Access, VirtualAddress, Bill, Prices}
+use Rattle.demands.specs.Demands.Names.{fresh_bill, mappings, meaning, build_of, Price, is_refusal, Access, VirtualAddress, Bill, Prices}
 use Rattle.demands.specs.Demands.Names.{Answer, Device, prefetch_at, acknowledge_at, request_of, Call, request, write, read, drop-fault, Said}
 use Rattle.demands.specs.Demands.Names.{step, BilledCall, after, Admitted, asked, asks, TurnsOn, start, Bytes, records_a, base_a}
 use Rattle.demands.specs.Demands.{AsList}
@@ -14,7 +15,7 @@ BuiltThenCalled =
     (rs : List ℕ) (base len : ℕ) (before : List ℕ) (m : Lent) (v : ℕ) (p : Prices) (b₀ : Bill)
     (cs : List BilledCall) (b : Bill) (c : Call) (va : VirtualAddress) (a : Access) (r : Answer) →
     Bytes rs →
-    (build_of rs base before).answer ≡ Built.Length len →
+    (build_of rs base before).answer ≡ Ok len →
     LentAt (build_of rs base before).memory base m →
     TurnsOn v →
     Admitted cs →
@@ -33,7 +34,7 @@ BuiltSession =
     (rs : List ℕ) (base len : ℕ) (before : List ℕ) (v : ℕ) (p : Prices) (b : Bill) (cs : List BilledCall) →
     Bytes rs →
     Bytes before →
-    (build_of rs base before).answer ≡ Built.Length len →
+    (build_of rs base before).answer ≡ Ok len →
     TurnsOn v →
     Admitted cs →
     ValuesFit cs →

@@ -1,8 +1,11 @@
 -- The three demands of the buyer, over the definitions that the code's contracts cite. Their proofs: proofs/Proved.antt.
-pub mod Names
+use Rattle.std.specs.Prelude.{Result, Ok, Err}
+use Rattle.records.specs.declared.Denial.{Denial}
+use Rattle.page.specs.declared.PhysicalAddress.{PhysicalAddress}
 use Names.*
 use Rattle.registers.specs.Answers
 use Rattle.demands.specs.Building.{BuildRefuses, BuildLeaves}
+pub mod Names
 
 -- 1. It takes anything; each refusal comes when the paper says and at no other time, and then nothing is changed: device, bill and
 -- meters, and a memory lent to the builder (the unit's calls are lent memory that they cannot write, by its type; that every
@@ -48,13 +51,13 @@ pub record Demand2 : Type 0 where
   pub built : BuildLeaves
 
 -- what a list alone answers
-abbrev pub meant_as : Meaning → Answer
-meant_as (Meaning.Byte p) = Answer.Address p
-meant_as Meaning.Permission = Answer.Fault Fault.Permission
-meant_as Meaning.Translation = Answer.Fault Fault.Translation
+abbrev pub meant_as : Result PhysicalAddress Denial → Answer
+meant_as (Ok p) = Answer.Address p
+meant_as (Err Denial.Permission) = Answer.Fault Fault.Permission
+meant_as (Err Denial.Translation) = Answer.Fault Fault.Translation
 
 -- an answer is the list's: its case, and in the paper's number and values
-pub record AsList (r : Answer) (x : Meaning) : Type 0 where
+pub record AsList (r : Answer) (x : Result PhysicalAddress Denial) : Type 0 where
   pub answer : r ≡ meant_as x
   pub number : Answers.answer_number r ≡ meaning_number x
   pub values : Answers.answer_values r ≡ meaning_values x
@@ -68,7 +71,7 @@ Demand3 =
     (rs : List ℕ) (base room len : ℕ) (m : Lent) (v : ℕ) (p : Prices) (b₀ : Bill)
     (cs : List BilledCall) (b : Bill) (c : Call) (va : VirtualAddress) (a : Access) (r : Answer) →
     Bytes rs →
-    answer_of rs base room ≡ Built.Length len →
+    answer_of rs base room ≡ Ok len →
     Standing m base (image megabytes (mappings rs) base) →
     TurnsOn v →
     Admitted cs →

@@ -1,6 +1,6 @@
 -- Words in range, and what keeps them there. Assumes nothing.
-use Rattle.lanes.specs.Names.{◌≡◌, Bool, true, List, map, ℕ, zero, suc, ◌+◌, ◌%◌, ◌^◌, get_or, ◌and◌}
-use Rattle.lanes.proofs.Names.{refl, ◌∙◌, false, ◌&&◌, [], ◌∷◌, ◌<◌, ◌≤◌, ◌-◌, arith, set, lt-ltb, word_dropped, word_flushed, word_flushed_at}
+use Rattle.lanes.specs.Names.{◌≡◌, Bool, true, List, map, ℕ, zero, suc, ◌+◌, ◌%◌, ◌^◌, get_or}
+use Rattle.lanes.proofs.Names.{refl, ◌∙◌, [], ◌∷◌, ◌<◌, ◌≤◌, ◌-◌, arith, set, lt-ltb, word_dropped, word_flushed, word_flushed_at}
 use Rattle.lanes.proofs.Names.{VirtualAddress, pick_by, and_yes, slots, cam_ok, ram_ok}
 use Prim.Native.Nat.{◌*◌, ◌/◌}
 use borrow.Author.Tests.{ltb-true, eq-eqb}
@@ -12,20 +12,6 @@ use Rattle.page.proofs.Lower.{upper-le}
 use Rattle.page.proofs.Slot.{start_1024, type_of-lt}
 use Rattle.lanes.specs.Lanes.{cam_limit, all_from}
 use Rattle.lanes.proofs.Searches.{from_next}
-
--- what a check of every word answers, with ok so far and n words from i still to come
-abbrev pub ok_with : (ℕ → Bool) → List ℕ → Bool → ℕ → ℕ → Bool
-ok_with p l ok n i = ok and all_from p n i l
-
-pub ok_turns : (p : ℕ → Bool) (l : List ℕ) (ok : Bool) (i n : ℕ) → ok_with p l ok (suc n) i ≡ ok_with p l (ok && p (get_or l i 0)) n (i + 1)
-unfolding all_from ◌and◌
-ok_turns p l true i n = refl
-ok_turns p l false i n = refl
-
-pub ok_ends : (p : ℕ → Bool) (l : List ℕ) (ok : Bool) (i : ℕ) → ok_with p l ok 0 i ≡ ok
-unfolding all_from ◌and◌
-ok_ends p l true i = refl
-ok_ends p l false i = refl
 
 -- the test of every word says it of each
 pub all_each : (p : ℕ → Bool) (n i : ℕ) (l : List ℕ) → all_from p n i l ≡ true → (j : ℕ) → i ≤ j → j < i + n → p (get_or l j 0) ≡ true

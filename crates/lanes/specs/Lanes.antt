@@ -1,21 +1,21 @@
 -- One lane of the slots' words: the search, what is in range, the flushes (01, "The unit", "Registers").
+use Rattle.std.specs.Prelude.{Option, Some, None}
 use Rattle.std.specs.Prelude.{◌+◌, ◌%◌, ◌^◌}
 use Rattle.lanes.specs.Names.{ℕ, zero, suc, Bool, true, List, map, eqb, ltb, get_or, pick, ◌and◌}
 use Rattle.page.specs.Words.{word_matches, word_flushed, word_flushed_at}
 use Rattle.page.specs.declared.VirtualAddress.{VirtualAddress}
-use Rattle.lanes.specs.declared.Matched.{Matched}
 
 -- how many slots there are
 abbrev pub slots : ℕ
 slots = 32
 
 -- the first of the n slots from i that matches
-unfoldable pub looked_from : ℕ → ℕ → List ℕ → VirtualAddress → Matched
-looked_from zero i cam va = Matched.Nothing
-looked_from (suc n) i cam va = pick (word_matches (get_or cam i 0) va) (Matched.At i) (looked_from n (i + 1) cam va)
+unfoldable pub looked_from : ℕ → ℕ → List ℕ → VirtualAddress → Option ℕ
+looked_from zero i cam va = None
+looked_from (suc n) i cam va = pick (word_matches (get_or cam i 0) va) (Some i) (looked_from n (i + 1) cam va)
 
 -- the slots are looked at lowest first
-abbrev pub looked_up : List ℕ → VirtualAddress → Matched
+abbrev pub looked_up : List ℕ → VirtualAddress → Option ℕ
 looked_up cam va = looked_from slots 0 cam va
 
 -- each of the n words from i passes a test

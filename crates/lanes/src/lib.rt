@@ -1,6 +1,7 @@
 #![tactic(auto)]
 // One lane of the slots' words: the flushes, and what is in range.
-ghost use Rattle.std.specs.Prelude.{◌≡◌};
+ghost use Rattle.std.specs.Prelude.{◌≡◌, ◌<◌, ℕ};
+ghost use Rattle.lanes.specs.Names.{get_or};
 ghost use Rattle.lanes.specs.Lanes.{ram_ok, cams_ok, rams_ok, flushed_all, flushed_entry};
 
 use page::VirtualAddress;
@@ -11,53 +12,37 @@ pub const SLOTS: usize = 32;
 // A CAM word in range is below this.
 pub const CAM_LIMIT: u32 = 262144;
 
-// The slot that matches an address.
-#[derive(Clone, Copy)]
-pub enum Matched {
-    At(usize),
-    Nothing,
+// A lane, each word of which is changed.
+fn changed<F: Fn(u32) -> u32>(lane: [u32; SLOTS], change: F) -> [u32; SLOTS]
+    requires { F.IsAlwaysCallable change }
+    ensures { (i : ℕ) → i < 32 → F.post change (get_or lane i 0) (get_or result i 0) }
+{
+    let mut out = lane;
+    for w in out.iter_mut() {
+        *w = change(*w);
+    }
+    out
 }
 
 // The CAM lane after a global flush.
 pub fn flush_all(cam: [u32; SLOTS]) -> [u32; SLOTS]
     ensures { result ≡ flushed_all cam }
 {
-    let mut out = cam;
-    let mut i: usize = 0;
-    while i < SLOTS {
-        let w = out[i];
-        out[i] = page::flushed(w);
-        i += 1;
-    }
-    out
+    changed(cam, page::flushed)
 }
 
 // The CAM lane after an entry flush at an address.
 pub fn flush_entry(cam: [u32; SLOTS], va: VirtualAddress) -> [u32; SLOTS]
     ensures { result ≡ flushed_entry va cam }
 {
-    let mut out = cam;
-    let mut i: usize = 0;
-    while i < SLOTS {
-        let w = out[i];
-        out[i] = page::flushed_at(va, w);
-        i += 1;
-    }
-    out
+    changed(cam, |w| page::flushed_at(va, w))
 }
 
 // Whether each CAM word lies below a limit.
 pub fn cams_ok(cam: &[u32; SLOTS], limit: u32) -> bool
     ensures { result ≡ cams_ok limit cam.now }
 {
-    let mut ok = true;
-    let mut i: usize = 0;
-    while i < SLOTS {
-        let q = cam[i] < limit;
-        ok = ok & q;
-        i += 1;
-    }
-    ok
+    cam.iter().copied().fold(true, |ok, w| ok & (w < limit))
 }
 
 // Whether a RAM word has only its layout's bits.
@@ -71,12 +56,5 @@ fn ram_ok(w: u32) -> bool
 pub fn rams_ok(ram: &[u32; SLOTS]) -> bool
     ensures { result ≡ rams_ok ram.now }
 {
-    let mut ok = true;
-    let mut i: usize = 0;
-    while i < SLOTS {
-        let q = ram_ok(ram[i]);
-        ok = ok & q;
-        i += 1;
-    }
-    ok
+    ram.iter().copied().fold(true, |ok, w| ok & ram_ok(w))
 }

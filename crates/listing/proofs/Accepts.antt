@@ -1,7 +1,11 @@
 -- A text that is accepted is never refused 10. Assumes nothing.
+use Rattle.std.proofs.Common.{Option, Some, None}
+use Rattle.listing.specs.declared.ReadError.{ReadError}
+use Rattle.std.proofs.Common.{Ok}
+use Rattle.std.proofs.Common.{Result, Err}
+use Rattle.records.specs.declared.BadList.{BadList}
 use Rattle.listing.specs.Names.{◌≡◌, Bool, true, false, not, List, [], ◌∷◌, ◌++◌, ℕ, zero, suc, ◌+◌, ◌*◌, ◌≤◌, ◌<◌, leb, ltb, length, take}
-use Rattle.listing.specs.Names.{drop, set, pick, ◌or◌, megabytes, Mapping, record_size, record_at, well_formed, most, Checked, checked, Wrong, Said}
-use Rattle.listing.specs.Names.{Listed}
+use Rattle.listing.specs.Names.{drop, set, pick, ◌or◌, megabytes, Mapping, record_size, record_at, well_formed, most, checked, Wrong}
 use Rattle.listing.proofs.Names.{refl, sym, ap, ◌∙◌, subst, append_assoc, arith, dec_le, lt-leb, leb-false, ltb-false, length-append}
 use Rattle.listing.proofs.Names.{length-drop, take-append-drop, length-take-le, take_at, drop_at, pick_no, pick_by, or_no, parsed, lines_of}
 use Rattle.listing.proofs.Names.{record_of, pasted, Reading, reading, by_said, read_lines, read_text}
@@ -62,9 +66,9 @@ good_more l n m g h s = record {
 
 -- what an accepting answer leaves is good
 abbrev Accepts : Reading → Type 0
-Accepts r = (q : ℕ) → r.answer ≡ Listed.Mappings q → Good r.records q
+Accepts r = (q : ℕ) → r.answer ≡ Ok q → Good r.records q
 
-accept_bad : (i : ℕ) (w : Wrong) (rs ls : List ℕ) → Accepts (reading (Listed.Bad i w) rs ls)
+accept_bad : (i : ℕ) (w : Wrong) (rs ls : List ℕ) → Accepts (reading (Err (ReadError.Bad i w)) rs ls)
 accept_bad i w rs ls q e = let z : ◌≡◌ {A = ℕ} 0 1 = cc in absurd (omega arith)
 
 accept_lines : (t : List (List ℕ)) (i n : ℕ) (rs ls : List ℕ) → Good rs n → Accepts (read_lines i n t rs ls)
@@ -73,14 +77,14 @@ accept_lines [] i n rs ls g = λ q e. let z : n ≡ q = cc in subst (Good rs) z 
 accept_lines (l ∷ t) i n rs ls g =
     go (parsed l) (sound-said l) (accept_lines t (suc i) n rs ls g) (λ m h s. accept_lines t (suc i) (suc n) (pasted rs (12 * n) (record_of m)) (set ls n i) (good_more rs n m g h s))
   where
-    go : (s : Said) → SoundSaid s → Accepts (read_lines (suc i) n t rs ls)
+    go : (s : Result (Option Mapping) Wrong) → SoundSaid s → Accepts (read_lines (suc i) n t rs ls)
         → ((m : Mapping) → n < most → Sound m → Accepts (read_lines (suc i) (suc n) t (pasted rs (12 * n) (record_of m)) (set ls n i)))
         → Accepts (by_said s (read_lines (suc i) n t rs ls)
-        (λ m. pick (leb most n) (reading (Listed.Bad i Wrong.TooManyMappings) rs ls) (read_lines (suc i) (suc n) t (pasted rs (12 * n) (record_of m)) (set ls n i)))
-        (λ w. reading (Listed.Bad i w) rs ls))
-    go Said.Nothing s a b = a
-    go (Said.Mapped m) s a b = pick_by Accepts _ _ _ (λ _. accept_bad i Wrong.TooManyMappings rs ls) (λ h. b m (leb-false most n h) s)
-    go (Said.Bad w) s a b = accept_bad i w rs ls
+        (λ m. pick (leb most n) (reading (Err (ReadError.Bad i Wrong.TooManyMappings)) rs ls) (read_lines (suc i) (suc n) t (pasted rs (12 * n) (record_of m)) (set ls n i)))
+        (λ w. reading (Err (ReadError.Bad i w)) rs ls))
+    go (Ok None) s a b = a
+    go (Ok (Some m)) s a b = pick_by Accepts _ _ _ (λ _. accept_bad i Wrong.TooManyMappings rs ls) (λ h. b m (leb-false most n h) s)
+    go (Err w) s a b = accept_bad i w rs ls
 
 first : (a b : Bool) → (a or b) ≡ false → a ≡ false
 unfolding ◌or◌
@@ -98,16 +102,16 @@ accept_text t rs ls =
     room h = ltb-false (length rs) (record_size * most) (first _ _ h)
 
 -- a check that finds no record bad does not say so
-never_from : (k i q : ℕ) (rs : List ℕ) → ((j : ℕ) → j < i + k → bad megabytes rs j ≡ false) → checked_from megabytes rs i k ≡ Checked.BadRecord q → ⊥
+never_from : (k i q : ℕ) (rs : List ℕ) → ((j : ℕ) → j < i + k → bad megabytes rs j ≡ false) → checked_from megabytes rs i k ≡ Err (BadList.BadRecord q) → ⊥
 unfolding checked_from
 never_from zero i q rs f e = let z : ◌≡◌ {A = ℕ} 0 1 = cc in omega arith
 never_from (suc k) i q rs f e =
     later (never_from k (suc i) q rs (λ j h. f j (omega arith))) (sym (pick_no _ _ _ (f i (omega arith))) ∙ e)
   where
-    later : (checked_from megabytes rs (suc i) k ≡ Checked.BadRecord q → ⊥) → pick (overlapping rs i) (Checked.Overlap i) (checked_from megabytes rs (suc i) k) ≡ Checked.BadRecord q → ⊥
-    later r = pick_by (λ (c : Checked). c ≡ Checked.BadRecord q → ⊥) _ _ _ (λ _ x. let z : ◌≡◌ {A = ℕ} 0 1 = cc in omega arith) (λ _. r)
+    later : (checked_from megabytes rs (suc i) k ≡ Err (BadList.BadRecord q) → ⊥) → pick (overlapping rs i) (Err (BadList.Overlap i)) (checked_from megabytes rs (suc i) k) ≡ Err (BadList.BadRecord q) → ⊥
+    later r = pick_by (λ (c : Result Unit BadList). c ≡ Err (BadList.BadRecord q) → ⊥) _ _ _ (λ _ x. let z : ◌≡◌ {A = ℕ} 0 1 = cc in omega arith) (λ _. r)
 
-never : (l : List ℕ) (n q : ℕ) → Good l n → checked megabytes (take (12 * n) l) ≡ Checked.BadRecord q → ⊥
+never : (l : List ℕ) (n q : ℕ) → Good l n → checked megabytes (take (12 * n) l) ≡ Err (BadList.BadRecord q) → ⊥
 unfolding checked bad
 never l n q g e =
     let len = length-take-le (12 * n) l (omega (arith, g.few, g.room)) in

@@ -1,7 +1,11 @@
 -- Well-formed records, printed and read back, are the same records. Assumes nothing.
+use Rattle.std.proofs.Common.{Option, Some}
+use Rattle.std.proofs.Common.{Err}
+use Rattle.listing.specs.declared.ReadError.{ReadError}
+use Rattle.std.proofs.Common.{Result, Ok}
 use Rattle.listing.specs.Names.{◌≡◌, Bool, true, false, List, [], ◌∷◌, ◌++◌, ℕ, zero, suc, ◌+◌, ◌*◌, ◌/◌, ◌%◌, ◌≤◌, ◌<◌, ◌-◌, eqb, leb, length}
 use Rattle.listing.specs.Names.{get_or, take, drop, set, pick, ◌and◌, ◌or◌, megabytes, type_of, Mapping, record_at, mappings, multiple, well_formed}
-use Rattle.listing.specs.Names.{record_size, most, Class, Wrong, Said, Listed}
+use Rattle.listing.specs.Names.{record_size, most, Class, Wrong}
 use Rattle.listing.proofs.Names.{refl, sym, ap, ap₂, ◌∙◌, subst, append_assoc, arith, mod-eq_of_lt, dec_le, le-leb, lt-leb, lt-ltb, le-ltb}
 use Rattle.listing.proofs.Names.{ltb-true, leb-true, eqb-true, lit≤, length-append, length-drop, length-take, List·getD-eq-default, length-set}
 use Rattle.listing.proofs.Names.{length-take-le, take_at, drop-append-add, drop-drop, kind_of, pick_yes, pick_no, pick_by, and_left, and_right}
@@ -42,23 +46,23 @@ either : {P : Type 0} (b : Bool) → (b ≡ true → P) → (b ≡ false → P) 
 either true f g = f refl
 either false f g = g refl
 
-two_said : (m : Mapping) → Told m → m.access ≡ 2 → parsed (bare m.kind m.at.0 m.to.0 (access_text m.access)) ≡ Said.Mapped m
+two_said : (m : Mapping) → Told m → m.access ≡ 2 → parsed (bare m.kind m.at.0 m.to.0 (access_text m.access)) ≡ Ok (Some m)
 unfolding access_text pick access_named same_bytes ◌and◌ run_length belongs blank ◌or◌
 two_said m t e =
     ap (λ (a : ℕ). parsed (bare m.kind m.at.0 m.to.0 (access_text a))) e
     ∙ said-bare m.kind m.at.0 m.to.0 2 t.sound.virtual t.sound.physical t.virtual t.physical [] 114 (lit≤ tt, tt) (omega arith)
-    (λ x. omega arith) refl refl (λ x. omega arith)
-    ∙ ap (λ (a : ℕ). Said.Mapped (mapping m.kind m.at.0 m.to.0 a)) (sym e)
+    (λ x. omega arith) refl refl
+    ∙ ap (λ (a : ℕ). Ok (Some (mapping m.kind m.at.0 m.to.0 a))) (sym e)
 
-three_said : (m : Mapping) → Told m → m.access ≡ 3 → parsed (bare m.kind m.at.0 m.to.0 (access_text m.access)) ≡ Said.Mapped m
+three_said : (m : Mapping) → Told m → m.access ≡ 3 → parsed (bare m.kind m.at.0 m.to.0 (access_text m.access)) ≡ Ok (Some m)
 unfolding access_text pick access_named same_bytes ◌and◌ run_length belongs blank ◌or◌
 three_said m t e =
     ap (λ (a : ℕ). parsed (bare m.kind m.at.0 m.to.0 (access_text a))) e
     ∙ said-bare m.kind m.at.0 m.to.0 3 t.sound.virtual t.sound.physical t.virtual t.physical (114 ∷ []) 119 (lit≤ tt, (lit≤ tt, tt)) (omega arith)
-    (λ x. omega arith) refl refl (λ x. omega arith)
-    ∙ ap (λ (a : ℕ). Said.Mapped (mapping m.kind m.at.0 m.to.0 a)) (sym e)
+    (λ x. omega arith) refl refl
+    ∙ ap (λ (a : ℕ). Ok (Some (mapping m.kind m.at.0 m.to.0 a))) (sym e)
 
-told-said : (m : Mapping) → Told m → parsed (bare m.kind m.at.0 m.to.0 (access_text m.access)) ≡ Said.Mapped m
+told-said : (m : Mapping) → Told m → parsed (bare m.kind m.at.0 m.to.0 (access_text m.access)) ≡ Ok (Some m)
 told-said m t =
     either (eqb m.access 2)
     (λ e. two_said m t (eqb-true m.access 2 e))
@@ -77,17 +81,17 @@ lines_back : (m : Mapping) (l : List ℕ) → lines_of (line_text m ++ l) ≡ ba
 lines_back m l = ap lines_of (line-is m l) ∙ cut _ l (in_bare Class.Inline tt m.kind m.at.0 m.to.0 (access_text m.access) (access_high m.access))
 
 -- a line that says a mapping, read
-mapped_next : (i n : ℕ) (w : List ℕ) (t : List (List ℕ)) (rs ls : List ℕ) (m : Mapping) → n < most → parsed w ≡ Said.Mapped m
+mapped_next : (i n : ℕ) (w : List ℕ) (t : List (List ℕ)) (rs ls : List ℕ) (m : Mapping) → n < most → parsed w ≡ Ok (Some m)
     → read_lines i n (w ∷ t) rs ls ≡ read_lines (suc i) (suc n) t (pasted rs (12 * n) (record_of m)) (set ls n i)
 unfolding read_lines
 mapped_next i n w t rs ls m h e =
-    ap (λ (s : Said). by_said s (read_lines (suc i) n t rs ls)
-    (λ m. pick (leb most n) (reading (Listed.Bad i Wrong.TooManyMappings) rs ls) (read_lines (suc i) (suc n) t (pasted rs (12 * n) (record_of m)) (set ls n i)))
-    (λ w. reading (Listed.Bad i w) rs ls)) e
+    ap (λ (s : Result (Option Mapping) Wrong). by_said s (read_lines (suc i) n t rs ls)
+    (λ m. pick (leb most n) (reading (Err (ReadError.Bad i Wrong.TooManyMappings)) rs ls) (read_lines (suc i) (suc n) t (pasted rs (12 * n) (record_of m)) (set ls n i)))
+    (λ w. reading (Err (ReadError.Bad i w)) rs ls)) e
     ∙ pick_no _ _ _ (lt-leb most n h)
 
 -- the empty line behind the last
-nothing_last : (i n : ℕ) (rs ls : List ℕ) → read_lines i n (lines_of []) rs ls ≡ reading (Listed.Mappings n) rs ls
+nothing_last : (i n : ℕ) (rs ls : List ℕ) → read_lines i n (lines_of []) rs ls ≡ reading (Ok n) rs ls
 unfolding read_lines lines_of parsed body_length from_kind run_length pick
 nothing_last i n rs ls = refl
 
@@ -97,7 +101,7 @@ record_length m = refl
 
 -- records c on, k of them, printed and read behind c others
 abbrev Gives : Reading → ℕ → List ℕ → Type 0
-Gives r n rs = (r.answer ≡ Listed.Mappings n) × (r.records ≡ rs)
+Gives r n rs = (r.answer ≡ Ok n) × (r.records ≡ rs)
 
 back_from : (rs : List ℕ) → ((j : ℕ) → 12 * j + 12 ≤ length rs → j < length rs / 12 → Told (mapping_of (record_at rs j)) × (record_of (mapping_of (record_at rs j)) ≡ record_at rs j))
     → (k c i : ℕ) (room ls : List ℕ) → 12 * (c + k) ≤ length rs → c + k ≤ most → record_size * most ≤ length room
@@ -105,7 +109,7 @@ back_from : (rs : List ℕ) → ((j : ℕ) → 12 * j + 12 ≤ length rs → j <
 unfolding mappings_from printed
 back_from rs f zero c i room ls h g r =
     subst (λ (x : Reading). Gives x (c + 0) (pasted room (12 * c) [])) (sym (nothing_last i c room ls))
-    (ap Listed.Mappings (let z : c ≡ c + 0 = omega arith in z), sym (pasted-none room (12 * c)))
+    (ap Ok (let z : c ≡ c + 0 = omega arith in z), sym (pasted-none room (12 * c)))
 back_from rs f (suc k) c i room ls h g r =
     let m : Mapping = mapping_of (record_at rs c) in
     let t = f c (omega arith) (omega arith) in
@@ -116,7 +120,7 @@ back_from rs f (suc k) c i room ls h g r =
     subst (λ (x : Reading). Gives x (c + suc k) (pasted room (12 * c) (take (12 * suc k) (drop (12 * c) rs))))
     (sym (ap (λ (x : List (List ℕ)). read_lines i c x room ls) (lines_back m (printed (mappings_from rs (suc c) k)))
     ∙ mapped_next i c (bare m.kind m.at.0 m.to.0 (access_text m.access)) (lines_of (printed (mappings_from rs (suc c) k))) room ls m (omega arith) (told-said m t.0))) (
-      ih.0 ∙ ap Listed.Mappings (let z : suc c + k ≡ c + suc k = omega arith in z),
+      ih.0 ∙ ap Ok (let z : suc c + k ≡ c + suc k = omega arith in z),
       ih.1
           ∙ ap (λ (n : ℕ). pasted next n (take (12 * k) (drop (12 * suc c) rs))) (let z : 12 * suc c ≡ 12 * c + length (record_of m) = omega arith in z)
           ∙ pasted_then room (12 * c) (record_of m) fits (take (12 * k) (drop (12 * suc c) rs))
@@ -287,9 +291,9 @@ read_back rs room ls f b h g =
           (formed_at rs n 0 j each (omega arith) (omega arith)),
     )) n 0 1 room ls (omega arith) (omega arith) h in
     let q = numbered-from rs told n 0 1 room ls (omega arith) (omega arith) g in
-    subst (λ (x : Reading). (x.answer ≡ Listed.Mappings n) × (x.records ≡ pasted room 0 rs) × ((j : ℕ) → j < n → get_or x.lines j 0 ≡ 1 + j))
+    subst (λ (x : Reading). (x.answer ≡ Ok n) × (x.records ≡ pasted room 0 rs) × ((j : ℕ) → j < n → get_or x.lines j 0 ≡ 1 + j))
     (sym (pick_no _ _ _ (or_no _ _ (le-ltb (length room) (record_size * most) h) ∙ le-ltb (length ls) most g) ∙ pick_no _ _ _ (le-ltb longest_text (length (printed (mappings rs))) short))) (
-      r.0 ∙ ap Listed.Mappings (let z : 0 + n ≡ n = omega arith in z),
+      r.0 ∙ ap Ok (let z : 0 + n ≡ n = omega arith in z),
       r.1 ∙ ap (pasted room 0) (take_all (12 * n) rs (omega arith)),
       λ j k. q.1 j (omega arith) (omega arith)
           ∙ (let z : 1 + (j - 0) ≡ 1 + j = omega arith in z),

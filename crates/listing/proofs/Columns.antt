@@ -1,6 +1,7 @@
 -- A mapping's line, column by column; the lines of a list; and its records looked at one after the other. Assumes nothing.
+use Rattle.std.proofs.Common.{Ok}
 use Rattle.listing.specs.Names.{◌≡◌, true, false, List, [], ◌∷◌, ◌++◌, ℕ, zero, suc, ◌+◌, ◌*◌, ◌-◌, ◌/◌, ◌≤◌, ◌<◌, length, get_or, take, drop}
-use Rattle.listing.specs.Names.{◌and◌, megabytes, Kind, Mapping, record_at, mappings, well_formed, Printed}
+use Rattle.listing.specs.Names.{◌and◌, megabytes, Kind, Mapping, record_at, mappings, well_formed}
 use Rattle.listing.proofs.Names.{refl, sym, ap, ap₂, ◌∙◌, append_assoc, arith, add-one, add-zero, le-ltb, ltb-false, length-append}
 use Rattle.listing.proofs.Names.{drop_of_length-le, drop-cons, pick_yes, pick_no, pick_by, and_yes, and_no, mappings_from, pasted, hex_text}
 use Rattle.listing.proofs.Names.{kind_column, hex_column, access_text, line_text, printed, formed_from, formed, shown, shown_at, print_text}
@@ -155,10 +156,10 @@ formed_last rs n i h v = sym (v ∙ ap (formed_from rs i) (let z : n - i ≡ 0 =
 
 -- what printing answers, by its two tests
 pub print_on : (rs o o' : List ℕ) (r : ℕ) → formed rs ≡ true → 27 * (length rs / 12) ≤ length o → shown r o' ≡ shown_at o 0 (printed (mappings rs))
-    → printing (Printed.Length r) o' ≡ print_text rs o
+    → printing (Ok r) o' ≡ print_text rs o
 unfolding print_text
 print_on rs o o' r f h e =
-    ap₂ (λ (n : ℕ) (l : List ℕ). printing (Printed.Length n) l)
+    ap₂ (λ (n : ℕ) (l : List ℕ). printing (Ok n) l)
     (shown-count _ _ _ _ e ∙ (let z : 0 + length (printed (mappings rs)) ≡ length (printed (mappings rs)) = omega arith in z)) (shown-memory _ _ _ _ e)
     ∙ sym (pick_yes _ _ _ f ∙ pick_no _ _ _ (le-ltb (length o) (27 * (length rs / 12)) h))
 
@@ -179,7 +180,7 @@ printed-length (m ∷ ms) = omega (arith, length-append (line_text m) (printed m
 pub printed-within : PrintedWithin
 unfolding print_text
 printed-within rs l k =
-    pick_by (λ (p : Printing). p.answer ≡ Printed.Length k → k ≤ length l) _ _ _
-    (λ _. pick_by (λ (p : Printing). p.answer ≡ Printed.Length k → k ≤ length l) _ _ _ (λ _ e. let z : ◌≡◌ {A = ℕ} 0 1 = cc in absurd (omega arith))
+    pick_by (λ (p : Printing). p.answer ≡ Ok k → k ≤ length l) _ _ _
+    (λ _. pick_by (λ (p : Printing). p.answer ≡ Ok k → k ≤ length l) _ _ _ (λ _ e. let z : ◌≡◌ {A = ℕ} 0 1 = cc in absurd (omega arith))
     (λ b e. let z : length (printed (mappings rs)) ≡ k = cc in omega (arith, printed-length (mappings rs), mappings-count rs, ltb-false (length l) (27 * (length rs / 12)) b)))
     (λ _ e. let z : ◌≡◌ {A = ℕ} 0 1 = cc in absurd (omega arith))

@@ -11,7 +11,7 @@ pub use native.Mathlib.Decide.{dec_le}
 pub use native.Mathlib.Nat.{add-zero, mod-eq_of_lt}
 pub use native.Mathlib.Numerals.{add-one}
 pub use native.Mathlib.Omega.{arith}
-pub use Rattle.listing.specs.Lines.{address_by, after_kind, after_physical, after_virtual, body, mapping, uncommented}
+pub use Rattle.listing.specs.Lines.{address_by, after_access, after_kind, after_physical, after_virtual, body, mapping, uncommented}
 unfoldable pub use Rattle.listing.specs.Lines.{address_in, body_length, line_ended, from_access, from_kind, from_physical, from_virtual, parsed}
 unfoldable pub use Rattle.listing.specs.Numbers.{digit, hex_number, prefixed, read_on, within, hex_digits}
 pub use Rattle.listing.specs.Numbers.{end}

@@ -1,5 +1,7 @@
 -- A printed line read back says its mapping. Assumes nothing.
-use Rattle.listing.specs.Names.{◌≡◌, true, List, [], ◌∷◌, ◌++◌, ℕ, suc, ◌^◌, ◌≤◌, ◌<◌, length, pick, ◌and◌, ◌or◌, Kind, multiple, Class, Named, Said}
+use Rattle.std.proofs.Common.{Ok}
+use Rattle.std.proofs.Common.{Option, Some}
+use Rattle.listing.specs.Names.{◌≡◌, true, List, [], ◌∷◌, ◌++◌, ℕ, suc, ◌^◌, ◌≤◌, ◌<◌, length, pick, ◌and◌, ◌or◌, Kind, multiple, Class}
 use Rattle.listing.proofs.Names.{refl, sym, ap, ap₂, ◌∙◌, subst, append_assoc, append-nil, arith, ne_eqb, lit≤, length-append, pick_yes}
 use Rattle.listing.proofs.Names.{pick_no, end, blank, belongs, run_length, same_bytes, kind_named, access_named, mapping, from_virtual, from_kind, after_kind}
 use Rattle.listing.proofs.Names.{parsed, hex_text, kind_column, hex_column}
@@ -43,7 +45,7 @@ kind_high Kind.Large = (lit≤ tt, (lit≤ tt, (lit≤ tt, (lit≤ tt, (lit≤ t
 kind_high Kind.Small = (lit≤ tt, (lit≤ tt, (lit≤ tt, (lit≤ tt, (lit≤ tt, tt)))))
 kind_high Kind.Tiny = (lit≤ tt, (lit≤ tt, (lit≤ tt, (lit≤ tt, tt))))
 
-kind_named_lem : (k : Kind) → kind_named (kind_text k) ≡ Named.Known k
+kind_named_lem : (k : Kind) → kind_named (kind_text k) ≡ Some k
 unfolding kind_named same_bytes pick ◌and◌
 kind_named_lem Kind.Section = refl
 kind_named_lem Kind.Large = refl
@@ -122,13 +124,13 @@ kind_back k l s =
     ∙ ap₂ (λ (x y : List ℕ). after_kind (kind_named x) y)
     (word_here [] (kind_text k) l refl (kind_first k l) (in_high Class.Solid tt (kind_text k) (kind_high k)) s)
     (rest_here [] (kind_text k) l refl (kind_first k l) (in_high Class.Solid tt (kind_text k) (kind_high k)) s)
-    ∙ ap (λ (n : Named). after_kind n l) (kind_named_lem k)
+    ∙ ap (λ (n : Option Kind). after_kind n l) (kind_named_lem k)
 
 -- a printed line says its mapping
 module _ (k : Kind) (v p a : ℕ) (vl : v < 2 ^ 24) (pl : p < end) (vm : multiple k v ≡ true) (pm : multiple k p ≡ true) where
-  pub said-bare : (q : List ℕ) (y : ℕ) → High (q ++ (y ∷ [])) → length q ≤ 1 → (y ≡ 13 → ⊥) → run_length Class.Blank (q ++ (y ∷ [])) ≡ 0 → access_named (q ++ (y ∷ [])) ≡ a → (a ≡ 0 → ⊥)
-      → parsed (bare k v p (q ++ (y ∷ []))) ≡ Said.Mapped (mapping k v p a)
-  said-bare q y h n r b e z =
+  pub said-bare : (q : List ℕ) (y : ℕ) → High (q ++ (y ∷ [])) → length q ≤ 1 → (y ≡ 13 → ⊥) → run_length Class.Blank (q ++ (y ∷ [])) ≡ 0 → access_named (q ++ (y ∷ [])) ≡ Some a
+      → parsed (bare k v p (q ++ (y ∷ []))) ≡ Ok (Some (mapping k v p a))
+  said-bare q y h n r b e =
       let w : List ℕ = q ++ (y ∷ []) in
       let wl = length-append q (y ∷ []) in
       let Q : List ℕ = kind_column k ++ (hex_column 6 v ++ (hex_column 8 p ++ q)) in
@@ -152,4 +154,4 @@ module _ (k : Kind) (v p a : ℕ) (vl : v < 2 ^ 24) (pl : p < end) (vm : multipl
       ∙ said-whole Q y r short (subst (In Class.Plain) same_bytes (in_bare Class.Plain tt k v p w h))
       ∙ ap from_kind (sym same_bytes ∙ spelled k v p w)
       ∙ kind_back k ((32 ∷ kind_blanks k) ++ (hex_text 6 v ++ ((32 ∷ []) ++ (hex_text 8 p ++ ((32 ∷ []) ++ (w ++ [])))))) (solid_none _)
-      ∙ virtual_back k v p a vl pl vm pm w (in_high Class.Solid tt w h) b (omega arith) e z (32 ∷ kind_blanks k) (blanks_are k)
+      ∙ virtual_back k v p a vl pl vm pm w (in_high Class.Solid tt w h) b (omega arith) e (32 ∷ kind_blanks k) (blanks_are k)

@@ -1,10 +1,15 @@
 -- The words of a printed line, read back one by one. Assumes nothing.
+use Rattle.std.proofs.Common.{Option, Some}
+use Rattle.std.proofs.Common.{Result}
+use Rattle.listing.specs.declared.AddressError.{AddressError}
+use Rattle.std.proofs.Common.{Ok, Err}
+use Rattle.listing.specs.declared.NumberError.{NumberError}
 use Rattle.listing.specs.Names.{◌≡◌, Bool, true, false, not, List, [], ◌∷◌, ◌++◌, ℕ, zero, suc, ◌+◌, ◌*◌, ◌-◌, ◌/◌, ◌%◌, ◌^◌, ◌≤◌, ◌<◌, eqb}
-use Rattle.listing.specs.Names.{ltb, length, get_or, take, drop, pick, ◌or◌, limit, Kind, multiple, Class, Number, Address, Wrong, Said}
+use Rattle.listing.specs.Names.{ltb, length, get_or, take, drop, pick, ◌or◌, limit, Kind, multiple, Class, Wrong}
 use Rattle.listing.proofs.Names.{refl, sym, ap, ap₂, ◌∙◌, append_assoc, append-nil, arith, eq-eqb, ne_eqb, lt-ltb, le-ltb, lt-leb, le-leb}
 use Rattle.listing.proofs.Names.{ltb-true, ltb-false, length-append, take_at, drop_at, take-length, pick_yes, pick_no, pick_by, and_yes, or_no}
 use Rattle.listing.proofs.Names.{end, within, digit, read_on, hex_digits, prefixed, hex_number, blank, belongs, run_length, unindented, word, rest}
-use Rattle.listing.proofs.Names.{access_named, address_by, address_in, mapping, line_ended, from_access, from_physical, after_physical, from_virtual}
+use Rattle.listing.proofs.Names.{access_named, address_by, address_in, mapping, line_ended, from_access, after_access, from_physical, after_physical, from_virtual}
 use Rattle.listing.proofs.Names.{after_virtual, from_kind, body_length, body, uncommented, parsed, glyph, hex_text}
 use native.Mathlib.Nat.{pow-suc}
 use lib.Seq.{get_or_at}
@@ -111,7 +116,7 @@ hex_length (suc k) x = length-append (hex_text k (x / 16)) (glyph (x % 16) ∷ [
 
 read-glyph : (v d : ℕ) (l : List ℕ) → d < 16 → read_on v (glyph d ∷ l) ≡ read_on (16 * v + d) l
 unfolding read_on
-read-glyph v d l h = ap (λ (n : ℕ). pick (ltb n 16) (read_on (16 * v + n) l) Number.NotHex) (digit_glyph d h) ∙ pick_yes _ _ _ (lt-ltb d 16 h)
+read-glyph v d l h = ap (λ (n : ℕ). pick (ltb n 16) (read_on (16 * v + n) l) (Err NumberError.NotHex)) (digit_glyph d h) ∙ pick_yes _ _ _ (lt-ltb d 16 h)
 
 read_hex : (k x : ℕ) (l : List ℕ) → x < 16 ^ k → read_on 0 (hex_text k x ++ l) ≡ read_on x l
 unfolding hex_text
@@ -127,7 +132,7 @@ not-prefixed : (w : List ℕ) → 48 ≤ get_or w 1 0 → get_or w 1 0 ≤ 70 �
 unfolding prefixed
 not-prefixed w h g = and-rest _ _ (and-rest _ _ (or_no _ _ (ne_eqb (get_or w 1 0) 120 (λ e. omega arith)) ∙ ne_eqb (get_or w 1 0) 88 (λ e. omega arith)))
 
-number_hex : (k x : ℕ) → 0 < k → x < 16 ^ k → x < end → 48 ≤ get_or (hex_text k x) 1 0 → get_or (hex_text k x) 1 0 ≤ 70 → hex_number (hex_text k x) ≡ Number.Value x
+number_hex : (k x : ℕ) → 0 < k → x < 16 ^ k → x < end → 48 ≤ get_or (hex_text k x) 1 0 → get_or (hex_text k x) 1 0 ≤ 70 → hex_number (hex_text k x) ≡ Ok x
 unfolding hex_number hex_digits read_on
 number_hex k x p h e a b =
     pick_no _ _ _ (not-prefixed (hex_text k x) a b)
@@ -136,19 +141,19 @@ number_hex k x p h e a b =
     ∙ read_hex k x [] h
     ∙ pick_yes _ _ _ (lt-ltb x end e)
 
-six_number : (x : ℕ) → x < 2 ^ 24 → hex_number (hex_text 6 x) ≡ Number.Value x
+six_number : (x : ℕ) → x < 2 ^ 24 → hex_number (hex_text 6 x) ≡ Ok x
 unfolding hex_text
 six_number x h =
     let d : ℕ = x / 16 / 16 / 16 / 16 % 16 in
     number_hex 6 x (omega arith) (omega arith) (omega arith) (glyph_low d) (glyph_high d (omega arith))
 
-eight_number : (x : ℕ) → x < end → hex_number (hex_text 8 x) ≡ Number.Value x
+eight_number : (x : ℕ) → x < end → hex_number (hex_text 8 x) ≡ Ok x
 unfolding hex_text
 eight_number x h =
     let d : ℕ = x / 16 / 16 / 16 / 16 / 16 / 16 % 16 in
     number_hex 8 x (omega arith) (omega arith) h (glyph_low d) (glyph_high d (omega arith))
 
-address_back : (top k x : ℕ) (d : Kind) → 0 < k → hex_number (hex_text k x) ≡ Number.Value x → x < top → multiple d x ≡ true → address_in top d (hex_text k x) ≡ Address.At x
+address_back : (top k x : ℕ) (d : Kind) → 0 < k → hex_number (hex_text k x) ≡ Ok x → x < top → multiple d x ≡ true → address_in top d (hex_text k x) ≡ Ok x
 unfolding address_in
 address_back top k x d p e h m =
     pick_no _ _ _ (ne_eqb (length (hex_text k x)) 0 (λ z. let l = hex_length k x in omega arith))
@@ -194,29 +199,28 @@ unfolding run_length belongs blank pick ◌or◌
 solid_none l = refl
 
 module _ (k : Kind) (v p a : ℕ) (vl : v < 2 ^ 24) (pl : p < end) (vm : multiple k v ≡ true) (pm : multiple k p ≡ true)
-    (w : List ℕ) (ws : In Class.Solid w) (wb : run_length Class.Blank w ≡ 0) (wl : 0 < length w) (wa : access_named w ≡ a) (az : a ≡ 0 → ⊥) where
-  access_back : from_access k v p ((32 ∷ []) ++ (w ++ [])) ≡ Said.Mapped (mapping k v p a)
+    (w : List ℕ) (ws : In Class.Solid w) (wb : run_length Class.Blank w ≡ 0) (wl : 0 < length w) (wa : access_named w ≡ Some a) where
+  access_back : from_access k v p ((32 ∷ []) ++ (w ++ [])) ≡ Ok (Some (mapping k v p a))
   unfolding from_access line_ended run_length
   access_back =
       let wh : word ((32 ∷ []) ++ (w ++ [])) ≡ w = word_here (32 ∷ []) w [] blank-one (ap (run_length Class.Blank) (append-nil w) ∙ wb) ws refl in
       let rh : rest ((32 ∷ []) ++ (w ++ [])) ≡ [] = rest_here (32 ∷ []) w [] blank-one (ap (run_length Class.Blank) (append-nil w) ∙ wb) ws refl in
-      ap₂ (λ (x r : List ℕ). pick (eqb (length x) 0) (Said.Bad Wrong.WordMissing) (pick (eqb (access_named x) 0) (Said.Bad Wrong.UnknownAccess) (line_ended (mapping k v p (access_named x)) r))) wh rh
+      ap₂ (λ (x r : List ℕ). pick (eqb (length x) 0) (Err Wrong.WordMissing) (after_access k v p (access_named x) r)) wh rh
       ∙ pick_no _ _ _ (ne_eqb (length w) 0 (λ e. omega arith))
-      ∙ pick_no _ _ _ (ne_eqb (access_named w) 0 (λ e. az (sym wa ∙ e)))
+      ∙ ap (λ (x : Option ℕ). after_access k v p x []) wa
       ∙ pick_yes _ _ _ (eq-eqb 0 0 refl)
-      ∙ ap (λ (x : ℕ). Said.Mapped (mapping k v p x)) wa
 
-  physical_back : from_physical k v ((32 ∷ []) ++ (hex_text 8 p ++ ((32 ∷ []) ++ (w ++ [])))) ≡ Said.Mapped (mapping k v p a)
+  physical_back : from_physical k v ((32 ∷ []) ++ (hex_text 8 p ++ ((32 ∷ []) ++ (w ++ [])))) ≡ Ok (Some (mapping k v p a))
   unfolding from_physical
   physical_back =
       let r : List ℕ = (32 ∷ []) ++ (w ++ []) in
       ap₂ (λ (x y : List ℕ). after_physical k v (address_in end k x) y)
       (word_here (32 ∷ []) (hex_text 8 p) r blank-one (eight_solid p r) (in_hex Class.Solid tt 8 p) (solid_none (w ++ [])))
       (rest_here (32 ∷ []) (hex_text 8 p) r blank-one (eight_solid p r) (in_hex Class.Solid tt 8 p) (solid_none (w ++ [])))
-      ∙ ap (λ (x : Address). after_physical k v x r) (address_back end 8 p k (omega arith) (eight_number p pl) pl pm)
+      ∙ ap (λ (x : Result ℕ AddressError). after_physical k v x r) (address_back end 8 p k (omega arith) (eight_number p pl) pl pm)
       ∙ access_back
 
-  pub virtual_back : (bs : List ℕ) → In Class.Blank bs → from_virtual k (bs ++ (hex_text 6 v ++ ((32 ∷ []) ++ (hex_text 8 p ++ ((32 ∷ []) ++ (w ++ [])))))) ≡ Said.Mapped (mapping k v p a)
+  pub virtual_back : (bs : List ℕ) → In Class.Blank bs → from_virtual k (bs ++ (hex_text 6 v ++ ((32 ∷ []) ++ (hex_text 8 p ++ ((32 ∷ []) ++ (w ++ [])))))) ≡ Ok (Some (mapping k v p a))
   unfolding from_virtual
   virtual_back bs b =
       let m : List ℕ = hex_text 8 p ++ ((32 ∷ []) ++ (w ++ [])) in
@@ -224,5 +228,5 @@ module _ (k : Kind) (v p a : ℕ) (vl : v < 2 ^ 24) (pl : p < end) (vm : multipl
       ap₂ (λ (x y : List ℕ). after_virtual k (address_in limit k x) y)
       (word_here bs (hex_text 6 v) r b (six_solid v r) (in_hex Class.Solid tt 6 v) (solid_none m))
       (rest_here bs (hex_text 6 v) r b (six_solid v r) (in_hex Class.Solid tt 6 v) (solid_none m))
-      ∙ ap (λ (x : Address). after_virtual k x r) (address_back limit 6 v k (omega arith) (six_number v vl) vl vm)
+      ∙ ap (λ (x : Result ℕ AddressError). after_virtual k x r) (address_back limit 6 v k (omega arith) (six_number v vl) vl vm)
       ∙ physical_back

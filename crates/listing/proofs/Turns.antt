@@ -1,6 +1,9 @@
 -- A text read line by line. Assumes nothing.
+use Rattle.std.proofs.Common.{Option, Some, None}
+use Rattle.listing.specs.declared.ReadError.{ReadError}
+use Rattle.std.proofs.Common.{Result, Ok, Err}
 use Rattle.listing.specs.Names.{◌≡◌, Bool, true, false, not, List, [], ◌∷◌, ℕ, suc, ◌+◌, ◌*◌, ◌-◌, ◌≤◌, ◌<◌, eqb, ltb, leb, length, take, drop}
-use Rattle.listing.specs.Names.{set, pick, Mapping, most, Class, Wrong, Said, Listed}
+use Rattle.listing.specs.Names.{set, pick, Mapping, most, Class, Wrong}
 use Rattle.listing.proofs.Names.{part_to_end, refl, sym, ap, ap₂, ◌∙◌, arith, add-one, dec_le, lt-ltb, le-ltb, le-leb, lt-leb, leb-true}
 use Rattle.listing.proofs.Names.{leb-false, length-drop, length-set, drop-drop, pick_yes, pick_no, belongs, run_length, parsed, lines_of, record_of}
 use Rattle.listing.proofs.Names.{pasted, reading, by_said, read_lines}
@@ -66,13 +69,13 @@ module _ (t : List ℕ) (at r : ℕ) (h : at ≤ length t) (e : r ≡ run_length
 -- the loop over the lines: where it is, and that what is left gives the answer
 pub record Turn (t rs₀ ls₀ rs ls : List ℕ) (at i n : ℕ) : Type 0 where
   pub place : at ≤ length t + 1
-  pub counted : i ≤ at + 1
+  pub counted : i ≤ at
   pub few : n ≤ most
   pub records : length rs ≡ length rs₀
   pub lines : length ls ≡ length ls₀
-  pub left : read_lines 1 0 (lines_of t) rs₀ ls₀ ≡ read_lines i n (lines_from t at) rs ls
+  pub left : read_lines 1 0 (lines_of t) rs₀ ls₀ ≡ read_lines (i + 1) n (lines_from t at) rs ls
 
-pub turn_first : (t rs ls : List ℕ) → Turn t rs ls rs ls 0 1 0
+pub turn_first : (t rs ls : List ℕ) → Turn t rs ls rs ls 0 0 0
 unfolding lines_from
 turn_first t rs ls = record {
   place = omega arith;
@@ -83,49 +86,49 @@ turn_first t rs ls = record {
   left = ap (λ (m : List (List ℕ)). read_lines 1 0 m rs ls) (sym (pick_yes _ _ _ (le-leb 0 (length t) (omega arith))));
 }
 
-pub turn_last : (t rs₀ ls₀ rs ls : List ℕ) (at i n : ℕ) → Turn t rs₀ ls₀ rs ls at i n → length t < at → reading (Listed.Mappings n) rs ls ≡ read_lines 1 0 (lines_of t) rs₀ ls₀
+pub turn_last : (t rs₀ ls₀ rs ls : List ℕ) (at i n : ℕ) → Turn t rs₀ ls₀ rs ls at i n → length t < at → reading (Ok n) rs ls ≡ read_lines 1 0 (lines_of t) rs₀ ls₀
 unfolding lines_from read_lines
-turn_last t rs₀ ls₀ rs ls at i n v h = sym (v.left ∙ ap (λ (m : List (List ℕ)). read_lines i n m rs ls) (pick_no _ _ _ (lt-leb at (length t) h)))
+turn_last t rs₀ ls₀ rs ls at i n v h = sym (v.left ∙ ap (λ (m : List (List ℕ)). read_lines (i + 1) n m rs ls) (pick_no _ _ _ (lt-leb at (length t) h)))
 
 module _ (t rs₀ ls₀ rs ls : List ℕ) (at i n : ℕ) (v : Turn t rs₀ ls₀ rs ls at i n) (h : at ≤ length t)
-    (r : ℕ) (e : r ≡ run_length Class.Inline (take (length t - at) (drop at t))) (s : Said) (f : s ≡ parsed (take (at + r - at) (drop at t))) where
-  here : (w : Said) → s ≡ w → read_lines 1 0 (lines_of t) rs₀ ls₀ ≡ by_said w
-      (read_lines (i + 1) n (lines_from t (at + r + 1)) rs ls)
-      (λ m. pick (leb most n) (reading (Listed.Bad i Wrong.TooManyMappings) rs ls) (read_lines (i + 1) (n + 1) (lines_from t (at + r + 1)) (pasted rs (12 * n) (record_of m)) (set ls n i)))
-      (λ w. reading (Listed.Bad i w) rs ls)
+    (r : ℕ) (e : r ≡ run_length Class.Inline (take (length t - at) (drop at t))) (s : Result (Option Mapping) Wrong) (f : s ≡ parsed (take (at + r - at) (drop at t))) where
+  here : (w : Result (Option Mapping) Wrong) → s ≡ w → read_lines 1 0 (lines_of t) rs₀ ls₀ ≡ by_said w
+      (read_lines (i + 1 + 1) n (lines_from t (at + r + 1)) rs ls)
+      (λ m. pick (leb most n) (reading (Err (ReadError.Bad (i + 1) Wrong.TooManyMappings)) rs ls) (read_lines (i + 1 + 1) (n + 1) (lines_from t (at + r + 1)) (pasted rs (12 * n) (record_of m)) (set ls n (i + 1))))
+      (λ w. reading (Err (ReadError.Bad (i + 1) w)) rs ls)
   unfolding read_lines
   here w g =
       v.left
-      ∙ ap (λ (m : List (List ℕ)). read_lines i n m rs ls) (line_here t at r h e)
-      ∙ ap (λ (x : Said). by_said x
-      (read_lines (suc i) n (lines_from t (at + r + 1)) rs ls)
-      (λ m. pick (leb most n) (reading (Listed.Bad i Wrong.TooManyMappings) rs ls) (read_lines (suc i) (suc n) (lines_from t (at + r + 1)) (pasted rs (12 * n) (record_of m)) (set ls n i)))
-      (λ w. reading (Listed.Bad i w) rs ls)) (sym f ∙ g)
+      ∙ ap (λ (m : List (List ℕ)). read_lines (i + 1) n m rs ls) (line_here t at r h e)
+      ∙ ap (λ (x : Result (Option Mapping) Wrong). by_said x
+      (read_lines (suc (i + 1)) n (lines_from t (at + r + 1)) rs ls)
+      (λ m. pick (leb most n) (reading (Err (ReadError.Bad (i + 1) Wrong.TooManyMappings)) rs ls) (read_lines (suc (i + 1)) (suc n) (lines_from t (at + r + 1)) (pasted rs (12 * n) (record_of m)) (set ls n (i + 1))))
+      (λ w. reading (Err (ReadError.Bad (i + 1) w)) rs ls)) (sym f ∙ g)
       ∙ ap₂ (λ (a b : ℕ). by_said w
       (read_lines a n (lines_from t (at + r + 1)) rs ls)
-      (λ m. pick (leb most n) (reading (Listed.Bad i Wrong.TooManyMappings) rs ls) (read_lines a b (lines_from t (at + r + 1)) (pasted rs (12 * n) (record_of m)) (set ls n i)))
-      (λ w. reading (Listed.Bad i w) rs ls)) (sym (add-one i)) (sym (add-one n))
+      (λ m. pick (leb most n) (reading (Err (ReadError.Bad (i + 1) Wrong.TooManyMappings)) rs ls) (read_lines a b (lines_from t (at + r + 1)) (pasted rs (12 * n) (record_of m)) (set ls n (i + 1))))
+      (λ w. reading (Err (ReadError.Bad (i + 1) w)) rs ls)) (sym (add-one (i + 1))) (sym (add-one n))
 
-  pub turn_nothing : s ≡ Said.Nothing → Turn t rs₀ ls₀ rs ls (at + r + 1) (i + 1) n
+  pub turn_nothing : s ≡ Ok None → Turn t rs₀ ls₀ rs ls (at + r + 1) (i + 1) n
   turn_nothing g = record
-      { place = omega (arith, line_fits t at r h e); counted = omega (arith, v.counted); few = v.few; records = v.records; lines = v.lines; left = here Said.Nothing g }
+      { place = omega (arith, line_fits t at r h e); counted = omega (arith, v.counted); few = v.few; records = v.records; lines = v.lines; left = here (Ok None) g }
 
-  pub turn_mapped : (m : Mapping) (b rs' : List ℕ) → s ≡ Said.Mapped m → n < most → b ≡ record_of m → length rs' ≡ length rs → rs' ≡ pasted rs (12 * n) b
-      → Turn t rs₀ ls₀ rs' (set ls n i) (at + r + 1) (i + 1) (n + 1)
+  pub turn_mapped : (m : Mapping) (b rs' : List ℕ) → s ≡ Ok (Some m) → n < most → b ≡ record_of m → length rs' ≡ length rs → rs' ≡ pasted rs (12 * n) b
+      → Turn t rs₀ ls₀ rs' (set ls n (i + 1)) (at + r + 1) (i + 1) (n + 1)
   turn_mapped m b rs' g few be k p = record {
     place = omega (arith, line_fits t at r h e);
     counted = omega (arith, v.counted);
     few = omega arith;
     records = k ∙ v.records;
-    lines = length-set ls n i ∙ v.lines;
+    lines = length-set ls n (i + 1) ∙ v.lines;
     left =
-        here (Said.Mapped m) g
+        here (Ok (Some m)) g
         ∙ pick_no _ _ _ (lt-leb most n few)
-        ∙ ap (λ (x : List ℕ). read_lines (i + 1) (n + 1) (lines_from t (at + r + 1)) x (set ls n i)) (sym (p ∙ ap (pasted rs (12 * n)) be));
+        ∙ ap (λ (x : List ℕ). read_lines (i + 1 + 1) (n + 1) (lines_from t (at + r + 1)) x (set ls n (i + 1))) (sym (p ∙ ap (pasted rs (12 * n)) be));
   }
 
-  pub turn_many : (m : Mapping) → s ≡ Said.Mapped m → most ≤ n → reading (Listed.Bad i Wrong.TooManyMappings) rs ls ≡ read_lines 1 0 (lines_of t) rs₀ ls₀
-  turn_many m g k = sym (here (Said.Mapped m) g ∙ pick_yes _ _ _ (le-leb most n k))
+  pub turn_many : (m : Mapping) → s ≡ Ok (Some m) → most ≤ n → reading (Err (ReadError.Bad (i + 1) Wrong.TooManyMappings)) rs ls ≡ read_lines 1 0 (lines_of t) rs₀ ls₀
+  turn_many m g k = sym (here (Ok (Some m)) g ∙ pick_yes _ _ _ (le-leb most n k))
 
-  pub turn_bad : (w : Wrong) → s ≡ Said.Bad w → reading (Listed.Bad i w) rs ls ≡ read_lines 1 0 (lines_of t) rs₀ ls₀
-  turn_bad w g = sym (here (Said.Bad w) g)
+  pub turn_bad : (w : Wrong) → s ≡ Err w → reading (Err (ReadError.Bad (i + 1) w)) rs ls ≡ read_lines 1 0 (lines_of t) rs₀ ls₀
+  turn_bad w g = sym (here (Err w) g)

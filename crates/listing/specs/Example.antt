@@ -1,6 +1,8 @@
 -- A text with all that a line may have, and what it is read to: comments, a tab, blanks, 0x, a CRLF end, a last line without an end.
+use Rattle.std.specs.Prelude.{Ok, Err}
+use Rattle.listing.specs.declared.ReadError.{ReadError}
 use Rattle.std.specs.Prelude.{◌*◌, ◌≤◌, ◌≡◌, ◌∷◌, ◌++◌}
-use Rattle.listing.specs.Names.{ℕ, List, [], length, set, Kind, Mapping, record_size, most, Wrong, Listed}
+use Rattle.listing.specs.Names.{ℕ, List, [], length, set, Kind, Mapping, record_size, most, Wrong}
 use Rattle.listing.specs.Lines.{mapping}
 use Rattle.listing.specs.Purposes.{span, purpose_of}
 use Rattle.listing.specs.Texts.{reading, read_text}
@@ -39,13 +41,13 @@ abbrev pub ReadsTwo : Type 0
 ReadsTwo =
     (rs ls : List ℕ) → record_size * most ≤ length rs → most ≤ length ls
     → read_text (heading ++ (first_line ++ last_line)) rs ls
-    ≡ reading (Listed.Mappings 2) (pasted (pasted rs 0 (record_of heap)) 12 (record_of page)) (set (set ls 0 2) 1 3)
+    ≡ reading (Ok 2) (pasted (pasted rs 0 (record_of heap)) 12 (record_of page)) (set (set ls 0 2) 1 3)
 
 -- and with the other last line refused there, behind one mapping
 abbrev pub RefusesThird : Type 0
 RefusesThird =
     (rs ls : List ℕ) → record_size * most ≤ length rs → most ≤ length ls
-    → read_text (heading ++ (first_line ++ uneven_line)) rs ls ≡ reading (Listed.Bad 3 Wrong.VirtualUneven) (pasted rs 0 (record_of heap)) (set ls 0 2)
+    → read_text (heading ++ (first_line ++ uneven_line)) rs ls ≡ reading (Err (ReadError.Bad 3 Wrong.VirtualUneven)) (pasted rs 0 (record_of heap)) (set ls 0 2)
 
 -- what line 2 is for: "heap"
 abbrev pub PurposeOfSecond : Type 0

@@ -1,12 +1,13 @@
 -- What the definitions of this crate are written with.
+pub use Rattle.listing.specs.declared.PrintError.{PrintError}
+pub use Rattle.listing.specs.declared.ReadError.{ReadError}
+pub use Rattle.listing.specs.declared.AddressError.{AddressError}
+pub use Rattle.std.specs.Prelude.{Option, Some, None}
+pub use Rattle.listing.specs.declared.NumberError.{NumberError}
+pub use Rattle.std.specs.Prelude.{Result, Ok, Err}
+pub use Rattle.records.specs.declared.BadList.{BadList}
 pub use Rattle.std.specs.Prelude.{◌%◌, ◌*◌, ◌++◌, ◌+◌, ◌-◌, ◌/◌, ◌<◌, ◌^◌, ◌∷◌, ◌≡◌, ◌≤◌}
-pub use Rattle.listing.specs.declared.Address.{Address}
 pub use Rattle.listing.specs.declared.Class.{Class}
-pub use Rattle.listing.specs.declared.Listed.{Listed}
-pub use Rattle.listing.specs.declared.Named.{Named}
-pub use Rattle.listing.specs.declared.Number.{Number}
-pub use Rattle.listing.specs.declared.Printed.{Printed}
-pub use Rattle.listing.specs.declared.Said.{Said}
 pub use Rattle.listing.specs.declared.Span.{Span}
 pub use Rattle.listing.specs.declared.Wrong.{Wrong}
 pub use Rattle.page.specs.Ground.{Bool, List, [], drop, eqb, false, get_or, leb, length, ltb}
@@ -19,5 +20,4 @@ unfoldable pub use Rattle.records.specs.Mappings.{mappings}
 pub use Rattle.records.specs.Mappings.{record_at, record_size}
 unfoldable pub use Rattle.records.specs.Refusals.{checked}
 pub use Rattle.records.specs.Refusals.{most}
-pub use Rattle.records.specs.declared.Checked.{Checked}
 pub use Rattle.records.specs.declared.Mapping.{Mapping}

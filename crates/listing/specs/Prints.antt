@@ -1,7 +1,9 @@
 -- A list of records as text: a line for each, as reading takes it.
+use Rattle.std.specs.Prelude.{Result, Ok, Err}
+use Rattle.listing.specs.declared.PrintError.{PrintError}
 use Rattle.std.specs.Prelude.{◌+◌, ◌*◌, ◌/◌, ◌%◌, ◌∷◌, ◌++◌}
 use Rattle.listing.specs.Names.{ℕ, zero, suc, Bool, true, List, [], eqb, ltb, leb, length, pick, ◌and◌}
-use Rattle.listing.specs.Names.{megabytes, Kind, Mapping, record_size, record_at, mappings, well_formed, most, Printed}
+use Rattle.listing.specs.Names.{megabytes, Kind, Mapping, record_size, record_at, mappings, well_formed, most}
 use Rattle.listing.specs.Words.{kind_text, read_only_text, both_text}
 use Rattle.wire.specs.Words.{pasted, shown, Shown}
 
@@ -61,16 +63,16 @@ shown_at l at s = shown (at + length s) (pasted l at s)
 
 -- what printing leaves: the answer and the memory
 pub record Printing : Type 0 where
-  pub answer : Printed
+  pub answer : Result ℕ PrintError
   pub memory : List ℕ
 
-abbrev pub printing : Printed → List ℕ → Printing
+abbrev pub printing : Result ℕ PrintError → List ℕ → Printing
 printing a l = record { answer = a; memory = l }
 
 -- the text at the front of a memory; what is no such list, and a memory without room for as many of the widest lines, changes nothing
 unfoldable pub print_text : List ℕ → List ℕ → Printing
 print_text rs l =
     pick (formed rs)
-    (pick (ltb (length l) (widest * (length rs / record_size))) (printing Printed.NoRoom l)
-    (printing (Printed.Length (length (printed (mappings rs)))) (pasted l 0 (printed (mappings rs)))))
-    (printing Printed.NoList l)
+    (pick (ltb (length l) (widest * (length rs / record_size))) (printing (Err PrintError.NoRoom) l)
+    (printing (Ok (length (printed (mappings rs)))) (pasted l 0 (printed (mappings rs)))))
+    (printing (Err PrintError.NoList) l)

@@ -1,6 +1,7 @@
 -- A line's words: what stands between blanks, and the words of kinds and accesses.
-use Rattle.std.specs.Prelude.{◌+◌, ◌∷◌}
-use Rattle.listing.specs.Names.{ℕ, suc, Bool, true, false, not, List, [], eqb, take, drop, pick, ◌and◌, ◌or◌, Kind, Class, Span, Named}
+use Rattle.std.specs.Prelude.{Option, Some, None}
+use Rattle.std.specs.Prelude.{◌∷◌}
+use Rattle.listing.specs.Names.{ℕ, suc, Bool, true, false, not, List, [], eqb, take, drop, pick, ◌and◌, ◌or◌, Kind, Class}
 
 -- a blank or a tab
 unfoldable pub blank : ℕ → Bool
@@ -28,10 +29,6 @@ word l = take (run_length Class.Solid (unindented l)) (unindented l)
 unfoldable pub rest : List ℕ → List ℕ
 rest l = drop (run_length Class.Solid (unindented l)) (unindented l)
 
--- where the first word lies
-unfoldable pub word_span : List ℕ → Span
-word_span l = record { from = run_length Class.Blank l; to = run_length Class.Blank l + run_length Class.Solid (unindented l) }
-
 -- two words are the same
 unfoldable pub same_bytes : List ℕ → List ℕ → Bool
 same_bytes [] [] = true
@@ -53,13 +50,13 @@ abbrev pub both_text : List ℕ
 both_text = 114 ∷ 119 ∷ []
 
 -- the kind that a word names
-unfoldable pub kind_named : List ℕ → Named
+unfoldable pub kind_named : List ℕ → Option Kind
 kind_named w =
-    pick (same_bytes w (kind_text Kind.Section)) (Named.Known Kind.Section)
-    (pick (same_bytes w (kind_text Kind.Large)) (Named.Known Kind.Large)
-    (pick (same_bytes w (kind_text Kind.Small)) (Named.Known Kind.Small)
-    (pick (same_bytes w (kind_text Kind.Tiny)) (Named.Known Kind.Tiny) Named.Unknown)))
+    pick (same_bytes w (kind_text Kind.Section)) (Some Kind.Section)
+    (pick (same_bytes w (kind_text Kind.Large)) (Some Kind.Large)
+    (pick (same_bytes w (kind_text Kind.Small)) (Some Kind.Small)
+    (pick (same_bytes w (kind_text Kind.Tiny)) (Some Kind.Tiny) None)))
 
--- the access that a word names (01, "The builder": 2 or 3), 0 where it names none
-unfoldable pub access_named : List ℕ → ℕ
-access_named w = pick (same_bytes w read_only_text) 2 (pick (same_bytes w both_text) 3 0)
+-- the access that a word names (01, "The builder": 2 or 3), if it names one
+unfoldable pub access_named : List ℕ → Option ℕ
+access_named w = pick (same_bytes w read_only_text) (Some 2) (pick (same_bytes w both_text) (Some 3) None)

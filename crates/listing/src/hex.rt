@@ -1,37 +1,23 @@
 // Numbers in hex: a digit, a word of digits.
 ghost use Rattle.std.specs.Prelude.{◌≡◌, ◌+◌, ◌*◌, ◌<◌};
 ghost use Rattle.listing.specs.Names.{ltb, pick};
-ghost use Rattle.listing.specs.Numbers.{end, within, digit, read_on, hex_digits, prefixed, hex_number};
+ghost use Rattle.listing.specs.Numbers.{end, digit, read_on, hex_digits, prefixed, hex_number};
 
-use crate::Number;
+use crate::NumberError;
 
 // The first number past those of 32 bits.
-const END: u64 = 4294967296;
-
-// Whether a byte lies between two others.
-fn within(x: u8, from: u8, to: u8) -> bool
-    ensures { result ≡ within x from to }
-{
-    if x < from {
-        return false;
-    }
-    x <= to
-}
+const END: u64 = 1 << 32;
 
 // The value of a hex digit, 16 where the byte is none.
 pub(crate) fn digit(x: u8) -> u8
     ensures { result ≡ digit x }
 {
-    if within(x, 48, 57) {
-        return x - 48;
+    match x {
+        b'0'..=b'9' => x - b'0',
+        b'A'..=b'F' => x - b'A' + 10,
+        b'a'..=b'f' => x - b'a' + 10,
+        _ => 16,
     }
-    if within(x, 65, 70) {
-        return x - 55;
-    }
-    if within(x, 97, 102) {
-        return x - 87;
-    }
-    16
 }
 
 // A value with one digit more; a value past 32 bits stays as it is.
@@ -39,64 +25,56 @@ fn on(v: u64, d: u8) -> u64
     requires { d < 16 }
     ensures { result ≡ pick (ltb v end) (16 * v + d) v }
 {
-    if v < END {
-        return 16 * v + d as u64;
-    }
-    v
+    if v < END { 16 * v + u64::from(d) } else { v }
 }
 
 // The number that digits write.
-fn digits(w: &[u8]) -> Number
+fn digits(w: &[u8]) -> Result<u32, NumberError>
     ensures { result ≡ read_on 0 w.now }
 {
-    let mut v: u64 = 0;
-    let mut i = 0;
-    while i < w.len() {
-        let d = digit(w[i]);
+    let mut v = 0;
+    for x in w {
+        let d = digit(*x);
         if d >= 16 {
-            return Number::NotHex;
+            return Err(NumberError::NotHex);
         }
         v = on(v, d);
-        i += 1;
     }
     if v < END {
-        return Number::Value(v as u32);
+        Ok(v as u32)
+    } else {
+        Err(NumberError::TooLarge)
     }
-    Number::TooLarge
 }
 
 // The number that digits write, if there is one at least.
-fn written(w: &[u8]) -> Number
+fn written(w: &[u8]) -> Result<u32, NumberError>
     ensures { result ≡ hex_digits w.now }
 {
-    if w.len() == 0 {
-        return Number::NotHex;
+    if w.is_empty() {
+        Err(NumberError::NotHex)
+    } else {
+        digits(w)
     }
-    digits(w)
 }
 
 // Whether a word begins with 0x.
 fn prefixed(w: &[u8]) -> bool
     ensures { result ≡ prefixed w.now }
 {
-    if w.len() < 2 {
+    if w.len() < 2 || w[0] != b'0' {
         return false;
     }
-    if w[0] != 48 {
-        return false;
-    }
-    if w[1] == 120 {
-        return true;
-    }
-    w[1] == 88
+    w[1] == b'x' || w[1] == b'X'
 }
 
 // The number that a word writes.
-pub(crate) fn number(w: &[u8]) -> Number
+pub(crate) fn number(w: &[u8]) -> Result<u32, NumberError>
     ensures { result ≡ hex_number w.now }
 {
     if prefixed(w) {
-        return written(&w[2..]);
+        written(&w[2..])
+    } else {
+        written(w)
     }
-    written(w)
 }

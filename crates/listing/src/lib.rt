@@ -5,9 +5,6 @@ ghost use Rattle.listing.specs.Prints.{printing, print_text};
 ghost use Rattle.listing.specs.Purposes.{purpose_of};
 ghost use Rattle.listing.specs.Texts.{reading, read_text};
 
-use page::Kind;
-use records::Mapping;
-
 mod bytes;
 mod hex;
 mod line;
@@ -16,10 +13,9 @@ mod printer;
 mod text;
 mod tokens;
 
-// What a word says as a number in hex: a value of 32 bits, more than that, or none.
+// Why a word says no number in hex of 32 bits.
 #[derive(Clone, Copy)]
-pub(crate) enum Number {
-    Value(u32),
+pub(crate) enum NumberError {
     TooLarge,
     NotHex,
 }
@@ -40,21 +36,26 @@ pub struct Span {
     pub to: usize,
 }
 
-// The kind that a word names, if it names one.
+// Why a word says no address where one is to stand.
 #[derive(Clone, Copy)]
-pub(crate) enum Named {
-    Known(Kind),
-    Unknown,
-}
-
-// What a word says where an address is to stand.
-#[derive(Clone, Copy)]
-pub(crate) enum Address {
-    At(u32),
+pub(crate) enum AddressError {
     Missing,
     NotHex,
     TooLarge,
     Uneven,
+}
+
+impl From<NumberError> for AddressError {
+    ghost use Rattle.listing.specs.Lines.{no_number};
+
+    ghost from_gives = { λ e r. r ≡ no_number e };
+
+    fn from(e: NumberError) -> AddressError {
+        match e {
+            NumberError::TooLarge => AddressError::TooLarge,
+            NumberError::NotHex => AddressError::NotHex,
+        }
+    }
 }
 
 // What is wrong with a text.
@@ -75,74 +76,57 @@ pub enum Wrong {
     TooManyMappings,
 }
 
-// What a line says.
+// Why a text is not read: a line counted from 1 (0: the whole text) and what is wrong, or memories that are too short.
 #[derive(Clone, Copy)]
-pub(crate) enum Said {
-    Nothing,
-    Mapped(Mapping),
-    Bad(Wrong),
+pub enum ReadError {
+    Bad(u32, Wrong),
+    NoRoom,
 }
 
-// What a text is read to: how many mappings, or the first bad line, counted from 1 (0: the text as a whole), and what is wrong; or that the memories are too short.
+// Why a list is not printed: its records are no list of well-formed ones, or the memory is too short.
 #[derive(Clone, Copy)]
-pub enum Listed {
-    Mappings(usize),
-    Bad(u32, Wrong),
+pub enum PrintError {
+    NoList,
     NoRoom,
 }
 
 // The most bytes of a text.
 const LONGEST: usize = 262144;
 
-// Reads a list: its records into one memory, the number of each one's line into another.
-pub fn read(text: &[u8], records: &mut [u8], lines: &mut [u32]) -> Listed
+// Reads a list: its records into one memory, the number of each one's line into another; how many mappings there are.
+pub fn read(text: &[u8], records: &mut [u8], lines: &mut [u32]) -> Result<usize, ReadError>
     ensures { reading result records.new lines.new ≡ read_text text.now records.old lines.old }
 {
-    if records.len() < records::SIZE * records::MOST {
-        return Listed::NoRoom;
-    }
-    if lines.len() < records::MOST {
-        return Listed::NoRoom;
+    if records.len() < records::SIZE * records::MOST || lines.len() < records::MOST {
+        return Err(ReadError::NoRoom);
     }
     if text.len() > LONGEST {
-        return Listed::Bad(0, Wrong::TextTooLong);
+        return Err(ReadError::Bad(0, Wrong::TextTooLong));
     }
     text::read_lines(text, records, lines)
-}
-
-// What printing answers: the text's length, that the records are no list of well-formed ones, or that the memory is too short.
-#[derive(Clone, Copy)]
-pub enum Printed {
-    Length(usize),
-    NoList,
-    NoRoom,
 }
 
 // The most bytes of a printed line with its end.
 pub const WIDEST: usize = 27;
 
-// Prints a list, a line for each record.
-pub fn print(records: &[u8], out: &mut [u8]) -> Printed
+// Prints a list, a line for each record; how many bytes the text has.
+pub fn print(records: &[u8], out: &mut [u8]) -> Result<usize, PrintError>
     ensures { printing result out.new ≡ print_text records.now out.old }
 {
     if !printer::formed(records) {
-        return Printed::NoList;
+        return Err(PrintError::NoList);
     }
     if out.len() / WIDEST < records.len() / records::SIZE {
-        return Printed::NoRoom;
+        return Err(PrintError::NoRoom);
     }
-    let n = printer::put_lines(records, out);
-    Printed::Length(n)
+    Ok(printer::put_lines(records, out))
 }
 
 // Where in a text the words of a line's comment lie, without blanks on either side; an empty part where there are none.
 pub fn purpose(text: &[u8], line: u32) -> Span
     ensures { result ≡ purpose_of text.now line }
 {
-    if text.len() > LONGEST {
-        return Span { from: 0, to: 0 };
-    }
-    if line == 0 {
+    if text.len() > LONGEST || line == 0 {
         return Span { from: 0, to: 0 };
     }
     let at = notes::start_of(text, line - 1);

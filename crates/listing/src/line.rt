@@ -3,7 +3,7 @@ ghost use Rattle.std.specs.Prelude.{◌≡◌};
 ghost use Rattle.listing.specs.Names.{multiple};
 ghost use Rattle.listing.specs.Lines.{address_in, line_ended, from_access, from_physical, from_virtual, from_kind, body_length, parsed};
 
-use crate::{Address, Class, Named, Number, Said, Wrong, hex, tokens};
+use crate::{AddressError, Class, Wrong, hex, tokens};
 use page::{Kind, PhysicalAddress, VirtualAddress};
 use records::Mapping;
 
@@ -11,17 +11,10 @@ use records::Mapping;
 const LONGEST: usize = 200;
 
 // The first address past the virtual ones.
-const VIRTUAL: u64 = 16777216;
+const VIRTUAL: u64 = 1 << 24;
 
 // The first address past the physical ones.
-const PHYSICAL: u64 = 4294967296;
-
-// A number of 32 bits as one of 64.
-fn wide(x: u32) -> u64
-    ensures { result ≡ x }
-{
-    x as u64
-}
+const PHYSICAL: u64 = 1 << 32;
 
 // Whether an address is a multiple of a page's size.
 fn multiple(k: Kind, x: u32) -> bool
@@ -31,109 +24,92 @@ fn multiple(k: Kind, x: u32) -> bool
 }
 
 // What a word says where an address of a kind of page is to stand, below an end.
-fn address(w: &[u8], end: u64, k: Kind) -> Address
+fn address(w: &[u8], end: u64, k: Kind) -> Result<u32, AddressError>
     ensures { result ≡ address_in end k w.now }
 {
-    if w.len() == 0 {
-        return Address::Missing;
+    if w.is_empty() {
+        return Err(AddressError::Missing);
     }
-    let n = hex::number(w);
-    match n {
-        Number::Value(x) => {
-            if end <= wide(x) {
-                return Address::TooLarge;
-            }
-            if multiple(k, x) {
-                return Address::At(x);
-            }
-            return Address::Uneven;
-        }
-        Number::TooLarge => return Address::TooLarge,
-        Number::NotHex => return Address::NotHex,
+    let x = hex::number(w)?;
+    if end <= u64::from(x) {
+        Err(AddressError::TooLarge)
+    } else if multiple(k, x) {
+        Ok(x)
+    } else {
+        Err(AddressError::Uneven)
     }
 }
 
 // A line behind its access: nothing more is to stand there.
-fn ended(line: &[u8], m: Mapping) -> Said
+fn ended(line: &[u8], m: Mapping) -> Result<Option<Mapping>, Wrong>
     ensures { result ≡ line_ended m line.now }
 {
     if tokens::run(line, Class::Blank) == line.len() {
-        return Said::Mapped(m);
+        Ok(Some(m))
+    } else {
+        Err(Wrong::WordTooMany)
     }
-    Said::Bad(Wrong::WordTooMany)
 }
 
 // A line from its access on.
-fn from_access(line: &[u8], k: Kind, v: u32, p: u32) -> Said
+fn from_access(line: &[u8], k: Kind, v: u32, p: u32) -> Result<Option<Mapping>, Wrong>
     ensures { result ≡ from_access k v p line.now }
 {
-    let s = tokens::word(line);
-    let from = s.from;
-    let to = s.to;
-    if from == to {
-        return Said::Bad(Wrong::WordMissing);
+    let (w, rest) = tokens::word(line);
+    if w.is_empty() {
+        return Err(Wrong::WordMissing);
     }
-    let a = tokens::access_named(&line[from..to]);
-    if a == 0 {
-        return Said::Bad(Wrong::UnknownAccess);
-    }
+    let Some(access) = tokens::access_named(w) else {
+        return Err(Wrong::UnknownAccess);
+    };
     let m = Mapping {
         at: VirtualAddress(v),
         to: PhysicalAddress(p),
         kind: k,
-        access: a,
+        access,
     };
-    ended(&line[to..], m)
+    ended(rest, m)
 }
 
 // A line from its physical address on.
-fn from_physical(line: &[u8], k: Kind, v: u32) -> Said
+fn from_physical(line: &[u8], k: Kind, v: u32) -> Result<Option<Mapping>, Wrong>
     ensures { result ≡ from_physical k v line.now }
 {
-    let s = tokens::word(line);
-    let from = s.from;
-    let to = s.to;
-    let a = address(&line[from..to], PHYSICAL, k);
-    match a {
-        Address::At(p) => return from_access(&line[to..], k, v, p),
-        Address::Missing => return Said::Bad(Wrong::WordMissing),
-        Address::NotHex => return Said::Bad(Wrong::PhysicalNotHex),
-        Address::TooLarge => return Said::Bad(Wrong::PhysicalTooLarge),
-        Address::Uneven => return Said::Bad(Wrong::PhysicalUneven),
+    let (w, rest) = tokens::word(line);
+    match address(w, PHYSICAL, k) {
+        Ok(p) => from_access(rest, k, v, p),
+        Err(AddressError::Missing) => Err(Wrong::WordMissing),
+        Err(AddressError::NotHex) => Err(Wrong::PhysicalNotHex),
+        Err(AddressError::TooLarge) => Err(Wrong::PhysicalTooLarge),
+        Err(AddressError::Uneven) => Err(Wrong::PhysicalUneven),
     }
 }
 
 // A line from its virtual address on.
-fn from_virtual(line: &[u8], k: Kind) -> Said
+fn from_virtual(line: &[u8], k: Kind) -> Result<Option<Mapping>, Wrong>
     ensures { result ≡ from_virtual k line.now }
 {
-    let s = tokens::word(line);
-    let from = s.from;
-    let to = s.to;
-    let a = address(&line[from..to], VIRTUAL, k);
-    match a {
-        Address::At(v) => return from_physical(&line[to..], k, v),
-        Address::Missing => return Said::Bad(Wrong::WordMissing),
-        Address::NotHex => return Said::Bad(Wrong::VirtualNotHex),
-        Address::TooLarge => return Said::Bad(Wrong::VirtualTooLarge),
-        Address::Uneven => return Said::Bad(Wrong::VirtualUneven),
+    let (w, rest) = tokens::word(line);
+    match address(w, VIRTUAL, k) {
+        Ok(v) => from_physical(rest, k, v),
+        Err(AddressError::Missing) => Err(Wrong::WordMissing),
+        Err(AddressError::NotHex) => Err(Wrong::VirtualNotHex),
+        Err(AddressError::TooLarge) => Err(Wrong::VirtualTooLarge),
+        Err(AddressError::Uneven) => Err(Wrong::VirtualUneven),
     }
 }
 
 // A line without its end and its comment.
-fn from_kind(line: &[u8]) -> Said
+fn from_kind(line: &[u8]) -> Result<Option<Mapping>, Wrong>
     ensures { result ≡ from_kind line.now }
 {
     if tokens::run(line, Class::Blank) == line.len() {
-        return Said::Nothing;
+        return Ok(None);
     }
-    let s = tokens::word(line);
-    let from = s.from;
-    let to = s.to;
-    let n = tokens::kind_named(&line[from..to]);
-    match n {
-        Named::Known(k) => return from_virtual(&line[to..], k),
-        Named::Unknown => return Said::Bad(Wrong::UnknownKind),
+    let (w, rest) = tokens::word(line);
+    match tokens::kind_named(w) {
+        Some(k) => from_virtual(rest, k),
+        None => Err(Wrong::UnknownKind),
     }
 }
 
@@ -142,22 +118,20 @@ pub(crate) fn body_length(line: &[u8]) -> usize
     ensures { result ≡ body_length line.now }
 {
     let n = line.len();
-    if n == 0 {
-        return 0;
+    if n > 0 && line[n - 1] == b'\r' {
+        n - 1
+    } else {
+        n
     }
-    if line[n - 1] == 13 {
-        return n - 1;
-    }
-    n
 }
 
-// What a line says.
-pub(crate) fn said(line: &[u8]) -> Said
+// What a line says: nothing, a mapping, or what is wrong.
+pub(crate) fn said(line: &[u8]) -> Result<Option<Mapping>, Wrong>
     ensures { result ≡ parsed line.now }
 {
     let n = body_length(line);
     if n > LONGEST {
-        return Said::Bad(Wrong::LineTooLong);
+        return Err(Wrong::LineTooLong);
     }
     let c = tokens::run(&line[0..n], Class::Plain);
     from_kind(&line[0..c])

@@ -12,16 +12,13 @@ pub(crate) fn start_of(text: &[u8], k: u32) -> usize
     requires { length text.now ≤ longest_text }
     ensures { result ≡ start_of k text.now }
 {
-    let len = text.len();
-    let mut at: usize = 0;
-    let mut i: u32 = 0;
-    while i < k {
+    let mut at = 0;
+    for _ in 0..k {
         let r = tokens::run(&text[at..], Class::Inline);
-        if at + r >= len {
-            return len + 1;
+        if at + r >= text.len() {
+            return text.len() + 1;
         }
-        at = at + r + 1;
-        i += 1;
+        at += r + 1;
     }
     at
 }
@@ -30,12 +27,10 @@ pub(crate) fn start_of(text: &[u8], k: u32) -> usize
 fn solid_to(s: &[u8]) -> usize
     ensures { result ≡ solid_to s.now (length s.now) }
 {
-    let mut n = s.len();
-    while n > 0 {
-        if !tokens::blank(s[n - 1]) {
-            return n;
+    for n in (0..s.len()).rev() {
+        if !tokens::blank(s[n]) {
+            return n + 1;
         }
-        n -= 1;
     }
     0
 }
@@ -51,9 +46,10 @@ fn words_of(s: &[u8]) -> Span
     let from = c + 1 + tokens::run(&s[c + 1..], Class::Blank);
     let to = solid_to(s);
     if to < from {
-        return Span { from: 0, to: 0 };
+        Span { from: 0, to: 0 }
+    } else {
+        Span { from, to }
     }
-    Span { from: from, to: to }
 }
 
 // The words of a line's comment.

@@ -13,10 +13,7 @@ fn glyph(d: u32) -> u8
     requires { d < 16 }
     ensures { result ≡ glyph d }
 {
-    if d < 10 {
-        return 48 + d as u8;
-    }
-    55 + d as u8
+    if d < 10 { b'0' + d as u8 } else { 55 + d as u8 }
 }
 
 // An address's eight digits and a blank.
@@ -63,10 +60,11 @@ fn put_access(out: &mut [u8], at: usize, a: u32) -> usize
 {
     if a == 3 {
         bytes::put(out, at, b"rw\n");
-        return at + 3;
+        at + 3
+    } else {
+        bytes::put(out, at, b"r\n");
+        at + 2
     }
-    bytes::put(out, at, b"r\n");
-    at + 2
 }
 
 // A mapping's line; the index behind it.
@@ -74,14 +72,10 @@ fn put_line(out: &mut [u8], at: usize, m: Mapping) -> usize
     requires { at + widest ≤ length out.old }
     ensures { shown result out.new ≡ shown_at out.old at (line_text m) }
 {
-    let from = m.at;
-    let to = m.to;
-    let k = m.kind;
-    put_kind(out, at, k);
-    let v = hex_column(from.0);
+    put_kind(out, at, m.kind);
+    let v = hex_column(m.at.0);
     bytes::put(out, at + 8, &v[2..9]);
-    let p = hex_column(to.0);
-    bytes::put(out, at + 15, &p);
+    bytes::put(out, at + 15, &hex_column(m.to.0));
     put_access(out, at + 24, m.access)
 }
 
@@ -90,12 +84,9 @@ pub(crate) fn put_lines(records: &[u8], out: &mut [u8]) -> usize
     requires { widest * length (mappings records.now) ≤ length out.old }
     ensures { shown result out.new ≡ shown_at out.old 0 (printed (mappings records.now)) }
 {
-    let n = records::count(records);
-    let mut i: usize = 0;
-    let mut at: usize = 0;
-    while i < n {
+    let mut at = 0;
+    for i in 0..records::count(records) {
         at = put_line(out, at, records::mapping_at(records, i));
-        i += 1;
     }
     at
 }
@@ -105,13 +96,11 @@ fn all_formed(records: &[u8], n: usize) -> bool
     requires { record_size * n ≤ length records.now }
     ensures { result ≡ formed_from records.now 0 n }
 {
-    let mut i: usize = 0;
-    while i < n {
+    for i in 0..n {
         let at = records::SIZE * i;
         if !records::well_formed(&records[at..at + records::SIZE]) {
             return false;
         }
-        i += 1;
     }
     true
 }
@@ -121,10 +110,7 @@ pub(crate) fn formed(records: &[u8]) -> bool
     ensures { result ≡ formed records.now }
 {
     let n = records.len() / records::SIZE;
-    if records.len() % records::SIZE != 0 {
-        return false;
-    }
-    if n > records::MOST {
+    if records.len() % records::SIZE != 0 || n > records::MOST {
         return false;
     }
     all_formed(records, n)

@@ -1,18 +1,15 @@
 // A line's words: where the first one lies, and what it names.
 ghost use Rattle.std.specs.Prelude.{◌≡◌};
-ghost use Rattle.listing.specs.Words.{blank, belongs, run_length, word_span, same_bytes, kind_named, access_named};
+ghost use Rattle.listing.specs.Words.{blank, belongs, run_length, word, rest, same_bytes, kind_named, access_named};
 
-use crate::{Class, Named, Span};
+use crate::Class;
 use page::Kind;
 
 // Whether a byte is a blank or a tab.
 pub(crate) fn blank(x: u8) -> bool
     ensures { result ≡ blank x }
 {
-    if x == 32 {
-        return true;
-    }
-    x == 9
+    x == b' ' || x == b'\t'
 }
 
 // Whether a byte is of a class.
@@ -20,10 +17,10 @@ fn belongs(c: Class, x: u8) -> bool
     ensures { result ≡ belongs c x }
 {
     match c {
-        Class::Inline => return x != 10,
-        Class::Plain => return x != 35,
-        Class::Blank => return blank(x),
-        Class::Solid => return !blank(x),
+        Class::Inline => x != b'\n',
+        Class::Plain => x != b'#',
+        Class::Blank => blank(x),
+        Class::Solid => !blank(x),
     }
 }
 
@@ -31,73 +28,57 @@ fn belongs(c: Class, x: u8) -> bool
 pub(crate) fn run(s: &[u8], c: Class) -> usize
     ensures { result ≡ run_length c s.now }
 {
-    let mut i = 0;
-    while i < s.len() {
+    for i in 0..s.len() {
         if !belongs(c, s[i]) {
             return i;
         }
-        i += 1;
     }
-    i
+    s.len()
 }
 
-// Where the first word lies.
-pub(crate) fn word(s: &[u8]) -> Span
-    ensures { result ≡ word_span s.now }
+// The first word, and what stands behind it.
+pub(crate) fn word<'a>(line: &'a [u8]) -> (&'a [u8], &'a [u8])
+    ensures first { result.0.now ≡ word line.now }
+    ensures behind { result.1.now ≡ rest line.now }
 {
-    let from = run(s, Class::Blank);
-    let n = run(&s[from..], Class::Solid);
-    Span {
-        from: from,
-        to: from + n,
-    }
+    let from = run(line, Class::Blank);
+    let s = &line[from..];
+    s.split_at(run(s, Class::Solid))
 }
 
 // Whether two words are the same.
 fn same(a: &[u8], b: &[u8]) -> bool
     ensures { result ≡ same_bytes a.now b.now }
 {
-    if a.len() != b.len() {
-        return false;
-    }
-    let mut i = 0;
-    while i < a.len() {
-        if a[i] != b[i] {
-            return false;
-        }
-        i += 1;
-    }
-    true
+    a == b
 }
 
 // The kind that a word names.
-pub(crate) fn kind_named(w: &[u8]) -> Named
+pub(crate) fn kind_named(w: &[u8]) -> Option<Kind>
     ensures { result ≡ kind_named w.now }
 {
     if same(w, b"section") {
-        return Named::Known(Kind::Section);
+        Some(Kind::Section)
+    } else if same(w, b"large") {
+        Some(Kind::Large)
+    } else if same(w, b"small") {
+        Some(Kind::Small)
+    } else if same(w, b"tiny") {
+        Some(Kind::Tiny)
+    } else {
+        None
     }
-    if same(w, b"large") {
-        return Named::Known(Kind::Large);
-    }
-    if same(w, b"small") {
-        return Named::Known(Kind::Small);
-    }
-    if same(w, b"tiny") {
-        return Named::Known(Kind::Tiny);
-    }
-    Named::Unknown
 }
 
-// The access that a word names, 0 where it names none.
-pub(crate) fn access_named(w: &[u8]) -> u32
+// The access that a word names.
+pub(crate) fn access_named(w: &[u8]) -> Option<u32>
     ensures { result ≡ access_named w.now }
 {
     if same(w, b"r") {
-        return 2;
+        Some(2)
+    } else if same(w, b"rw") {
+        Some(3)
+    } else {
+        None
     }
-    if same(w, b"rw") {
-        return 3;
-    }
-    0
 }

@@ -1,12 +1,14 @@
 -- Refusal 4 and the places of four bytes. Assumes nothing.
-use Rattle.memory.specs.Names.{◌≡◌, ℕ, ◌+◌, ◌-◌, ◌≤◌, length, Place, ◌and◌, ◌or◌}
+use Rattle.memory.specs.Names.{◌≡◌, ℕ, ◌+◌, ◌-◌, ◌≤◌, length, Bool, Place, pick, ◌and◌, ◌or◌}
 use Rattle.memory.proofs.Names.{refl, ap, ◌∙◌, true, false, arith, pick_yes, pick_no, and_left, and_right, and_yes, memory_ok, apart}
 use Rattle.memory.proofs.Names.{memories_ok, lies_in, place_within, part_at, Inside}
 use Rattle.page.proofs.Picks.{pick_by}
 use Rattle.wire.proofs.Reading.{four_long}
 pub use Rattle.memory.proofs.Apart.{ok_short, ok_ends}
 use Rattle.memory.proofs.Apart.{held-from, held_to, apart-held_once}
-use Rattle.memory.specs.Memory.{Lent, lent_ok, place_in, part_length}
+use Rattle.std.proofs.Common.{Some, None}
+use Rattle.memory.specs.Memory.{Lent, lent_ok, place_in, place_of, part_length}
+use Rattle.memory.specs.Spans.{offset_in}
 
 -- memories that are not refused are both good
 pub on_ok : (m : Lent) → lent_ok m ≡ true → memory_ok m.onbase (length m.on) ≡ true
@@ -69,3 +71,31 @@ none_apart base n = refl
 pub none_beside : (base n : ℕ) → memory_ok base n ≡ true → memories_ok 0 0 base n ≡ true
 unfolding memories_ok
 none_beside base n h = and_yes _ _ none_ok ∙ and_yes _ _ h ∙ none_apart base n
+
+-- the place by the offset that each memory gives
+on_by : (t : Bool) (x k : ℕ) (p : Place) → pick t (Some x) None ≡ Some k → Place.OnChip k ≡ pick t (Place.OnChip x) p
+unfolding pick
+on_by true x k p h = cc
+on_by false x k p h = cc
+
+past_by : (t : Bool) (x : ℕ) (p q : Place) → pick t (Some x) None ≡ None → p ≡ pick t q p
+unfolding pick
+past_by true x p q h = cc
+past_by false x p q h = refl
+
+ext_by : (t : Bool) (x k : ℕ) (p : Place) → pick t (Some x) None ≡ Some k → Place.External k ≡ pick t (Place.External x) p
+unfolding pick
+ext_by true x k p h = cc
+ext_by false x k p h = cc
+
+module _ (b n c m a : ℕ) where
+  pub on_place : (k : ℕ) → offset_in b n a ≡ Some k → Place.OnChip k ≡ place_of b n c m a
+  on_place k h = on_by _ _ _ _ h
+
+  pub ext_place : (k : ℕ) → offset_in b n a ≡ None → offset_in c m a ≡ Some k → Place.External k ≡ place_of b n c m a
+  ext_place k g h = ext_by _ _ _ _ h ∙ past_by _ _ _ _ g
+
+  pub no_place : offset_in b n a ≡ None → offset_in c m a ≡ None → Place.Nowhere ≡ place_of b n c m a
+  no_place g h = past_by _ _ _ _ h ∙ past_by _ _ _ _ g
+
+pub ruleset places = (on_place, ext_place, no_place)

@@ -2,7 +2,7 @@
 -- where a descriptor's four bytes lie, and the part that they are.
 use Rattle.std.specs.Prelude.{◌+◌, ◌-◌, ◌≤◌, ◌≡◌, ◌⊎◌}
 use Rattle.std.specs.Borrow.{Bor}
-use Rattle.memory.specs.Names.{ℕ, Bool, List, [], length, take, drop, pick, Bor, Place}
+use Rattle.memory.specs.Names.{ℕ, Bool, List, [], length, take, drop, pick, Bor, Memories, Place}
 pub use Rattle.memory.specs.Spans.{longest}
 unfoldable pub use Rattle.memory.specs.Spans.{memory_ok, apart, memories_ok, lies_in}
 
@@ -16,6 +16,10 @@ pub record Lent : Type 0 where
 -- two memories, each with its base
 abbrev pub lent : List ℕ → ℕ → List ℕ → ℕ → Lent
 lent on onbase ext extbase = record { on = on; onbase = onbase; ext = ext; extbase = extbase }
+
+-- what is lent, as a call has it
+abbrev pub lent_of : Memories → Lent
+lent_of m = lent m.on.now m.onbase.0 m.ext.now m.extbase.0
 
 -- bytes lent as the external memory, beside an empty on-chip one
 abbrev pub lent_alone : List ℕ → ℕ → Lent
@@ -61,7 +65,8 @@ fetched_within m a = part_at m (place_within m a)
 abbrev pub fetched_in : Lent → ℕ → List ℕ
 fetched_in m a = part_at m (place_in m a)
 
--- whose part they are: the block of the memory that holds them and the offset there; nowhere is the start of the on-chip one
+-- whose part they are: the block of the memory that holds them and the offset there; nowhere is the start of the
+-- on-chip one
 abbrev pub source_of : Bor (List ℕ) → Bor (List ℕ) → Place → ℕ × ℕ
 source_of on ext (Place.OnChip k) = (on.ref_ptr.0, k + on.ref_ptr.1)
 source_of on ext (Place.External k) = (ext.ref_ptr.0, k + ext.ref_ptr.1)

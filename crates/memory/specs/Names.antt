@@ -1,6 +1,7 @@
 -- What the definitions of this crate are written with.
 pub use Rattle.std.specs.Borrow.{Bor, MutBor}
 pub use Rattle.std.specs.Prelude.{◌⊎◌, ◌%◌, ◌+◌, ◌-◌, ◌^◌, ◌∷◌, ◌≡◌, ◌≤◌}
+pub use Rattle.memory.specs.declared.Memories.{Memories}
 pub use Rattle.memory.specs.declared.Place.{Place}
 pub use Rattle.memory.specs.declared.Reads.{Reads}
 pub use Rattle.memory.specs.declared.Source.{Source}

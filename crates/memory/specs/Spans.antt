@@ -1,7 +1,7 @@
 -- Spans of addresses (01, "The unit", third paragraph; "When the unit says no", 4): which memories are refused,
 -- and which bytes a memory holds.
-use Rattle.std.specs.Prelude.{◌+◌, ◌%◌, ◌^◌}
-use Rattle.memory.specs.Names.{ℕ, Bool, eqb, leb, ◌and◌, ◌or◌}
+use Rattle.std.specs.Prelude.{◌+◌, ◌-◌, ◌%◌, ◌^◌, Option, Some, None}
+use Rattle.memory.specs.Names.{ℕ, Bool, eqb, leb, ◌and◌, ◌or◌, pick}
 
 -- the greatest length of a memory
 abbrev pub longest : ℕ
@@ -22,3 +22,7 @@ memories_ok b n c m = memory_ok b n and memory_ok c m and apart b n c m
 -- the four bytes at a lie in the n bytes at b
 unfoldable pub lies_in : ℕ → ℕ → ℕ → Bool
 lies_in b n a = leb b a and leb (a + 4) (b + n)
+
+-- where in them those begin, if they lie there
+abbrev pub offset_in : ℕ → ℕ → ℕ → Option ℕ
+offset_in b n a = pick (lies_in b n a) (Some (a - b)) None

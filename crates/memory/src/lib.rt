@@ -5,11 +5,22 @@ mod spans;
 ghost use Rattle.std.specs.Prelude.{◌≡◌, ◌+◌, ◌≤◌};
 ghost use Rattle.memory.specs.Names.{length, take, drop};
 ghost use Rattle.memory.specs.Reads.{word_count, last_place};
-ghost use Rattle.memory.specs.Memory.{memory_ok, lent, lent_ok, place_of, place_within, place_in, fetched_within, fetched_in, source_of};
+ghost use Rattle.memory.specs.Memory.{memory_ok, lent_of, lent_ok, place_within, place_in, fetched_within, fetched_in, source_of};
 
 use page::PhysicalAddress;
+use spans::Span;
+
+// The two lent memories, each with the address of its first byte.
+#[derive(Clone, Copy)]
+pub struct Memories<'a> {
+    pub on: &'a [u8],
+    pub onbase: PhysicalAddress,
+    pub ext: &'a [u8],
+    pub extbase: PhysicalAddress,
+}
 
 // Where four bytes lie: at an offset of the on-chip memory, of the external one, or in neither.
+// Kept: no plainer as an Option of two: nowhere is one of three answers, each with its code in place_code.
 #[derive(Clone, Copy)]
 pub enum Place {
     OnChip(usize),
@@ -61,56 +72,7 @@ pub fn last_place(reads: Reads) -> Place
 pub fn memory_ok(base: PhysicalAddress, len: usize) -> bool
     ensures { result ≡ memory_ok base.0 len }
 {
-    spans::one_ok(base.0, len)
-}
-
-// Whether the two may be lent together: false where refusal 4 holds.
-pub fn memories_ok(on: &[u8], onbase: PhysicalAddress, ext: &[u8], extbase: PhysicalAddress) -> bool
-    ensures { result ≡ lent_ok (lent on.now onbase.0 ext.now extbase.0) }
-{
-    spans::both_ok(onbase.0, on.len(), extbase.0, ext.len())
-}
-
-// Where the four bytes at a lie, of the n bytes at b on chip and the m external ones at c.
-fn place_of(b: u32, n: usize, c: u32, m: usize, a: u32) -> Place
-    ensures { result ≡ place_of b n c m a }
-{
-    if spans::held(b, n, a) {
-        return Place::OnChip((a - b) as usize);
-    }
-    if spans::held(c, m, a) {
-        return Place::External((a - c) as usize);
-    }
-    Place::Nowhere
-}
-
-// Where the four bytes at an address lie, for a caller that has tried the memories.
-pub fn locate_within(
-    on: &[u8],
-    onbase: PhysicalAddress,
-    ext: &[u8],
-    extbase: PhysicalAddress,
-    at: PhysicalAddress,
-) -> Place
-    ensures { result ≡ place_within (lent on.now onbase.0 ext.now extbase.0) at.0 }
-{
-    place_of(onbase.0, on.len(), extbase.0, ext.len(), at.0)
-}
-
-// Where the four bytes at an address lie; nowhere under refusal 4.
-pub fn locate(
-    on: &[u8],
-    onbase: PhysicalAddress,
-    ext: &[u8],
-    extbase: PhysicalAddress,
-    at: PhysicalAddress,
-) -> Place
-    ensures { result ≡ place_in (lent on.now onbase.0 ext.now extbase.0) at.0 }
-{
-    if !memories_ok(on, onbase, ext, extbase) {
-        return Place::Nowhere;
-    }
-    locate_within(on, onbase, ext, extbase, at)
+    Span { base: base.0, len }.ok()
 }
 
 // Four bytes of a memory.
@@ -122,38 +84,83 @@ fn four<'a>(memory: &'a [u8], k: usize) -> &'a [u8]
     &memory[k..k + 4]
 }
 
-// The four bytes at an address as a part of whichever memory holds them, for a caller that has tried the memories.
-pub fn fetch_within<'a>(
-    on: &'a [u8],
-    onbase: PhysicalAddress,
-    ext: &'a [u8],
-    extbase: PhysicalAddress,
-    at: PhysicalAddress,
-) -> &'a [u8]
-    ensures bytes { result.now ≡ fetched_within (lent on.now onbase.0 ext.now extbase.0) at.0 }
-    ensures source { result.ref_ptr ≡ source_of on.entry ext.entry (place_within (lent on.now onbase.0 ext.now extbase.0) at.0) }
-{
-    let p = locate_within(on, onbase, ext, extbase, at);
-    match p {
-        Place::OnChip(k) => four(on, k),
-        Place::External(k) => four(ext, k),
-        Place::Nowhere => &on[0..0],
+impl<'a> Memories<'a> {
+    // The addresses of the on-chip memory.
+    fn onchip(&self) -> Span
+        ensures { result ≡ record { base = self.now.onbase.0; len = length self.now.on.now } }
+    {
+        Span {
+            base: self.onbase.0,
+            len: self.on.len(),
+        }
     }
-}
 
-// The four bytes at an address as a part of whichever memory holds them; under refusal 4 an empty part of the on-chip one.
-pub fn fetch<'a>(
-    on: &'a [u8],
-    onbase: PhysicalAddress,
-    ext: &'a [u8],
-    extbase: PhysicalAddress,
-    at: PhysicalAddress,
-) -> &'a [u8]
-    ensures bytes { result.now ≡ fetched_in (lent on.now onbase.0 ext.now extbase.0) at.0 }
-    ensures source { result.ref_ptr ≡ source_of on.entry ext.entry (place_in (lent on.now onbase.0 ext.now extbase.0) at.0) }
-{
-    if !memories_ok(on, onbase, ext, extbase) {
-        return &on[0..0];
+    // Those of the external one.
+    fn external(&self) -> Span
+        ensures { result ≡ record { base = self.now.extbase.0; len = length self.now.ext.now } }
+    {
+        Span {
+            base: self.extbase.0,
+            len: self.ext.len(),
+        }
     }
-    fetch_within(on, onbase, ext, extbase, at)
+
+    // Whether the two may be lent together: false where refusal 4 holds.
+    pub fn ok(&self) -> bool
+        ensures { result ≡ lent_ok (lent_of self.now) }
+    {
+        self.onchip().ok_beside(self.external())
+    }
+
+    // Where the four bytes at an address lie, for a caller that has tried the memories.
+    #[tactic(auto, using(crate::proofs::Places::places), unfolding(crate::specs::Memory::place_within))]
+    pub fn locate_within(&self, at: PhysicalAddress) -> Place
+        ensures { result ≡ place_within (lent_of self.now) at.0 }
+    {
+        if let Some(k) = self.onchip().offset(at.0) {
+            Place::OnChip(k)
+        } else if let Some(k) = self.external().offset(at.0) {
+            Place::External(k)
+        } else {
+            Place::Nowhere
+        }
+    }
+
+    // Where the four bytes at an address lie; nowhere under refusal 4.
+    #[tactic(auto, using(page::proofs::Picks::tests), unfolding(crate::specs::Memory::place_in))]
+    pub fn locate(&self, at: PhysicalAddress) -> Place
+        ensures { result ≡ place_in (lent_of self.now) at.0 }
+    {
+        if self.ok() {
+            self.locate_within(at)
+        } else {
+            Place::Nowhere
+        }
+    }
+
+    // The four bytes at an address as a part of whichever memory holds them, for a caller that has tried the memories.
+    #[tactic(auto, using(page::proofs::Picks::tests), unfolding(crate::specs::Memory::place_within))]
+    pub fn fetch_within(&self, at: PhysicalAddress) -> &'a [u8]
+        ensures bytes { result.now ≡ fetched_within (lent_of self.now) at.0 }
+        ensures source { result.ref_ptr ≡ source_of self.now.on self.now.ext (place_within (lent_of self.now) at.0) }
+    {
+        match self.locate_within(at) {
+            Place::OnChip(k) => four(self.on, k),
+            Place::External(k) => four(self.ext, k),
+            Place::Nowhere => &self.on[0..0],
+        }
+    }
+
+    // The four bytes at an address as a part of whichever memory holds them; under refusal 4 none of the on-chip one.
+    #[tactic(auto, using(page::proofs::Picks::tests), unfolding(crate::specs::Memory::place_in))]
+    pub fn fetch(&self, at: PhysicalAddress) -> &'a [u8]
+        ensures bytes { result.now ≡ fetched_in (lent_of self.now) at.0 }
+        ensures source { result.ref_ptr ≡ source_of self.now.on self.now.ext (place_in (lent_of self.now) at.0) }
+    {
+        if self.ok() {
+            self.fetch_within(at)
+        } else {
+            &self.on[0..0]
+        }
+    }
 }

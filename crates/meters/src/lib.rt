@@ -1,10 +1,10 @@
 #![tactic(auto)]
 // The meters: three counts, each of which stops at 4,294,967,295, and one posting to them.
 ghost use Rattle.std.specs.Prelude.{◌≡◌};
-ghost use Rattle.meters.specs.Posted.{stopped, no_meters, no_tally, posted};
+ghost use Rattle.meters.specs.Posted.{no_meters, no_tally, posted};
 
 // Where a meter stops.
-pub const STOP: u32 = 4294967295;
+pub const STOP: u32 = u32::MAX;
 
 // Fresh requests and retries that got an address or a fault, and descriptor words read.
 #[derive(Clone, Copy)]
@@ -15,21 +15,12 @@ pub struct Meters {
 }
 
 // What one call adds to each meter.
+// Kept: no plainer as one type with Meters: what a call adds is not what the meters came to.
 #[derive(Clone, Copy)]
 pub struct Tally {
     pub fresh: u32,
     pub retries: u32,
     pub words: u32,
-}
-
-// A count and what is added to it, or the stop where that is less.
-fn sum_to_stop(a: u32, b: u32) -> u32
-    ensures { result ≡ stopped a b }
-{
-    if b <= STOP - a {
-        return a + b;
-    }
-    STOP
 }
 
 impl Tally {
@@ -58,13 +49,14 @@ impl Meters {
     }
 
     // The meters after a call's tally.
+    #[tactic(auto, unfolding(crate::specs::Posted::posted))]
     pub fn posted(self, tally: Tally) -> Meters
         ensures { result ≡ posted self tally }
     {
         Meters {
-            fresh: sum_to_stop(self.fresh, tally.fresh),
-            retries: sum_to_stop(self.retries, tally.retries),
-            words: sum_to_stop(self.words, tally.words),
+            fresh: self.fresh.saturating_add(tally.fresh),
+            retries: self.retries.saturating_add(tally.retries),
+            words: self.words.saturating_add(tally.words),
         }
     }
 }
@@ -80,7 +72,5 @@ pub fn post(meters: &mut Meters, tally: Tally)
 pub fn after(meters: Meters, tally: Tally) -> Meters
     ensures { result ≡ posted meters tally }
 {
-    let mut lent = meters;
-    post(&mut lent, tally);
-    lent
+    meters.posted(tally)
 }

@@ -1,6 +1,8 @@
 -- Texts at the front of a memory. Assumes nothing.
+use Rattle.std.proofs.Common.{Result, Ok}
+use Rattle.builder.specs.declared.BuildError.{BuildError}
 use Rattle.mkimage.specs.Names.{◌≡◌, List, [], ◌∷◌, ◌++◌, ℕ, zero, suc, ◌+◌, ◌/◌, ◌%◌, ◌≤◌, length, drop}
-use Rattle.mkimage.proofs.Names.{refl, sym, ap, ◌∙◌, ◌-◌, arith, Built, outcome, decimal, shown}
+use Rattle.mkimage.proofs.Names.{refl, sym, ap, ◌∙◌, ◌-◌, arith, outcome, decimal, shown}
 use Rattle.page.specs.Words.{megabytes}
 use mathlib.Core.Path.{ap₂, subst}
 use Prim.Native.Nat.{◌*◌, ◌^◌, ◌<◌}
@@ -91,18 +93,18 @@ pasted-taken l at t s r o e h = h ∙ ap (λ (x : List ℕ). shown (at + length 
 
 -- the answer of a build and what it left, as what is shown
 module _ (rs l : List ℕ) (room : 64 ≤ length l) where
-  shown_by : (b : Built) → b ≡ answer_of rs base (length l) → shown_in (output_bytes b (image megabytes (mappings rs) base)) l ≡ output_of rs l
+  shown_by : (b : Result ℕ BuildError) → b ≡ answer_of rs base (length l) → shown_in (output_bytes b (image megabytes (mappings rs) base)) l ≡ output_of rs l
   unfolding output_of
-  shown_by b e = ap (λ (x : Built). shown_in (output_bytes x (image megabytes (mappings rs) base)) l) e ∙ sym (pick_no _ _ _ (le-ltb (length l) 64 room))
+  shown_by b e = ap (λ (x : Result ℕ BuildError). shown_in (output_bytes x (image megabytes (mappings rs) base)) l) e ∙ sym (pick_no _ _ _ (le-ltb (length l) 64 room))
 
-  pub shown-image : (n : ℕ) (o : List ℕ) → outcome (Built.Length n) o ≡ build_of rs base l → shown n o ≡ output_of rs l
+  pub shown-image : (n : ℕ) (o : List ℕ) → outcome (Ok n) o ≡ build_of rs base l → shown n o ≡ output_of rs l
   shown-image n o e =
-      let b = build_answer rs base l o (Built.Length n) e in
+      let b = build_answer rs base l o (Ok n) e in
       let a = accepted rs base (length l) n (sym b.0) in
       let len : n ≡ length (image megabytes (mappings rs) base) = a.length-is ∙ sym (image_length-is megabytes (mappings rs) base) in
-      ap (shown n) b.1 ∙ ap (λ (k : ℕ). shown k (image megabytes (mappings rs) base ++ drop k l)) len ∙ shown_by (Built.Length n) b.0
+      ap (shown n) b.1 ∙ ap (λ (k : ℕ). shown k (image megabytes (mappings rs) base ++ drop k l)) len ∙ shown_by (Ok n) b.0
 
-  pub shown_refusal : (b : Built) (o : List ℕ) (s : Shown) → outcome b o ≡ build_of rs base l → leaves b (image megabytes (mappings rs) base) l ≡ l
+  pub shown_refusal : (b : Result ℕ BuildError) (o : List ℕ) (s : Shown) → outcome b o ≡ build_of rs base l → leaves b (image megabytes (mappings rs) base) l ≡ l
       → s ≡ shown_in (output_bytes b (image megabytes (mappings rs) base)) o → s ≡ output_of rs l
   shown_refusal b o s e same h =
       let a = build_answer rs base l o b e in

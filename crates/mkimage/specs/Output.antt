@@ -1,9 +1,10 @@
 -- What mkimage writes (01, "The builder", the program).
+use Rattle.std.specs.Prelude.{Result, Ok, Err}
+use Rattle.builder.specs.declared.BuildError.{BuildError}
 use Rattle.std.specs.Prelude.{◌+◌, ◌/◌, ◌%◌, ◌∷◌, ◌++◌}
 use Rattle.mkimage.specs.Names.{ℕ, zero, suc, List, [], ltb, length, drop, pick}
 use Rattle.page.specs.Words.{megabytes}
 use Rattle.records.specs.Mappings.{mappings}
-use Rattle.builder.specs.declared.Built.{Built}
 use Rattle.builder.specs.Image.{image}
 use Rattle.builder.specs.Build.{answer_of, built_number, built_value}
 use Rattle.wire.specs.Words.{Shown, shown}
@@ -36,18 +37,19 @@ unfoldable pub message : ℕ → ℕ → List ℕ
 message k i = (((refused_text ++ decimal k) ++ at_text) ++ decimal i) ++ line_end
 
 -- the image, or the message of a refusal
-abbrev pub output_bytes : Built → List ℕ → List ℕ
-output_bytes (Built.Length n) img = img
-output_bytes Built.BadMemory img = message (built_number Built.BadMemory) (built_value Built.BadMemory)
-output_bytes (Built.BadRecord i) img = message (built_number (Built.BadRecord i)) (built_value (Built.BadRecord i))
-output_bytes (Built.Overlap i) img = message (built_number (Built.Overlap i)) (built_value (Built.Overlap i))
-output_bytes (Built.TooLong c) img = message (built_number (Built.TooLong c)) (built_value (Built.TooLong c))
+abbrev pub output_bytes : Result ℕ BuildError → List ℕ → List ℕ
+output_bytes (Ok n) img = img
+output_bytes (Err BuildError.BadMemory) img = message (built_number (Err BuildError.BadMemory)) (built_value (Err BuildError.BadMemory))
+output_bytes (Err (BuildError.BadRecord i)) img = message (built_number (Err (BuildError.BadRecord i))) (built_value (Err (BuildError.BadRecord i)))
+output_bytes (Err (BuildError.Overlap i)) img = message (built_number (Err (BuildError.Overlap i))) (built_value (Err (BuildError.Overlap i)))
+output_bytes (Err (BuildError.TooLong c)) img = message (built_number (Err (BuildError.TooLong c))) (built_value (Err (BuildError.TooLong c)))
 
 -- bytes at the front of a memory
 abbrev pub shown_in : List ℕ → List ℕ → Shown
 shown_in w l = shown (length w) (w ++ drop (length w) l)
 
--- what is written for a list of records, built in a memory; a memory too short for any image and any message shows nothing
+-- what is written for a list of records, built in a memory; a memory too short for any image and any message shows
+-- nothing
 unfoldable pub output_of : List ℕ → List ℕ → Shown
 output_of rs l =
     pick (ltb (length l) 64) (shown_in [] l)

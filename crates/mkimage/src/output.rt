@@ -4,7 +4,7 @@ ghost use Rattle.mkimage.specs.Names.{length};
 ghost use Rattle.mkimage.specs.Output.{decimal, message, shown_in, output_of};
 ghost use Rattle.wire.specs.Words.{pasted, shown};
 
-use builder::Built;
+use builder::BuildError;
 use page::PhysicalAddress;
 
 // The address at which the image is to stand.
@@ -48,12 +48,11 @@ pub(crate) fn output(records: &[u8], memory: &mut [u8]) -> usize
     if memory.len() < 64 {
         return 0;
     }
-    let built = builder::build(records, PhysicalAddress(BASE), memory);
-    match built {
-        Built::Length(n) => n,
-        Built::BadMemory => put_message(memory, 4, 0),
-        Built::BadRecord(i) => put_message(memory, 10, i as u64),
-        Built::Overlap(i) => put_message(memory, 11, i as u64),
-        Built::TooLong(c) => put_message(memory, 12, c as u64),
+    match builder::build(records, PhysicalAddress(BASE), memory) {
+        Ok(n) => n,
+        Err(BuildError::BadMemory) => put_message(memory, 4, 0),
+        Err(BuildError::BadRecord(i)) => put_message(memory, 10, i as u64),
+        Err(BuildError::Overlap(i)) => put_message(memory, 11, i as u64),
+        Err(BuildError::TooLong(c)) => put_message(memory, 12, c as u64),
     }
 }

@@ -1,9 +1,13 @@
 // nx build: a list's tables, written to a file.
 ghost use Rattle.std.specs.Prelude.{◌≤◌};
 
-use crate::list::Loaded;
-use crate::parse::Number;
-use crate::{files, list, parse, text};
+use crate::failure::{self, Failure};
+use crate::files;
+use crate::list::{List, Room};
+use crate::parse::{self, BadHex};
+use crate::text::Shown;
+use std::fmt;
+use std::fmt::{Display, Formatter, Write};
 
 // The base where none is given.
 pub const BASE: u32 = 0x20000000;
@@ -14,119 +18,104 @@ const STEP: u32 = 4096;
 // The last base from which 65,536 bytes reach no further than the last address.
 const LAST: u32 = 0xffff0000;
 
+// Why a word says no base.
+#[derive(Clone, Copy)]
+pub enum BadBase {
+    Uneven,
+    Hex(BadHex),
+    NoRoom,
+}
+
+impl Display for BadBase {
+    fn fmt<W: Write>(&self, f: &mut Formatter<W>) -> fmt::Result {
+        f.write_str(match self {
+            BadBase::Uneven => "is no multiple of 4096",
+            BadBase::Hex(BadHex::NotHex) => "is not a hex number",
+            BadBase::Hex(BadHex::TooLarge) => "is too large",
+            BadBase::NoRoom => "leaves no room for 65536 bytes",
+        })
+    }
+}
+
+// Says why a word is no base.
+fn refused(rt: HostRuntime, word: &[u8], why: BadBase) -> Failure {
+    failure::say(rt, format_args!("nx: base {} {why}\n", Shown(word)));
+    Failure::Misuse
+}
+
+// The base that a word says.
+pub(crate) fn base_of(rt: HostRuntime, word: &[u8]) -> Result<u32, Failure> {
+    parse::hex(word).map_err(|e| refused(rt, word, BadBase::Hex(e)))
+}
+
 // How many first-level words point at a table of a kind: 1 coarse, 3 fine.
-fn tables(memory: &[u8], kind: u32) -> u64
-    ensures { result ≤ 16 }
-{
-    let mut n: u64 = 0;
-    let mut i: usize = 0;
-    while i < 16 {
-        if wire::word_at(memory, 4 * i) % 4 == kind {
-            n += 1;
-        }
-        i += 1;
-    }
-    n
+fn tables(image: &[u8], kind: u32) -> usize {
+    (0..16)
+        .filter(|i| wire::word_at(image, 4 * *i) % 4 == kind)
+        .count()
 }
 
-// What was built.
-fn summary(path: &[u8], mappings: usize, image: &[u8], base: u32) -> bool {
-    let coarse = tables(image, 1);
-    let fine = tables(image, 3);
-    text::shown(text::OUT, path)
-        & text::form(
-            text::OUT,
-            b": %d mappings, %d tables (1 first-level, %d coarse, %d fine), %d bytes at %8\n",
-            &[
-                mappings as u64,
-                1 + coarse + fine,
-                coarse,
-                fine,
-                image.len() as u64,
-                base as u64,
-            ],
-        )
+// What was built: from how many mappings, into which file.
+#[derive(Clone, Copy)]
+struct Summary<'a> {
+    path: &'a [u8],
+    mappings: usize,
+    image: &'a [u8],
+    base: u32,
 }
 
-// The image written, and what was built.
-fn saved(rt: HostRuntime, path: &[u8], mappings: usize, image: &[u8], base: u32) -> u32 {
-    if !files::replace(rt, path, image) {
-        return 1;
+impl Display for Summary<'_> {
+    fn fmt<W: Write>(&self, f: &mut Formatter<W>) -> fmt::Result {
+        let coarse = tables(self.image, 1);
+        let fine = tables(self.image, 3);
+        let all = coarse.saturating_add(fine).saturating_add(1);
+        write!(
+            f,
+            "{}: {} mappings, {all} tables ",
+            Shown(self.path),
+            self.mappings
+        )?;
+        write!(f, "(1 first-level, {coarse} coarse, {fine} fine), ")?;
+        writeln!(f, "{} bytes at {:08X}", self.image.len(), self.base)
     }
-    files::told(rt, summary(path, mappings, image, base))
 }
 
 // A list's tables built and written.
-fn built(
-    rt: HostRuntime,
-    path: &[u8],
-    records: &[u8],
-    lines: &[u32],
-    image: &[u8],
-    base: u32,
-) -> u32 {
+fn built(rt: HostRuntime, path: &[u8], list: List, file: &[u8], base: u32) -> Result<(), Failure> {
     let mut memory = io::large_buffer();
-    let n = list::judged(path, records, lines, base, &mut memory);
-    if n == 0 {
-        return 1;
-    }
-    saved(
+    let image = list.tables(rt, path, base, &mut memory)?;
+    files::replace(rt, file, image)?;
+    let mappings = list.count();
+    files::told(
         rt,
-        image,
-        records::count(records),
-        parse::cut(&memory, 0, n),
-        base,
+        rt.print(Summary {
+            path: file,
+            mappings,
+            image,
+            base,
+        }),
     )
 }
 
-// A list read, built and written.
-fn from_file(rt: HostRuntime, path: &[u8], image: &[u8], base: u32) -> u32 {
-    let mut t = [0u8; list::TEXT];
-    let mut records = [0u8; list::RECORDS];
-    let mut lines = [0u32; records::MOST];
-    let loaded = list::load(rt, path, &mut t, &mut records, &mut lines);
-    match loaded {
-        Loaded::List(_, n) => {
-            return built(rt, path, parse::cut(&records, 0, n), &lines, image, base);
-        }
-        Loaded::Failed => return 1,
+// The base that a word says, at which tables may be built; the usual one where there is none.
+fn asked(rt: HostRuntime, word: &[u8]) -> Result<u32, Failure> {
+    if word.is_empty() {
+        return Ok(BASE);
     }
-}
-
-// Why a base is none.
-pub(crate) fn no_base(w: &[u8], why: usize) -> u32 {
-    text::put(text::ERR, b"nx: base ");
-    text::shown(text::ERR, w);
-    text::part(
-        text::ERR,
-        b" is no multiple of 4096\n| is not a hex number\n| is too large\n| leaves no room for 65536 bytes\n",
-        why,
-    );
-    2
-}
-
-// A build at the base that a word says.
-fn at_word(rt: HostRuntime, path: &[u8], image: &[u8], w: &[u8]) -> u32 {
-    let n = parse::hex(w);
-    match n {
-        Number::Value(base) => {
-            if base % STEP != 0 {
-                return no_base(w, 0);
-            }
-            if base > LAST {
-                return no_base(w, 3);
-            }
-            return from_file(rt, path, image, base);
-        }
-        Number::NotHex => return no_base(w, 1),
-        Number::TooLarge => return no_base(w, 2),
+    let base = base_of(rt, word)?;
+    if base % STEP != 0 {
+        return Err(refused(rt, word, BadBase::Uneven));
     }
+    if base > LAST {
+        return Err(refused(rt, word, BadBase::NoRoom));
+    }
+    Ok(base)
 }
 
 // nx build LIST IMAGE [BASE].
-pub(crate) fn run(rt: HostRuntime, path: &[u8], image: &[u8], base: &[u8]) -> u32 {
-    if base.len() == 0 {
-        return from_file(rt, path, image, BASE);
-    }
-    at_word(rt, path, image, base)
+pub(crate) fn run(rt: HostRuntime, path: &[u8], file: &[u8], word: &[u8]) -> Result<(), Failure> {
+    let base = asked(rt, word)?;
+    let mut room = Room::new();
+    let list = room.load(rt, path)?;
+    built(rt, path, list, file, base)
 }

@@ -1,322 +1,259 @@
-// The words of two images that differ, run by run, with what each maps in the tables of its image. A word past an image's end is 0.
+// The words of two images that differ, run by run, with what each maps in the tables of its image. A word
+// past an image's end is 0.
 ghost use Rattle.std.specs.Prelude.{◌<◌, ◌≤◌};
 
-use crate::second::Second;
-use crate::{gather, pages, parse, second, text};
-use walk::{First, Found, Page, Table};
+use crate::image::Image;
+use crate::list;
+use crate::second::{self, Second};
+use std::fmt;
+use std::fmt::{Display, Formatter, InlineText, Write};
+use walk::{First, Page, Table};
 
-// A room of 65,536 bytes with more than these has none for the lines of a run, of which there are at most 34.
-const FULL: usize = 65536 - 34 * 120;
+// The words of the first level.
+const FIRST_LEVEL: u32 = 16;
+
+// Two images, each accepted or not.
+#[derive(Clone, Copy)]
+pub struct Changes<'a> {
+    pub new: Image<'a>,
+    pub new_good: bool,
+    pub signed: Image<'a>,
+    pub signed_good: bool,
+}
+
+// A run of words of an image: its first word's place and address, its bytes, and its words' value.
+#[derive(Clone, Copy)]
+struct Run {
+    first: u32,
+    at: u32,
+    bytes: u32,
+    word: u32,
+}
 
 // How many words an image of a length has, none where it is over the limit.
 fn words(len: usize) -> u32
     ensures { result ≤ 32768 }
 {
     if len > memory::LONGEST {
-        return 0;
+        0
+    } else {
+        (len / 4) as u32
     }
-    (len / 4) as u32
-}
-
-// How many words the longer of two images has.
-fn most(n: usize, m: usize) -> u32
-    ensures { result ≤ 32768 }
-{
-    if n < m {
-        return words(m);
-    }
-    words(n)
-}
-
-// A word of an image.
-fn word(image: &[u8], k: u32) -> u32 {
-    wire::word_at(image, 4 * k as usize)
 }
 
 // The address of a word of an image at a base.
 fn address_of(base: u32, k: u32) -> u32 {
-    ((base as u64 + 4 * k as u64) % 4294967296) as u32
-}
-
-// Whether a run is cut before a word: where a table may begin, behind the first level, at an image's end.
-fn seam(new: &[u8], signed: &[u8], base: u32, k: u32) -> bool {
-    let at = 4 * k as usize;
-    (address_of(base, k) % 1024 == 0) | (k == 16) | (at == new.len()) | (at == signed.len())
-}
-
-// Whether two words are the same in both images.
-fn alike(new: &[u8], signed: &[u8], j: u32, k: u32) -> bool {
-    (word(new, j) == word(new, k)) & (word(signed, j) == word(signed, k))
-}
-
-// The word behind the run that begins with a word.
-fn run_end(new: &[u8], signed: &[u8], base: u32, from: u32, n: u32) -> u32
-    requires { from < n }
-    ensures { (from < result) × (result ≤ n) }
-{
-    let mut k = from + 1;
-    while k < n {
-        if seam(new, signed, base, k) | !alike(new, signed, from, k) {
-            return k;
-        }
-        k += 1;
-    }
-    k
+    base.wrapping_add(4u32.wrapping_mul(k))
 }
 
 // A page: its kind, its physical address and its access.
-fn page_said(out: &mut [u8], at: usize, p: Page) -> usize {
-    let kind = p.kind;
-    let frame = p.frame;
-    let a = gather::part(
-        out,
-        at,
-        b"section|large|small|tiny",
-        page::type_of(kind) as usize,
-    );
-    let b = gather::form(out, a, b" %8 ", &[frame.0 as u64]);
-    pages::access(out, b, p.access)
-}
-
-// That a word maps nothing.
-fn nothing(out: &mut [u8], at: usize) -> usize {
-    gather::put(out, at, b"nothing\n")
-}
-
-// A table of a kind, by its offset in an image at a base.
-fn table_said(out: &mut [u8], at: usize, kind: usize, table: u32, base: u32) -> usize {
-    let a = gather::part(out, at, b"|coarse|fine", kind);
-    gather::form(
-        out,
-        a,
-        b" table at offset %4\n",
-        &[std::num::wrapping_sub_u32(table, base) as u64],
+fn page_said<W: Write>(f: &mut Formatter<W>, p: Page) -> fmt::Result {
+    let kind = list::kind_name(p.kind);
+    writeln!(
+        f,
+        "{kind} {:08X} {}",
+        p.frame.0,
+        list::access_name(p.access)
     )
 }
 
-// What a first-level word maps.
-fn first_said(out: &mut [u8], at: usize, base: u32, w: u32) -> usize {
-    let d = walk::descriptors::decode_first(w);
-    match d {
-        First::Fault => return nothing(out, at),
-        First::Whole(p) => return page_said(out, at, p),
-        First::Coarse(t) => return table_said(out, at, 1, t.0, base),
-        First::Fine(t) => return table_said(out, at, 2, t.0, base),
+// What a first-level word maps, in an image at a base.
+fn first_said<W: Write>(f: &mut Formatter<W>, base: u32, word: u32) -> fmt::Result {
+    match walk::descriptors::decode_first(word) {
+        First::Fault => writeln!(f, "nothing"),
+        First::Whole(p) => page_said(f, p),
+        First::Coarse(t) => writeln!(f, "coarse table at offset {:04X}", t.0.wrapping_sub(base)),
+        First::Fine(t) => writeln!(f, "fine table at offset {:04X}", t.0.wrapping_sub(base)),
     }
 }
 
 // What a word of a table maps.
-fn second_said(out: &mut [u8], at: usize, t: Table, w: u32) -> usize {
-    let f = walk::descriptors::decode_second(t, w);
-    match f {
-        Found::Page(p) => return page_said(out, at, p),
-        Found::NoPage => return nothing(out, at),
-        Found::Missing => return nothing(out, at),
+fn second_said<W: Write>(f: &mut Formatter<W>, t: Table, word: u32) -> fmt::Result {
+    match walk::descriptors::decode_second(t, word) {
+        Ok(p) => page_said(f, p),
+        Err(_) => writeln!(f, "nothing"),
     }
 }
 
-// The number of a table's kind.
-fn number(t: Table) -> usize {
-    match t {
-        Table::Coarse => return 1,
-        Table::Fine => return 2,
-    }
-}
-
-// Where a run stands: its megabyte, the kind of its table, its first word there, and the virtual addresses of its words.
-fn place(
-    out: &mut [u8],
-    at: usize,
-    mb: u32,
-    kind: usize,
+// Where a run stands: its megabyte, the kind of its table, its first word there, and the virtual addresses of
+// its words.
+fn place<W: Write>(
+    f: &mut Formatter<W>,
+    megabyte: u32,
+    table: &str,
     index: u32,
     start: u64,
     span: u64,
-) -> usize {
-    let a = gather::form(out, at, b"%1         ", &[mb as u64]);
-    let b = gather::part(out, a, b"first   |coarse  |fine    ", kind);
-    let c = gather::left(out, b, index as u64, 7);
-    let last = std::num::wrapping_sub_u64(std::num::wrapping_add_u64(start, span), 1);
-    gather::form(out, c, b"%6 - %6  ", &[start, last])
+) -> fmt::Result {
+    let last = start.wrapping_add(span).wrapping_sub(1);
+    write!(
+        f,
+        "{megabyte:X}         {table:<8}{index:<7}{start:06X} - {last:06X}  "
+    )
 }
 
-// The line of a run in the first level, where it is there.
-fn in_first(out: &mut [u8], at: usize, base: u32, k: u32, bytes: u32, w: u32) -> usize {
-    if k >= 16 {
-        return at;
+impl Run {
+    // The virtual address of a megabyte.
+    fn megabyte(i: u32) -> u64 {
+        u64::from(page::MEGABYTE) * u64::from(i)
     }
-    let a = place(out, at, k, 0, k, 1048576 * k as u64, 262144 * bytes as u64);
-    first_said(out, a, base, w)
-}
 
-// Blanks before a line behind another one of the same image.
-fn indented(out: &mut [u8], from: usize, at: usize) -> usize {
-    if at == from {
-        return at;
-    }
-    gather::put(out, at, b"                                   ")
-}
-
-// The line of a run at an offset of a megabyte's table.
-fn in_second(
-    out: &mut [u8],
-    at: usize,
-    t: Table,
-    mb: u32,
-    offset: u32,
-    bytes: u32,
-    w: u32,
-) -> usize {
-    let a = place(
-        out,
-        at,
-        mb,
-        number(t),
-        offset / 4,
-        std::num::wrapping_add_u64(1048576 * mb as u64, second::below(t, offset)),
-        second::below(t, bytes),
-    );
-    second_said(out, a, t, w)
-}
-
-// The line of a run at an address in the table that a megabyte's first-level word names, where it is there.
-fn under(
-    out: &mut [u8],
-    from: usize,
-    at: usize,
-    first: u32,
-    mb: u32,
-    address: u32,
-    bytes: u32,
-    w: u32,
-) -> usize {
-    let n = second::named(first);
-    match n {
-        Second::At(t, table) => {
-            if second::holds(t, table, address) {
-                let a = indented(out, from, at);
-                return in_second(
-                    out,
-                    a,
-                    t,
-                    mb,
-                    std::num::wrapping_sub_u32(address, table),
-                    bytes,
-                    w,
-                );
-            }
-            return at;
-        }
-        Second::Nothing => return at,
-    }
-}
-
-// A line for each place of a run in an image's tables.
-fn places(out: &mut [u8], from: usize, image: &[u8], base: u32, k: u32, bytes: u32) -> usize {
-    let w = word(image, k);
-    let mut at = in_first(out, from, base, k, bytes, w);
-    let mut mb = 0;
-    while mb < 16 {
-        at = under(
-            out,
-            from,
-            at,
-            word(image, mb),
-            mb,
-            address_of(base, k),
+    // Its line in the first level.
+    fn in_first<W: Write>(self, f: &mut Formatter<W>, base: u32) -> fmt::Result {
+        let Run {
+            first,
             bytes,
-            w,
-        );
-        mb += 1;
+            word,
+            ..
+        } = self;
+        place(
+            f,
+            first,
+            "first",
+            first,
+            Run::megabyte(first),
+            262144 * u64::from(bytes),
+        )?;
+        first_said(f, base, word)
     }
-    if at == from {
-        return gather::put(out, at, b"in no table\n");
-    }
-    at
-}
 
-// The lines of a run in an image, which is accepted or not: of one that is not, nothing is said but the word.
-fn side(
-    out: &mut [u8],
-    at: usize,
-    image: &[u8],
-    base: u32,
-    good: bool,
-    k: u32,
-    bytes: u32,
-) -> usize {
-    if 4 * k as usize >= image.len() {
-        return gather::put(out, at, b"-         past its end\n");
+    // Its line at an offset of a megabyte's table.
+    fn in_second<W: Write>(
+        self,
+        f: &mut Formatter<W>,
+        table: Second,
+        megabyte: u32,
+        offset: u32,
+    ) -> fmt::Result {
+        let start = Run::megabyte(megabyte).wrapping_add(table.below(offset));
+        let name = second::kind_name(table.kind);
+        place(
+            f,
+            megabyte,
+            name,
+            offset / 4,
+            start,
+            table.below(self.bytes),
+        )?;
+        second_said(f, table.kind, self.word)
     }
-    let w = word(image, k);
-    if good {
-        let a = gather::form(out, at, b"%8  ", &[w as u64]);
-        return places(out, a, image, base, k, bytes);
-    }
-    gather::form(out, at, b"%8\n", &[w as u64])
-}
 
-// The lines of a run from a word up to another, none where the images agree.
-fn lines(
-    out: &mut [u8],
-    at: usize,
-    new: &[u8],
-    signed: &[u8],
-    base: u32,
-    new_good: bool,
-    signed_good: bool,
-    from: u32,
-    to: u32,
-) -> usize
-    requires { (from ≤ to) × (to ≤ 32768) }
-{
-    if word(new, from) == word(signed, from) {
-        return at;
-    }
-    let bytes = 4 * (to - from);
-    let a = gather::form(out, at, b"  %4", &[4 * from as u64]);
-    let b = gather::pad(out, at, a, 10);
-    let c = gather::left(out, b, (to - from) as u64, 7);
-    let d = gather::put(out, c, b"signed  ");
-    let e = side(out, d, signed, base, signed_good, from, bytes);
-    let f = gather::put(out, e, b"                 new     ");
-    side(out, f, new, base, new_good, from, bytes)
-}
-
-// The table of the words that differ.
-pub(crate) fn table(
-    new: &[u8],
-    signed: &[u8],
-    base: u32,
-    new_good: bool,
-    signed_good: bool,
-) -> bool {
-    let mut out = io::large_buffer();
-    let n = most(new.len(), signed.len());
-    let mut ok = text::put(
-        text::OUT,
-        b"\nThe words that differ\n  offset  words  image   word      megabyte  table   index  virtual          page\n",
-    );
-    let mut at = 0;
-    let mut k = 0;
-    while k < n {
-        let end = run_end(new, signed, base, k, n);
-        at = lines(
-            &mut out,
-            at,
-            new,
-            signed,
-            base,
-            new_good,
-            signed_good,
-            k,
-            end,
-        );
-        if at > FULL {
-            ok = ok & text::put(text::OUT, parse::cut(&out, 0, at));
-            at = 0;
+    // A line for each of its places in an image's tables.
+    fn places<W: Write>(self, f: &mut Formatter<W>, image: Image) -> fmt::Result {
+        let mut any = self.first < FIRST_LEVEL;
+        if any {
+            self.in_first(f, image.base)?;
         }
-        k = end;
+        for i in 0..FIRST_LEVEL {
+            if let Some(table) = Second::named(image.word(i)) {
+                if let Some(offset) = table.offset(self.at) {
+                    if any {
+                        f.write_repeated(" ", 35)?;
+                    }
+                    self.in_second(f, table, i, offset)?;
+                    any = true;
+                }
+            }
+        }
+        if any {
+            Ok(())
+        } else {
+            writeln!(f, "in no table")
+        }
     }
-    ok & text::put(text::OUT, parse::cut(&out, 0, at))
+}
+
+// The lines of a run of an image, which is accepted or not: of one that is not, nothing is said but the word.
+fn side<W: Write>(
+    f: &mut Formatter<W>,
+    image: Image,
+    good: bool,
+    first: u32,
+    bytes: u32,
+) -> fmt::Result {
+    if 4 * first as usize >= image.bytes.len() {
+        return writeln!(f, "-         past its end");
+    }
+    let word = image.word(first);
+    if !good {
+        return writeln!(f, "{word:08X}");
+    }
+    write!(f, "{word:08X}  ")?;
+    let at = address_of(image.base, first);
+    Run {
+        first,
+        at,
+        bytes,
+        word,
+    }
+    .places(f, image)
+}
+
+impl Changes<'_> {
+    // How many words the longer image has.
+    fn count(&self) -> u32
+        ensures { result ≤ 32768 }
+    {
+        words(self.new.bytes.len().max(self.signed.bytes.len()))
+    }
+
+    // Whether a run is cut before a word: where a table may begin, behind the first level, at an image's end.
+    fn seam(&self, k: u32) -> bool {
+        let at = 4 * k as usize;
+        address_of(self.new.base, k) % 1024 == 0
+            || k == FIRST_LEVEL
+            || at == self.new.bytes.len()
+            || at == self.signed.bytes.len()
+    }
+
+    // Whether two words are the same in both images.
+    fn alike(&self, j: u32, k: u32) -> bool {
+        self.new.word(j) == self.new.word(k) && self.signed.word(j) == self.signed.word(k)
+    }
+
+    // The word behind the run that begins with a word.
+    fn run_end(&self, from: u32, n: u32) -> u32
+        requires { from < n }
+        ensures { (from < result) × (result ≤ n) }
+    {
+        for k in from + 1..n {
+            if self.seam(k) || !self.alike(from, k) {
+                return k;
+            }
+        }
+        n
+    }
+
+    // The lines of a run from a word up to another, none where the images agree.
+    fn lines<W: Write>(&self, f: &mut Formatter<W>, from: u32, to: u32) -> fmt::Result
+        requires { (from ≤ to) × (to ≤ 32768) }
+    {
+        if self.new.word(from) == self.signed.word(from) {
+            return Ok(());
+        }
+        let n = to - from;
+        let offset = InlineText::<8>::of(format_args!("{:04X}", 4 * from));
+        write!(f, "  {:<8}{n:<7}signed  ", offset.as_str())?;
+        side(f, self.signed, self.signed_good, from, 4 * n)?;
+        write!(f, "                 new     ")?;
+        side(f, self.new, self.new_good, from, 4 * n)
+    }
+}
+
+impl Display for Changes<'_> {
+    fn fmt<W: Write>(&self, f: &mut Formatter<W>) -> fmt::Result {
+        writeln!(f, "\nThe words that differ")?;
+        writeln!(
+            f,
+            "  offset  words  image   word      megabyte  table   index  virtual          page"
+        )?;
+        let n = self.count();
+        let mut k = 0;
+        while k < n {
+            let end = self.run_end(k, n);
+            self.lines(f, k, end)?;
+            k = end;
+        }
+        Ok(())
+    }
 }

@@ -1,132 +1,106 @@
-// The columns of a call in a table: what a list says of it, what the unit answered, where the last word of its walk lies.
-use crate::gather;
+// The columns of a call in a table: what a list says of it, what the unit answered, where the last word of
+// its walk lies.
 use calls::Call;
-use page::{Access, VirtualAddress};
-use records::Meaning;
+use decision::Said;
+use memory::Place;
+use page::Access;
+use records::Denial;
+use std::fmt;
+use std::fmt::{Display, Formatter, InlineText, Write};
 
 // A place's offset is below this, and its memory's number stands above it.
 const OFFSETS: u32 = 268435456;
 
-// What a list says, as text: blanks up to the column's end behind it.
-fn says(out: &mut [u8], at: usize, n: usize) -> usize {
-    gather::part(out, at, b"-          |fault 21   |fault 23   |   ", n)
+// What a list says of a call, in a column of eleven.
+#[derive(Clone, Copy)]
+pub struct Meant<'a> {
+    pub records: &'a [u8],
+    pub call: Call,
 }
 
-// What a list means at an address.
-fn meaning(out: &mut [u8], at: usize, m: Meaning) -> usize {
-    match m {
-        Meaning::Byte(to) => {
-            let end = gather::hex(out, at, to.0 as u64, 8);
-            return says(out, end, 3);
-        }
-        Meaning::Permission => return says(out, at, 2),
-        Meaning::Translation => return says(out, at, 1),
+// What a call said: the number of the answer, the place of the last word of its walk, and a value.
+#[derive(Clone, Copy)]
+pub struct Answered {
+    number: u32,
+    place: u32,
+    value: u64,
+}
+
+// Where the last word of a call's walk lies: its memory and its offset there.
+#[derive(Clone, Copy)]
+pub struct Source(pub Answered);
+
+// The fault at an address to which a list gives no byte.
+fn denied<W: Write>(f: &mut Formatter<W>, d: Denial) -> fmt::Result {
+    match d {
+        Denial::Permission => f.write_str("fault 23   "),
+        Denial::Translation => f.write_str("fault 21   "),
     }
 }
 
-// A distance from an address to another, in a column of a width.
-fn distance(out: &mut [u8], at: usize, from: u64, to: u64, width: usize) -> usize {
-    if from <= to {
-        return gather::left(out, at, to - from, width);
-    }
-    if width == 0 {
-        return at;
-    }
-    let end = gather::put(out, at, b"-");
-    gather::left(out, end, from - to, width - 1)
-}
-
-// What a list says of the distance at an address.
-fn shift_meaning(out: &mut [u8], at: usize, m: Meaning, va: VirtualAddress) -> usize {
-    match m {
-        Meaning::Byte(to) => return distance(out, at, va.0 as u64, to.0 as u64, 11),
-        Meaning::Permission => return says(out, at, 2),
-        Meaning::Translation => return says(out, at, 1),
-    }
-}
-
-// What a list says of a call.
-pub(crate) fn meant(out: &mut [u8], at: usize, records: &[u8], call: Call) -> usize {
-    match call {
-        Call::Request(va, a) => {
-            return meaning(out, at, records::lists::means(records, va, a));
-        }
-        Call::Shift(va) => {
-            return shift_meaning(
-                out,
-                at,
-                records::lists::means(records, va, Access::Read),
-                va,
-            );
-        }
-        Call::Write(_, _) => return says(out, at, 0),
-        Call::Read(_) => return says(out, at, 0),
-        Call::Drop => return says(out, at, 0),
-        Call::Bad => return says(out, at, 0),
-    }
-}
-
-// What the unit answers, as text: blanks up to the column's end behind it.
-fn replies(out: &mut [u8], at: usize, n: usize) -> usize {
-    gather::part(
-        out,
-        at,
-        b"done                  |fault 21 translation  |fault 22 miss         |fault 23 permission   |fault 24 prefetch     \
-          |              |                  |refused ",
-        n,
-    )
-}
-
-// A number in hexadecimal of a width, and the blanks behind it.
-fn replied(out: &mut [u8], at: usize, x: u64, width: usize, n: usize) -> usize {
-    let end = gather::hex(out, at, x, width);
-    replies(out, end, n)
-}
-
-// An answer, from its number and its value.
-fn numbered(out: &mut [u8], at: usize, n: u32, x: u64) -> usize {
-    match n {
-        0 => return replies(out, at, 0),
-        100 => return replied(out, at, x, 8, 5),
-        101 => return replied(out, at, x, 4, 6),
-        102 => return signed_distance(out, at, x),
-        21 | 22 | 23 | 24 => return replies(out, at, (n - 20) as usize),
-        _ => {
-            let end = replies(out, at, 7);
-            return gather::left(out, end, n as u64, 14);
+impl Display for Meant<'_> {
+    fn fmt<W: Write>(&self, f: &mut Formatter<W>) -> fmt::Result {
+        match self.call {
+            Call::Request(va, access) => match records::lists::means(self.records, va, access) {
+                Ok(to) => write!(f, "{:08X}   ", to.0),
+                Err(d) => denied(f, d),
+            },
+            Call::Shift(va) => match records::lists::means(self.records, va, Access::Read) {
+                Ok(to) => write!(f, "{:<11}", i64::from(to.0) - i64::from(va.0)),
+                Err(d) => denied(f, d),
+            },
+            Call::Write(_, _) | Call::Read(_) | Call::Drop => f.write_str("-          "),
         }
     }
 }
 
-// A distance of 64 bits in two's complement.
-fn signed_distance(out: &mut [u8], at: usize, x: u64) -> usize {
-    if x < 9223372036854775808 {
-        return distance(out, at, 0, x, 22);
+impl Answered {
+    // What the 16 bytes say in which a call's answer is kept.
+    pub fn of(said: &[u8]) -> Answered {
+        Answered {
+            number: wire::word_at(said, 0),
+            place: wire::word_at(said, 4),
+            value: u64::from(wire::word_at(said, 8)) | u64::from(wire::word_at(said, 12)) << 32,
+        }
     }
-    distance(out, at, std::num::wrapping_sub_u64(0, x), 0, 22)
-}
 
-// The answer of the 16 bytes that a call said: number, place and value.
-pub(crate) fn answer(out: &mut [u8], at: usize, said: &[u8]) -> usize {
-    numbered(
-        out,
-        at,
-        wire::word_at(said, 0),
-        joined(wire::word_at(said, 8), wire::word_at(said, 12)),
-    )
-}
+    // What a call said of which the last word lies at a place.
+    pub fn made(said: Said, from: Place) -> Answered {
+        let mut bytes = [0u8; 16];
+        run::answers::put_said(&mut bytes, 0, said, from);
+        Answered::of(&bytes)
+    }
 
-// Where the last word of the walk lies that those bytes tell of: its memory and its offset there.
-pub(crate) fn source(out: &mut [u8], at: usize, said: &[u8]) -> usize {
-    let place = wire::word_at(said, 4);
-    match place / OFFSETS {
-        1 => return gather::form(out, at, b"on-chip  %4", &[(place % OFFSETS) as u64]),
-        2 => return gather::form(out, at, b"external %4", &[(place % OFFSETS) as u64]),
-        _ => return gather::put(out, at, b"-"),
+    // The answer in a few words.
+    fn words(self) -> InlineText<32> {
+        match self.number {
+            0 => InlineText::of("done"),
+            21 => InlineText::of("fault 21 translation"),
+            22 => InlineText::of("fault 22 miss"),
+            23 => InlineText::of("fault 23 permission"),
+            24 => InlineText::of("fault 24 prefetch"),
+            100 => InlineText::of(format_args!("{:08X}", self.value)),
+            101 => InlineText::of(format_args!("{:04X}", self.value)),
+            102 => InlineText::of(self.value.cast_signed()),
+            n => InlineText::of(format_args!("refused {n}")),
+        }
     }
 }
 
-// Two words, the lower one first, as one number.
-pub(crate) fn joined(low: u32, high: u32) -> u64 {
-    low as u64 + 4294967296 * high as u64
+// The answer, in a column of 22.
+impl Display for Answered {
+    fn fmt<W: Write>(&self, f: &mut Formatter<W>) -> fmt::Result {
+        write!(f, "{:<22}", self.words().as_str())
+    }
+}
+
+impl Display for Source {
+    fn fmt<W: Write>(&self, f: &mut Formatter<W>) -> fmt::Result {
+        let place = self.0.place;
+        match place / OFFSETS {
+            1 => write!(f, "on-chip  {:04X}", place % OFFSETS),
+            2 => write!(f, "external {:04X}", place % OFFSETS),
+            _ => f.write_str("-"),
+        }
+    }
 }

@@ -1,138 +1,120 @@
 // nx diff: a new image compared with the signed one, the mappings and the words that differ.
-use crate::image::Image;
-use crate::{build, changes, files, image, mappings, parse, refusal, text};
-use parting::Comparison;
-
-// Says why an image is refused, where it is: its length is no multiple of 4, as that of an image that was cut to its room.
-fn refused(path: &[u8], len: usize) -> bool {
-    if len % 4 == 0 {
-        return true;
-    }
-    refusal::bad_memory(text::OUT, path, len, 0)
-}
-
-// The names of two images, with words between them.
-fn names(path: &[u8], between: &[u8], other: &[u8]) -> bool {
-    files::name(text::OUT, path) & text::put(text::OUT, between) & files::name(text::OUT, other)
-}
-
-// How many more bytes an image has than one of another length, where it has more.
-fn longer(path: &[u8], len: usize, other: usize) -> bool {
-    if len <= other {
-        return true;
-    }
-    text::put(text::OUT, b"  ")
-        & files::name(text::OUT, path)
-        & text::form(
-            text::OUT,
-            b" has %d bytes more, from offset %4 on\n",
-            &[(len - other) as u64, other as u64],
-        )
-}
+use crate::build;
+use crate::changes::Changes;
+use crate::failure::{self, Failure};
+use crate::files::{self, Name};
+use crate::image::{self, Image};
+use crate::mappings::Mappings;
+use crate::refusal::Refusal;
+use audit::ImageError;
+use parting::Parting;
+use std::fmt::{Display, Formatter, Write};
+use std::{fmt, io};
 
 // Where two images part, how many words differ, and which is the longer.
-fn head(path: &[u8], n: usize, other: &[u8], m: usize, start: usize, words: usize) -> bool {
-    names(path, b" parts from ", other)
-        & text::form(
-            text::OUT,
-            b" at offset %4\n  words that differ: %d of %d\n",
-            &[start as u64, words as u64, parting::common(n, m) as u64],
-        )
-        & longer(path, n, m)
-        & longer(other, m, n)
+#[derive(Clone, Copy)]
+struct Head<'a> {
+    new: Image<'a>,
+    signed: Image<'a>,
+    parting: Parting,
 }
 
-// The mappings that differ, of images that are both accepted.
-fn mapped(new: &[u8], signed: &[u8], base: u32, good: bool) -> bool {
-    if good {
-        return mappings::table(new, signed, base);
+// How many more bytes an image has than another, where it has more.
+fn longer<W: Write>(f: &mut Formatter<W>, image: Image, other: Image) -> fmt::Result {
+    let from = other.bytes.len();
+    match image.bytes.len().checked_sub(from) {
+        None | Some(0) => Ok(()),
+        Some(more) => {
+            writeln!(
+                f,
+                "  {} has {more} bytes more, from offset {from:04X} on",
+                Name(image.path)
+            )
+        }
     }
-    true
 }
 
-// What the program answers of two images that part from a start on, by so many words: equal ones part at the end of both.
-fn parted(
-    rt: HostRuntime,
-    path: &[u8],
-    new: &[u8],
-    other: &[u8],
-    signed: &[u8],
-    base: u32,
-    start: usize,
-    words: usize,
-) -> u32 {
-    if (start == new.len()) & (start == signed.len()) {
-        return files::told(
-            rt,
-            names(path, b" and ", other)
-                & text::form(text::OUT, b": equal, %d bytes\n", &[new.len() as u64]),
+impl Display for Head<'_> {
+    fn fmt<W: Write>(&self, f: &mut Formatter<W>) -> fmt::Result {
+        let Head {
+            new,
+            signed,
+            parting,
+        } = *self;
+        let all = parting::common(new.bytes.len(), signed.bytes.len());
+        write!(f, "{} parts from {} ", Name(new.path), Name(signed.path))?;
+        writeln!(f, "at offset {:04X}", parting.start)?;
+        writeln!(f, "  words that differ: {} of {all}", parting.words)?;
+        longer(f, new, signed)?;
+        longer(f, signed, new)
+    }
+}
+
+// Says why an image is refused, where its length is no multiple of 4, as that of an image that was cut to its room.
+fn refused(rt: HostRuntime, image: Image) -> io::Result<()> {
+    if image.bytes.len() % 4 == 0 {
+        return Ok(());
+    }
+    let image = Image { base: 0, ..image };
+    rt.print(Refusal {
+        image,
+        why: ImageError::BadMemory,
+    })
+}
+
+// Tells how two images part, and what maps otherwise in images that are both accepted.
+fn parted(rt: HostRuntime, new: Image, signed: Image, parting: Parting) -> Result<(), Failure> {
+    let mut page = rt.print(Head {
+        new,
+        signed,
+        parting,
+    });
+    let new_good = new.judge(rt).is_ok();
+    let signed_good = signed.judge(rt).is_ok();
+    if new_good && signed_good {
+        page = page.and_then(|()| rt.print(Mappings { new, signed }));
+    }
+    let changes = Changes {
+        new,
+        new_good,
+        signed,
+        signed_good,
+    };
+    files::told(rt, page.and_then(|()| rt.print(changes)))?;
+    Err(Failure::Wrong)
+}
+
+// Two images compared: equal ones part at the end of both.
+fn compared(rt: HostRuntime, new: Image, signed: Image) -> Result<(), Failure> {
+    let Some(parting) = parting::compare(new.bytes, signed.bytes) else {
+        files::told(rt, refused(rt, new).and_then(|()| refused(rt, signed)))?;
+        return Err(Failure::Wrong);
+    };
+    let n = new.bytes.len();
+    if parting.start == n && parting.start == signed.bytes.len() {
+        let names = format_args!(
+            "{} and {}: equal, {n} bytes\n",
+            Name(new.path),
+            Name(signed.path)
         );
+        return files::told(rt, rt.print(names));
     }
-    let ok = head(path, new.len(), other, signed.len(), start, words);
-    let new_good = image::judged(rt, path, new, base) == 0;
-    let signed_good = image::judged(rt, other, signed, base) == 0;
-    files::told(
-        rt,
-        ok & mapped(new, signed, base, new_good & signed_good)
-            & changes::table(new, signed, base, new_good, signed_good),
-    );
-    1
-}
-
-// Two images compared.
-fn compared(
-    rt: HostRuntime,
-    path: &[u8],
-    new: &[u8],
-    other: &[u8],
-    signed: &[u8],
-    base: u32,
-) -> u32 {
-    let c = parting::compare(new, signed);
-    match c {
-        Comparison::BadLength => {
-            files::told(rt, refused(path, new.len()) & refused(other, signed.len()));
-            return 1;
-        }
-        Comparison::Parted(_, start, words) => {
-            return parted(rt, path, new, other, signed, base, start, words);
-        }
-    }
-}
-
-// A new image, and the signed one read from its file.
-fn beside(rt: HostRuntime, path: &[u8], new: &[u8], other: &[u8], base: u32) -> u32 {
-    let mut memory = [0u8; image::ROOM];
-    let signed = image::at_base(rt, other, base, &mut memory);
-    match signed {
-        Image::Read(n, _) => {
-            return compared(rt, path, new, other, parse::cut(&memory, 0, n), base);
-        }
-        Image::Failed(status) => return status,
-    }
-}
-
-// An image read from its file, to stand at the base that a word says, or at the usual one where there is none.
-fn loaded(rt: HostRuntime, path: &[u8], base: &[u8], memory: &mut [u8]) -> Image {
-    if base.len() == 0 {
-        return image::at_base(rt, path, build::BASE, memory);
-    }
-    image::load(rt, path, base, memory)
+    parted(rt, new, signed, parting)
 }
 
 // nx diff NEW SIGNED [BASE].
-pub(crate) fn run(rt: HostRuntime, path: &[u8], other: &[u8], base: &[u8]) -> u32 {
-    if files::is_input(path) & files::is_input(other) {
-        text::put(
-            text::ERR,
-            b"nx: only one of the two images can be standard input\n",
-        );
-        return 2;
+pub(crate) fn run(rt: HostRuntime, path: &[u8], other: &[u8], word: &[u8]) -> Result<(), Failure> {
+    if files::is_input(path) && files::is_input(other) {
+        failure::say(rt, "nx: only one of the two images can be standard input\n");
+        return Err(Failure::Misuse);
     }
-    let mut memory = [0u8; image::ROOM];
-    let new = loaded(rt, path, base, &mut memory);
-    match new {
-        Image::Read(n, at) => return beside(rt, path, parse::cut(&memory, 0, n), other, at),
-        Image::Failed(status) => return status,
-    }
+    let mut room = [0u8; image::ROOM];
+    let mut second = [0u8; image::ROOM];
+    let new = if word.is_empty() {
+        Image::at_base(rt, path, build::BASE, &mut room)?
+    } else {
+        Image::load(rt, path, word, &mut room)?
+    };
+    let signed = Image::at_base(rt, other, new.base, &mut second)?;
+    compared(rt, new, signed)
 }

@@ -1,14 +1,22 @@
 // The labels of nx map: what mappings are for, inside their boxes or under their row in two lanes.
 ghost use Rattle.std.specs.Prelude.{◌≤◌};
 
-use crate::{grid, list, parse, text, utf8};
+use crate::grid;
+use crate::list::{self, List};
+use crate::text::Xml;
 use records::Mapping;
+use std::fmt;
+use std::fmt::{Display, Formatter, Write};
 
 // Where the rows end on the right.
 const RIGHT: u64 = 1120;
 
 // The most characters of a label.
 const LONGEST: usize = 60;
+
+// The labels of a list, run by run in rising order.
+#[derive(Clone, Copy)]
+pub struct Labels<'a>(pub List<'a>);
 
 // A row, and how far the labels under it reach, in its upper and in its lower lane.
 #[derive(Clone, Copy)]
@@ -26,245 +34,227 @@ struct Label {
     to: u64,
 }
 
+// Where a label goes: into its boxes, or into a lane under the row.
+#[derive(Clone, Copy)]
+enum Spot {
+    Inside,
+    Upper(Label),
+    Lower(Label),
+}
+
+// Mappings with the same purpose, one right behind the other in a row.
+#[derive(Clone, Copy)]
+struct Run<'a> {
+    first: Mapping,
+    end: u32,
+    purpose: &'a [u8],
+}
+
+// Where the characters of a text begin.
+fn is_start(b: u8) -> bool {
+    !(0x80..=0xbf).contains(&b)
+}
+
 // How wide a label is.
-fn label_width(s: &[u8]) -> u64
+fn width_of(s: &[u8]) -> u64
     ensures { result ≤ 360 }
 {
-    let n = utf8::count(s);
-    if n > LONGEST {
-        return 360;
-    }
-    6 * n as u64
+    let n = s.iter().filter(|b| is_start(**b)).count();
+    if n > LONGEST { 360 } else { 6 * n as u64 }
 }
 
-// Whether the mapping that comes next at an address goes on with a purpose in the same row.
-fn goes_on(records: &[u8], t: &[u8], lines: &[u32], at: u32, purpose: &[u8]) -> bool {
-    let j = list::next(records, at);
-    if j >= records::count(records) {
-        return false;
-    }
-    if list::start(records::mapping_at(records, j)) != at {
-        return false;
-    }
-    if at % 1048576 == 0 {
-        return false;
-    }
-    parse::same(list::purpose(t, lines, j), purpose)
+// The megabyte of an address.
+fn row_of(at: u32) -> u32 {
+    at / page::MEGABYTE
 }
 
-// Where mappings with the same purpose, one right behind the other in a row, end.
-fn run_end(records: &[u8], t: &[u8], lines: &[u32], i: usize) -> u32 {
-    let purpose = list::purpose(t, lines, i);
-    let n = records::count(records);
-    let mut end = list::end(records::mapping_at(records, i));
-    let mut k = 0;
-    while k < n {
-        if !goes_on(records, t, lines, end, purpose) {
-            return end;
+// The text of a label: as much as its width has room for.
+#[derive(Clone, Copy)]
+struct Cut<'a>(&'a [u8]);
+
+impl Display for Cut<'_> {
+    fn fmt<W: Write>(&self, f: &mut Formatter<W>) -> fmt::Result {
+        let s = self.0;
+        let mut starts = s.iter().enumerate().filter(|(_, b)| is_start(**b));
+        match starts.nth(LONGEST) {
+            None => write!(f, "{}</text>\n", Xml(s)),
+            Some((n, _)) => write!(f, "{}\u{2026}</text>\n", Xml(s.get(..n).unwrap_or(s))),
         }
-        end = list::end(records::mapping_at(records, list::next(records, end)));
-        k += 1;
     }
-    end
-}
-
-// A label's text.
-fn label_text(s: &[u8]) -> bool {
-    let n = utf8::before(s, LONGEST);
-    let ok = text::xml(parse::cut(s, 0, n));
-    if n < s.len() {
-        return ok & text::put(text::OUT, b"\xe2\x80\xa6</text>\n");
-    }
-    ok & text::put(text::OUT, b"</text>\n")
-}
-
-// A label inside its boxes.
-fn inside(at: u32, end: u32, s: &[u8]) -> bool {
-    text::form(
-        text::OUT,
-        b"<text class=\"i\" x=\"%d\" y=\"%d\" text-anchor=\"middle\">",
-        &[grid::left(at) + grid::wide(at, end) / 2, grid::top(at) + 16],
-    ) & label_text(s)
 }
 
 // The middle of a mapping's box.
 fn middle(m: Mapping) -> u64
     ensures { result ≤ 4000 }
 {
-    let at = list::start(m);
-    grid::left(at) + grid::wide(at, list::end(m)) / 2
+    grid::left(m.at.0) + grid::wide(m.at.0, list::end(m)) / 2
 }
 
-// A label under its row, to the right of its line or, where there is no room, to its left.
-fn label_at(x: u64, width: u64) -> Label
-    requires x_bound { x ≤ 4000 }
-    requires width_bound { width ≤ 360 }
-{
-    if x + width + 4 <= RIGHT {
-        return Label {
-            x: x,
-            from: x,
-            to: x + width + 4,
+impl Label {
+    // A label under its row, to the right of its line or, where there is no room, to its left.
+    fn at(x: u64, width: u64) -> Label
+        requires x_bound { x ≤ 4000 }
+        requires width_bound { width ≤ 360 }
+    {
+        let reach = width + 4;
+        if x + reach <= RIGHT {
+            Label {
+                x,
+                from: x,
+                to: x + reach,
+            }
+        } else {
+            Label {
+                x,
+                from: x.wrapping_sub(reach),
+                to: x,
+            }
+        }
+    }
+
+    // The line and the text of a label whose row begins at a height, so far below the row.
+    fn write<W: Write>(self, f: &mut Formatter<W>, y: u64, below: u64, s: &[u8]) -> fmt::Result
+        requires y_bound { y ≤ 1000 }
+        requires below_bound { below ≤ 100 }
+    {
+        let x = self.x;
+        let top = y + 24;
+        let base = top + below;
+        write!(f, "<path class=\"l\" d=\"M{x}.5 {top}V{base}\"/>")?;
+        if self.to == x {
+            let left = x.wrapping_sub(3);
+            return write!(
+                f,
+                "<text x=\"{left}\" y=\"{base}\" text-anchor=\"end\">{}",
+                Cut(s)
+            );
+        }
+        let right = x.wrapping_add(4);
+        write!(f, "<text x=\"{right}\" y=\"{base}\">{}", Cut(s))
+    }
+}
+
+impl<'a> Run<'a> {
+    // The run that begins with a mapping.
+    fn of(list: List<'a>, i: usize) -> Run<'a> {
+        let first = list.mapping(i);
+        let purpose = list.purpose(i);
+        let mut end = list::end(first);
+        for _ in 0..list.count() {
+            let Some(j) = list.next(end) else { break };
+            if list.mapping(j).at.0 != end
+                || end % page::MEGABYTE == 0
+                || list.purpose(j) != purpose
+            {
+                break;
+            }
+            end = list::end(list.mapping(j));
+        }
+        Run {
+            first,
+            end,
+            purpose,
+        }
+    }
+
+    // Where the line of the next label in the row stands, or the row's end.
+    fn next_line(self, list: List) -> u64 {
+        match list.next(self.end) {
+            Some(j) if row_of(list.mapping(j).at.0) == row_of(self.first.at.0) => {
+                middle(list.mapping(j))
+            }
+            _ => 2000,
+        }
+    }
+
+    // Where its label goes: under the row the upper lane where it stays clear of the next line, else the
+    // lower one; nowhere if none has room.
+    fn spot(self, list: List, lanes: Lanes) -> Option<Spot> {
+        if self.purpose.is_empty() {
+            return None;
+        }
+        let width = width_of(self.purpose);
+        if width + 8 <= grid::wide(self.first.at.0, self.end) {
+            return Some(Spot::Inside);
+        }
+        let label = Label::at(middle(self.first), width);
+        if label.to <= self.next_line(list) && lanes.upper <= label.from {
+            return Some(Spot::Upper(label));
+        }
+        (lanes.lower <= label.from).then_some(Spot::Lower(label))
+    }
+
+    // Its label.
+    fn write<W: Write>(self, f: &mut Formatter<W>, spot: Spot) -> fmt::Result {
+        let at = self.first.at.0;
+        let y = grid::top(at);
+        match spot {
+            Spot::Inside => {
+                let x = grid::left(at) + grid::wide(at, self.end) / 2;
+                let base = y + 16;
+                write!(
+                    f,
+                    "<text class=\"i\" x=\"{x}\" y=\"{base}\" text-anchor=\"middle\">"
+                )?;
+                write!(f, "{}", Cut(self.purpose))
+            }
+            Spot::Upper(label) => label.write(f, y, 13, self.purpose),
+            Spot::Lower(label) => label.write(f, y, 26, self.purpose),
+        }
+    }
+}
+
+impl Lanes {
+    // The lanes under the row of an address.
+    fn under(self, at: u32) -> Lanes {
+        let row = row_of(at);
+        if self.row == row {
+            self
+        } else {
+            Lanes {
+                row,
+                upper: 0,
+                lower: 0,
+            }
+        }
+    }
+
+    // The lanes with a label in its spot.
+    fn with(self, spot: Option<Spot>) -> Lanes {
+        match spot {
+            Some(Spot::Upper(label)) => Lanes {
+                upper: label.to,
+                ..self
+            },
+            Some(Spot::Lower(label)) => Lanes {
+                lower: label.to,
+                ..self
+            },
+            Some(Spot::Inside) | None => self,
+        }
+    }
+}
+
+impl Display for Labels<'_> {
+    fn fmt<W: Write>(&self, f: &mut Formatter<W>) -> fmt::Result {
+        let list = self.0;
+        let mut lanes = Lanes {
+            row: 0,
+            upper: 0,
+            lower: 0,
         };
-    }
-    Label {
-        x: x,
-        from: std::num::wrapping_sub_u64(x, width + 4),
-        to: x,
-    }
-}
-
-// Where the line of the next label in the row stands, or the row's end.
-fn next_line(records: &[u8], at: u32, end: u32) -> u64 {
-    let j = list::next(records, end);
-    if j >= records::count(records) {
-        return 2000;
-    }
-    let m = records::mapping_at(records, j);
-    if list::start(m) / 1048576 != at / 1048576 {
-        return 2000;
-    }
-    middle(m)
-}
-
-// The lane of a label: 1 the upper one, where it stays clear of the next line; 2 the lower one; 0 none has room.
-fn lane(l: Label, next: u64, lanes: Lanes) -> u64 {
-    if l.to <= next {
-        if lanes.upper <= l.from {
-            return 1;
+        let mut from = 0;
+        for _ in 0..list.count() {
+            let Some(i) = list.next(from) else { break };
+            let run = Run::of(list, i);
+            lanes = lanes.under(run.first.at.0);
+            let spot = run.spot(list, lanes);
+            if let Some(spot) = spot {
+                run.write(f, spot)?;
+            }
+            lanes = lanes.with(spot);
+            from = run.end;
         }
+        Ok(())
     }
-    if lanes.lower <= l.from {
-        return 2;
-    }
-    0
-}
-
-// The lanes behind a label.
-fn behind(l: Label, lane: u64, lanes: Lanes) -> Lanes {
-    match lane {
-        1 => return Lanes {
-            row: lanes.row,
-            upper: l.to,
-            lower: lanes.lower,
-        },
-        2 => return Lanes {
-            row: lanes.row,
-            upper: lanes.upper,
-            lower: l.to,
-        },
-        _ => return lanes,
-    }
-}
-
-// A label under its row, in a lane.
-fn below(l: Label, lane: u64, y: u64, s: &[u8]) -> bool
-    requires { y ≤ 1000 }
-{
-    if lane == 0 {
-        return true;
-    }
-    let base = y + 24 + 13 * (lane % 3);
-    let ok = text::form(
-        text::OUT,
-        b"<path class=\"l\" d=\"M%d.5 %dV%d\"/>",
-        &[l.x, y + 24, base],
-    );
-    if l.to == l.x {
-        return ok
-            & text::form(
-                text::OUT,
-                b"<text x=\"%d\" y=\"%d\" text-anchor=\"end\">",
-                &[std::num::wrapping_sub_u64(l.x, 3), base],
-            )
-            & label_text(s);
-    }
-    ok & text::form(
-        text::OUT,
-        b"<text x=\"%d\" y=\"%d\">",
-        &[std::num::wrapping_add_u64(l.x, 4), base],
-    ) & label_text(s)
-}
-
-// The lanes under the row of an address.
-fn under(lanes: Lanes, at: u32) -> Lanes {
-    if lanes.row == at / 1048576 {
-        return lanes;
-    }
-    Lanes {
-        row: at / 1048576,
-        upper: 0,
-        lower: 0,
-    }
-}
-
-// The label of a run from its first mapping on, as it would stand under the row.
-fn label_of(m: Mapping, s: &[u8]) -> Label {
-    label_at(middle(m), label_width(s))
-}
-
-// Where a run's label goes: a lane under the row, 3 into its boxes, 0 nowhere.
-fn place(records: &[u8], m: Mapping, end: u32, s: &[u8], lanes: Lanes) -> u64 {
-    let at = list::start(m);
-    if s.len() == 0 {
-        return 0;
-    }
-    if label_width(s) + 8 <= grid::wide(at, end) {
-        return 3;
-    }
-    lane(label_of(m, s), next_line(records, at, end), lanes)
-}
-
-// A run's label, where it goes.
-fn run_label(m: Mapping, end: u32, s: &[u8], place: u64) -> bool {
-    if place == 3 {
-        return inside(list::start(m), end, s);
-    }
-    below(label_of(m, s), place, grid::top(list::start(m)), s)
-}
-
-// The label of the run that begins with a mapping, under the labels before it.
-fn labelled(records: &[u8], t: &[u8], lines: &[u32], i: usize, lanes: Lanes) -> bool {
-    let m = records::mapping_at(records, i);
-    let s = list::purpose(t, lines, i);
-    let end = run_end(records, t, lines, i);
-    run_label(
-        m,
-        end,
-        s,
-        place(records, m, end, s, under(lanes, list::start(m))),
-    )
-}
-
-// The lanes behind that label.
-fn lanes_after(records: &[u8], t: &[u8], lines: &[u32], i: usize, lanes: Lanes) -> Lanes {
-    let m = records::mapping_at(records, i);
-    let s = list::purpose(t, lines, i);
-    let end = run_end(records, t, lines, i);
-    let free = under(lanes, list::start(m));
-    behind(label_of(m, s), place(records, m, end, s, free), free)
-}
-
-// The labels, run by run in rising order.
-pub(crate) fn all(records: &[u8], t: &[u8], lines: &[u32]) -> bool {
-    let n = records::count(records);
-    let mut ok = true;
-    let mut from: u32 = 0;
-    let mut lanes = Lanes {
-        row: 0,
-        upper: 0,
-        lower: 0,
-    };
-    let mut k = 0;
-    while k < n {
-        let i = list::next(records, from);
-        if i >= n {
-            return ok;
-        }
-        ok = ok & labelled(records, t, lines, i, lanes);
-        lanes = lanes_after(records, t, lines, i, lanes);
-        from = run_end(records, t, lines, i);
-        k += 1;
-    }
-    ok
 }

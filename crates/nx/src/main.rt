@@ -1,5 +1,6 @@
 #![tactic(auto)]
-// nx: lists of mappings as text, their tables, sessions on the model, recorded and replayed, images from elsewhere, and two images compared, for people.
+// nx: lists of mappings as text, their tables, sessions on the model, recorded and replayed, images from
+// elsewhere, and two images compared, for people.
 mod args;
 mod boxes;
 mod build;
@@ -9,8 +10,8 @@ mod columns;
 mod convert;
 mod costs;
 mod diff;
+mod failure;
 mod files;
-mod gather;
 mod grid;
 mod image;
 mod labels;
@@ -32,11 +33,10 @@ mod show;
 mod spelling;
 mod text;
 mod trial;
-mod utf8;
 
 // Where the program's last act, one digit, goes: a program has no exit status of its own.
 const STATUS: i32 = 3;
 
 fn main(rt: HostRuntime) {
-    io::print_decimal(STATUS, cli::run(rt) as u64);
+    io::print_decimal(STATUS, cli::run(rt));
 }

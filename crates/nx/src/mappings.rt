@@ -1,133 +1,92 @@
 // The mappings of two accepted images that differ: the pages that only one of them has, in rising order.
-use crate::{gather, list, pages, parse, show, text};
-use audit::Inventory;
-use page::PhysicalAddress;
+use crate::image::Image;
+use crate::{list, pages};
 use records::Mapping;
+use std::cmp::Ordering;
+use std::fmt;
+use std::fmt::{Display, Formatter, Write};
 
-// A room of 65,536 bytes with more than these has none for two lines.
-const FULL: usize = 65536 - 128;
+// Two accepted images.
+#[derive(Clone, Copy)]
+pub struct Mappings<'a> {
+    pub new: Image<'a>,
+    pub signed: Image<'a>,
+}
 
-// The bytes of the records of an accepted image's pages.
-fn listed(image: &[u8], base: u32, records: &mut [u8]) -> usize {
-    let l = audit::list(image, PhysicalAddress(base), records);
-    match l {
-        Inventory::Length(n) => return n,
-        Inventory::BadMemory => return 0,
-        Inventory::Outside(_) => return 0,
-        Inventory::Unequal(_) => return 0,
-        Inventory::TooShort(_) => return 0,
+// The address of the first of some records, or, where there is none, where the addresses end.
+fn start(records: &[u8]) -> u32 {
+    if records::count(records) == 0 {
+        page::LIMIT
+    } else {
+        records::mapping_at(records, 0).at.0
     }
 }
 
-// The first address of a page, or, behind the last, where the addresses end.
-fn start(records: &[u8], i: usize) -> u32 {
-    if i < records::count(records) {
-        return list::start(records::mapping_at(records, i));
-    }
-    show::END
+// The records behind the first.
+fn behind(records: &[u8]) -> &[u8] {
+    records.get(records::SIZE..).unwrap_or(b"")
 }
 
 // Whether two pages that start at one address are the same.
 fn same(a: Mapping, b: Mapping) -> bool {
-    let j = a.kind;
-    let k = b.kind;
-    (list::target(a) == list::target(b))
-        & (page::type_of(j) == page::type_of(k))
-        & (a.access == b.access)
+    a.to.0 == b.to.0 && page::type_of(a.kind) == page::type_of(b.kind) && a.access == b.access
 }
 
-// Which image the page is of that comes next: 0 of both, 1 of the signed one alone, 2 of the new one alone, 3 another in each.
-fn holders(signed: &[u8], i: usize, new: &[u8], j: usize) -> u32 {
-    let a = start(signed, i);
-    let b = start(new, j);
-    if a < b {
-        return 1;
-    }
-    if b < a {
-        return 2;
-    }
-    if same(records::mapping_at(signed, i), records::mapping_at(new, j)) {
-        return 0;
-    }
-    3
+// The line of a page that an image has.
+fn line<W: Write>(f: &mut Formatter<W>, image: &str, m: Mapping) -> fmt::Result {
+    let kind = list::kind_name(m.kind);
+    let access = list::access_name(m.access);
+    write!(
+        f,
+        "  {image:<6}  {:06X} - {:06X}  ",
+        m.at.0,
+        list::end(m) - 1
+    )?;
+    writeln!(f, "{:08X}  {kind:<7}  {access}", m.to.0)
 }
 
-// The line of a page of an image, where it is one of those that differ.
-fn line(out: &mut [u8], at: usize, differs: bool, image: &[u8], m: Mapping) -> usize {
-    if !differs {
-        return at;
-    }
-    let k = m.kind;
-    let a = gather::put(out, at, image);
-    let b = gather::form(
-        out,
-        a,
-        b"%6 - %6  %8  ",
-        &[
-            list::start(m) as u64,
-            (list::end(m) - 1) as u64,
-            list::target(m) as u64,
-        ],
-    );
-    let c = gather::part(
-        out,
-        b,
-        b"section  |large    |small    |tiny     ",
-        page::type_of(k) as usize,
-    );
-    pages::access(out, c, m.access)
-}
-
-// The lines of the pages that come next.
-fn lines(out: &mut [u8], at: usize, holders: u32, signed: Mapping, new: Mapping) -> usize {
-    let a = line(out, at, holders % 2 == 1, b"  signed  ", signed);
-    line(out, a, holders / 2 == 1, b"  new     ", new)
-}
-
-// The pages of two lists that differ.
-fn rows(signed: &[u8], new: &[u8]) -> bool {
-    let mut out = io::large_buffer();
-    let mut left = std::num::wrapping_add_usize(records::count(signed), records::count(new));
-    let mut ok = true;
-    let mut some = false;
-    let mut at = 0;
-    let mut i = 0;
-    let mut j = 0;
-    while left > 0 {
-        let h = holders(signed, i, new, j);
-        some = some | (h > 0);
-        at = lines(
-            &mut out,
-            at,
-            h,
-            records::mapping_at(signed, i),
-            records::mapping_at(new, j),
-        );
-        if at > FULL {
-            ok = ok & text::put(text::OUT, parse::cut(&out, 0, at));
-            at = 0;
+// The pages of two lists that differ; whether there are any.
+fn rows<W: Write>(f: &mut Formatter<W>, signed: &[u8], new: &[u8]) -> Result<bool, fmt::Error> {
+    let mut before = signed;
+    let mut now = new;
+    let mut any = false;
+    for _ in 0..records::count(signed).saturating_add(records::count(new)) {
+        let a = records::mapping_at(before, 0);
+        let b = records::mapping_at(now, 0);
+        let order = start(before).cmp(&start(now));
+        let differ = order != Ordering::Equal || !same(a, b);
+        if differ && order != Ordering::Greater {
+            line(f, "signed", a)?;
         }
-        i = std::num::wrapping_add_usize(i, (h != 2) as usize);
-        j = std::num::wrapping_add_usize(j, (h != 1) as usize);
-        left -= 1;
+        if differ && order != Ordering::Less {
+            line(f, "new", b)?;
+        }
+        any |= differ;
+        before = if order == Ordering::Greater {
+            before
+        } else {
+            behind(before)
+        };
+        now = if order == Ordering::Less {
+            now
+        } else {
+            behind(now)
+        };
     }
-    if some {
-        return ok & text::put(text::OUT, parse::cut(&out, 0, at));
-    }
-    text::put(
-        text::OUT,
-        b"  none: the words that differ map the same pages\n",
-    )
+    Ok(any)
 }
 
-// The table of the mappings that differ.
-pub(crate) fn table(new: &[u8], signed: &[u8], base: u32) -> bool {
-    let mut now = [0u8; pages::RECORDS];
-    let mut before = [0u8; pages::RECORDS];
-    let n = listed(new, base, &mut now);
-    let m = listed(signed, base, &mut before);
-    text::put(
-        text::OUT,
-        b"\nThe mappings that differ\n  image   virtual          physical  page     access\n",
-    ) & rows(parse::cut(&before, 0, m), parse::cut(&now, 0, n))
+impl Display for Mappings<'_> {
+    fn fmt<W: Write>(&self, f: &mut Formatter<W>) -> fmt::Result {
+        let mut room = [0u8; pages::RECORDS];
+        let mut other = [0u8; pages::RECORDS];
+        let new = pages::listed(self.new, &mut room).unwrap_or(b"");
+        let signed = pages::listed(self.signed, &mut other).unwrap_or(b"");
+        writeln!(f, "\nThe mappings that differ")?;
+        writeln!(f, "  image   virtual          physical  page     access")?;
+        if rows(f, signed, new)? {
+            return Ok(());
+        }
+        writeln!(f, "  none: the words that differ map the same pages")
+    }
 }

@@ -1,185 +1,122 @@
 // A script: read from its file, its first error said, its calls and its prices.
-use crate::files::Got;
-use crate::script::Step;
-use crate::{files, list, parse, script, text};
+use crate::failure::{self, Failure};
+use crate::list::{self, At};
+use crate::script::{self, Memory, Step, Wrong};
+use crate::text::Shown;
+use crate::{files, parse};
 use calls::Call;
 use prices::{Price, Prices};
-
-// The most words of a line.
-pub const WORDS: usize = 5;
+use std::fmt;
+use std::fmt::{Display, Formatter, Write};
 
 // The last register offset of all, and the last that a recording has room for.
 pub const LAST: u32 = 0xffffffff;
 
 pub const RECORDED: u32 = 0xff;
 
-// What is wrong with a register's offset that is to be at most a last one.
-fn past(offset: u32, last: u32) -> usize {
-    if offset > last {
-        return script::NO_ROOM;
-    }
-    script::FINE
-}
+// The words of a line up to its comment, with a blank before each.
+#[derive(Clone, Copy)]
+pub struct Words<'a>(pub &'a [u8]);
 
-// What is wrong with a call whose register's offset is to be at most a last one.
-fn call_wrong(call: Call, last: u32) -> usize {
-    match call {
-        Call::Write(offset, _) => return past(offset, last),
-        Call::Read(offset) => return past(offset, last),
-        Call::Request(_, _) => return script::FINE,
-        Call::Drop => return script::FINE,
-        Call::Shift(_) => return script::FINE,
-        Call::Bad => return script::FINE,
+impl Display for Words<'_> {
+    fn fmt<W: Write>(&self, f: &mut Formatter<W>) -> fmt::Result {
+        for k in 0..5 {
+            if let Some(w) = parse::word(parse::code(self.0), k) {
+                write!(f, " {}", Shown(w))?;
+            }
+        }
+        Ok(())
     }
 }
 
-// What is wrong with a price, behind a call or before the first.
-fn late(called: bool) -> usize {
-    if called {
-        return script::LATE;
-    }
-    script::FINE
-}
-
-// What is wrong with a line, behind a call or before the first: its place in the words of a line's errors.
-fn wrong(s: Step, called: bool, last: u32) -> usize {
-    match s {
-        Step::Bad(why) => return why,
-        Step::OnChip(_) => return late(called),
-        Step::External(_) => return late(called),
-        Step::Make(call) => return call_wrong(call, last),
-        Step::Nothing => return script::FINE,
+// What a line says behind a call or before the first, with register offsets up to a last one.
+fn tested(line: &[u8], called: bool, last: u32) -> Result<Option<Step>, Wrong> {
+    match script::said(line)? {
+        Some(Step::Price(_, _)) if called => Err(Wrong::Late),
+        Some(Step::Make(Call::Write(offset, _) | Call::Read(offset))) if offset > last => {
+            Err(Wrong::NoRoom)
+        }
+        step => Ok(step),
     }
 }
 
-// Whether a line is a call.
-pub(crate) fn is_call(s: Step) -> bool {
-    match s {
-        Step::Make(_) => return true,
-        Step::OnChip(_) => return false,
-        Step::External(_) => return false,
-        Step::Nothing => return false,
-        Step::Bad(_) => return false,
-    }
-}
-
-// Whether a script is good, with register offsets up to a last one; its first error is said.
-fn good(path: &[u8], t: &[u8], last: u32) -> bool {
+// Tests a script's lines, with register offsets up to a last one; its first error is said.
+fn test(rt: HostRuntime, path: &[u8], t: &[u8], last: u32) -> Result<(), Failure> {
     let mut called = false;
-    let mut number: u64 = 0;
-    let mut at = 0;
-    while at < t.len() {
-        let s = script::said(parse::line(t, at));
-        let why = wrong(s, called, last);
-        number += 1;
-        if why != script::FINE {
-            list::at_line(path, number);
-            script::say(why);
-            return false;
+    let mut number = 0u64;
+    for line in t.split(|b| *b == b'\n') {
+        number = number.wrapping_add(1);
+        match tested(parse::without_return(line), called, last) {
+            Ok(Some(Step::Make(_))) => called = true,
+            Ok(_) => {}
+            Err(wrong) => {
+                failure::say(rt, format_args!("{}{wrong}\n", At(path, number)));
+                return Err(Failure::Wrong);
+            }
         }
-        called = called | is_call(s);
-        at = parse::next_line(t, at);
     }
-    true
+    Ok(())
 }
 
-// A script's bytes, read from its file, with register offsets up to a last one; or its first error said.
-pub(crate) fn load(rt: HostRuntime, path: &[u8], t: &mut [u8], last: u32) -> Got {
-    let got = files::read(rt, path, t);
-    match got {
-        Got::Bytes(n) => {
-            if n >= list::TEXT {
-                list::at_line(path, 0);
-                text::put(text::ERR, b"the text is longer than 262144 bytes\n");
-                return Got::Failed;
-            }
-            if good(path, parse::cut(t, 0, n), last) {
-                return Got::Bytes(n);
-            }
-            return Got::Failed;
-        }
-        Got::Failed => return Got::Failed,
+// A script's bytes, read from its file, with register offsets up to a last one; its first error is said.
+pub(crate) fn load<'a>(
+    rt: HostRuntime,
+    path: &[u8],
+    room: &'a mut [u8],
+    last: u32,
+) -> Result<&'a [u8], Failure> {
+    let t = files::read(rt, path, room)?;
+    if t.len() >= list::TEXT {
+        let at = At(path, 0);
+        failure::say(
+            rt,
+            format_args!("{at}the text is longer than 262144 bytes\n"),
+        );
+        return Err(Failure::Wrong);
     }
+    test(rt, path, t, last)?;
+    Ok(t)
 }
 
-// Prices after a line.
-fn priced(prices: Prices, s: Step) -> Prices {
-    let onchip = prices.onchip;
-    let external = prices.external;
-    match s {
-        Step::OnChip(p) => return Prices {
-            onchip: p,
-            external: external,
-        },
-        Step::External(p) => return Prices {
-            onchip: onchip,
-            external: p,
-        },
-        Step::Make(_) => return prices,
-        Step::Nothing => return prices,
-        Step::Bad(_) => return prices,
+// What a line of a good script says.
+pub(crate) fn step(line: &[u8]) -> Option<Step> {
+    script::said(parse::without_return(line)).unwrap_or(None)
+}
+
+// The call of a line.
+pub(crate) fn call(line: &[u8]) -> Option<Call> {
+    match step(line) {
+        Some(Step::Make(call)) => Some(call),
+        _ => None,
     }
 }
 
 // The prices of a script, nothing where it gives none.
-pub(crate) fn prices_of(t: &[u8]) -> Prices {
-    let mut p = Prices {
+pub(crate) fn prices(t: &[u8]) -> Prices {
+    let mut prices = Prices {
         onchip: Price::Flat(0.0),
         external: Price::Flat(0.0),
     };
-    let mut at = 0;
-    while at < t.len() {
-        p = priced(p, script::said(parse::line(t, at)));
-        at = parse::next_line(t, at);
-    }
-    p
-}
-
-// Whether a line is the price of a memory, of the external one or of the other.
-fn is_price(s: Step, external: bool) -> bool {
-    match s {
-        Step::OnChip(_) => return !external,
-        Step::External(_) => return external,
-        Step::Make(_) => return false,
-        Step::Nothing => return false,
-        Step::Bad(_) => return false,
-    }
-}
-
-// Where the last price of a memory stands in a script, or the end.
-pub(crate) fn price_at(t: &[u8], external: bool) -> usize {
-    let mut last = t.len();
-    let mut at = 0;
-    while at < t.len() {
-        if is_price(script::said(parse::line(t, at)), external) {
-            last = at;
+    for line in t.split(|b| *b == b'\n') {
+        match step(line) {
+            Some(Step::Price(Memory::OnChip, price)) => prices.onchip = price,
+            Some(Step::Price(Memory::External, price)) => prices.external = price,
+            _ => {}
         }
-        at = parse::next_line(t, at);
     }
-    last
+    prices
 }
 
-// The call of a line, none where it is no call.
-pub(crate) fn call_of(s: Step) -> Call {
-    match s {
-        Step::Make(call) => return call,
-        Step::OnChip(_) => return Call::Bad,
-        Step::External(_) => return Call::Bad,
-        Step::Nothing => return Call::Bad,
-        Step::Bad(_) => return Call::Bad,
-    }
-}
-
-// A line's words, a blank before each.
-pub(crate) fn words(c: &[u8]) -> bool {
-    let mut ok = true;
-    let mut k = 0;
-    while k < WORDS {
-        let w = parse::word(c, k);
-        if w.len() > 0 {
-            ok = ok & text::put(text::OUT, b" ") & text::shown(text::OUT, w);
+// The lines that give the last price of each memory, the on-chip one first.
+pub(crate) fn price_lines(t: &[u8]) -> (Option<&[u8]>, Option<&[u8]>) {
+    let mut onchip = None;
+    let mut external = None;
+    for line in t.split(|b| *b == b'\n') {
+        match step(line) {
+            Some(Step::Price(Memory::OnChip, _)) => onchip = Some(parse::without_return(line)),
+            Some(Step::Price(Memory::External, _)) => external = Some(parse::without_return(line)),
+            _ => {}
         }
-        k += 1;
     }
-    ok
+    (onchip, external)
 }

@@ -1,44 +1,57 @@
-// The second-level table that a first-level word names: its kind, where it stands, and the virtual addresses of its words.
+// The second-level table that a first-level word names: its kind, where it stands, and the virtual addresses
+// of its words.
 use walk::{First, Table};
 
-// A second-level table, by its kind and where it stands; or none.
+// A second-level table, by its kind and where it stands.
 #[derive(Clone, Copy)]
-pub enum Second {
-    At(Table, u32),
-    Nothing,
+pub struct Second {
+    pub kind: Table,
+    pub at: u32,
 }
 
-// The table that a first-level word names.
-pub(crate) fn named(w: u32) -> Second {
-    let d = walk::descriptors::decode_first(w);
-    match d {
-        First::Coarse(at) => return Second::At(Table::Coarse, at.0),
-        First::Fine(at) => return Second::At(Table::Fine, at.0),
-        First::Fault => return Second::Nothing,
-        First::Whole(_) => return Second::Nothing,
-    }
-}
-
-// The bytes of a table.
-pub(crate) fn size(t: Table) -> u32 {
+// The name of a table's kind.
+pub(crate) fn kind_name(t: Table) -> &'static str {
     match t {
-        Table::Coarse => return 1024,
-        Table::Fine => return 4096,
+        Table::Coarse => "coarse",
+        Table::Fine => "fine",
     }
 }
 
-// Whether the word at an address is one of a table that stands at another.
-pub(crate) fn holds(t: Table, table: u32, at: u32) -> bool {
-    if at < table {
-        return false;
+impl Second {
+    // The table that a first-level word names.
+    pub fn named(word: u32) -> Option<Second> {
+        match walk::descriptors::decode_first(word) {
+            First::Coarse(at) => Some(Second {
+                kind: Table::Coarse,
+                at: at.0,
+            }),
+            First::Fine(at) => Some(Second {
+                kind: Table::Fine,
+                at: at.0,
+            }),
+            First::Fault | First::Whole(_) => None,
+        }
     }
-    at - table < size(t)
-}
 
-// The virtual addresses below those of the word at an offset of a table.
-pub(crate) fn below(t: Table, offset: u32) -> u64 {
-    match t {
-        Table::Coarse => return 1024 * offset as u64,
-        Table::Fine => return 256 * offset as u64,
+    // Its bytes.
+    pub fn size(self) -> u32 {
+        match self.kind {
+            Table::Coarse => 1024,
+            Table::Fine => 4096,
+        }
+    }
+
+    // The offset of the word at an address, where it is one of the table's.
+    pub fn offset(self, at: u32) -> Option<u32> {
+        at.checked_sub(self.at)
+            .filter(|offset| *offset < self.size())
+    }
+
+    // The virtual addresses below those of the word at an offset.
+    pub fn below(self, offset: u32) -> u64 {
+        match self.kind {
+            Table::Coarse => 1024 * u64::from(offset),
+            Table::Fine => 256 * u64::from(offset),
+        }
     }
 }

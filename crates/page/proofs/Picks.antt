@@ -1,10 +1,10 @@
 -- The laws of a choice and of the two tests. Assumes nothing.
 use mathlib.Core.Path.{◌≡◌, refl, sym, ◌∙◌}
-use mathlib.Core.Bool.{Bool, true, false, ◌&&◌, ◌||◌, true≢false, false≢true}
+use mathlib.Core.Bool.{Bool, true, false, ◌&&◌, true≢false, false≢true}
 use Prim.Native.Nat.{ℕ, ◌%◌}
 use native.Mathlib.Omega.{arith}
 use lib.Dec.{eqb}
-use borrow.Author.Tests.{eq-eqb, ne_eqb}
+use borrow.Author.Tests.{eq-eqb, ne_eqb, le-leb, lt-leb, lt-ltb, le-ltb}
 use Rattle.page.specs.Pick.{pick, ◌and◌, ◌or◌}
 
 pub pick_yes : {A : Type 0} (t : Bool) (a b : A) → t ≡ true → pick t a b ≡ a
@@ -88,9 +88,5 @@ all_four true false r s = refl
 all_four true true false s = refl
 all_four true true true s = refl
 
-pub any_four : (p q r s : Bool) → (((p || q) || r) || s) ≡ (p or q or r or s)
-unfolding ◌or◌
-any_four true q r s = refl
-any_four false true r s = refl
-any_four false false true s = refl
-any_four false false false s = refl
+-- what a test of the code says of a definition that picks by it
+pub ruleset tests = (pick_yes, pick_no, and_yes, and_no, or_yes, or_no, eq-eqb, ne_eqb, le-leb, lt-leb, lt-ltb, le-ltb)

@@ -1,5 +1,6 @@
 -- The kinds of page, access rights, and the two words of a slot in register layout (01, "The unit", "Registers"):
--- CAM has the tag in 17:4 (address bits 23:10), P in 3, V in 2, the type in 1:0; RAM has the frame in 31:10, access in 9:8.
+-- CAM has the tag in 17:4 (address bits 23:10), P in 3, V in 2, the type in 1:0; RAM has the frame in 31:10, access in
+-- 9:8.
 use Rattle.std.specs.Prelude.{◌+◌, ◌-◌, ◌*◌, ◌/◌, ◌%◌, ◌^◌}
 use Rattle.page.specs.Ground.{ℕ, Bool, eqb, leb}
 use Rattle.page.specs.Pick.{pick, ◌and◌}
@@ -83,7 +84,8 @@ word_flushed cam = pick (word_preserved cam) cam (word_dropped cam)
 unfoldable pub word_flushed_at : VirtualAddress → ℕ → ℕ
 word_flushed_at va cam = pick (word_matches cam va) (word_dropped cam) cam
 
--- what a walk stores (01, "The walk"): V = 1, P = 0, the page's access, tag and frame with the bits below the page size zero
+-- what a walk stores (01, "The walk"): V = 1, P = 0, the page's access, tag and frame with the bits below the page size
+-- zero
 unfoldable pub made_cam : Kind → ℕ → ℕ
 made_cam k va = upper (low_bits k) va / 64 + 4 + type_of k
 

@@ -22,18 +22,20 @@ pub struct VirtualAddress(pub u32);
 #[derive(Clone, Copy)]
 pub struct PhysicalAddress(pub u32);
 
-#[derive(Clone, Copy)]
+// What an access does.
+#[derive(Clone, Copy, PartialEq, Eq)]
 pub enum Access {
     Read,
     Write,
 }
 
-#[derive(Clone, Copy)]
+// The kinds of page, each with the type bits that say it.
+#[derive(Clone, Copy, PartialEq, Eq)]
 pub enum Kind {
-    Section,
-    Large,
-    Small,
-    Tiny,
+    Section = 0,
+    Large = 1,
+    Small = 2,
+    Tiny = 3,
 }
 
 // A slot's two words.
@@ -44,14 +46,15 @@ pub struct Words {
 }
 
 // The kind that a word's type bits say.
+#[tactic(auto, unfolding(crate::specs::Words::kind_of, crate::specs::Pick::pick))]
 pub fn kind_of(w: u32) -> Kind
     ensures { result ≡ kind_of w }
 {
     match w % 4 {
-        0 => return Kind::Section,
-        1 => return Kind::Large,
-        2 => return Kind::Small,
-        _ => return Kind::Tiny,
+        0 => Kind::Section,
+        1 => Kind::Large,
+        2 => Kind::Small,
+        _ => Kind::Tiny,
     }
 }
 
@@ -59,12 +62,7 @@ pub fn kind_of(w: u32) -> Kind
 pub fn type_of(k: Kind) -> u32
     ensures { result ≡ type_of k }
 {
-    match k {
-        Kind::Section => return 0,
-        Kind::Large => return 1,
-        Kind::Small => return 2,
-        Kind::Tiny => return 3,
-    }
+    k as u32
 }
 
 // How many low bits of an address a page leaves alone.
@@ -72,10 +70,10 @@ pub fn low_bits(k: Kind) -> u32
     ensures { result ≡ low_bits k }
 {
     match k {
-        Kind::Section => return 20,
-        Kind::Large => return 16,
-        Kind::Small => return 12,
-        Kind::Tiny => return 10,
+        Kind::Section => 20,
+        Kind::Large => 16,
+        Kind::Small => 12,
+        Kind::Tiny => 10,
     }
 }
 
@@ -91,8 +89,7 @@ pub fn page_start(k: Kind, x: u32) -> u32
 pub fn join(k: Kind, frame: PhysicalAddress, va: VirtualAddress) -> PhysicalAddress
     ensures { result ≡ physical (joined (low_bits k) frame.0 va.0) }
 {
-    let x = page_start(k, frame.0) + (va.0 - page_start(k, va.0));
-    PhysicalAddress(x)
+    PhysicalAddress(page_start(k, frame.0) + (va.0 - page_start(k, va.0)))
 }
 
 // Whether access bits permit an access.
@@ -100,8 +97,8 @@ pub fn permitted(bits: u32, a: Access) -> bool
     ensures { result ≡ permits bits a }
 {
     match a {
-        Access::Read => return 2 <= bits,
-        Access::Write => return bits == 3,
+        Access::Read => 2 <= bits,
+        Access::Write => bits == 3,
     }
 }
 
@@ -124,10 +121,10 @@ fn reach(k: Kind) -> u32
     ensures { result ≡ 2 ^ (low_bits k - 10) }
 {
     match k {
-        Kind::Section => return 1024,
-        Kind::Large => return 64,
-        Kind::Small => return 4,
-        Kind::Tiny => return 1,
+        Kind::Section => 1024,
+        Kind::Large => 64,
+        Kind::Small => 4,
+        Kind::Tiny => 1,
     }
 }
 
@@ -136,10 +133,11 @@ pub fn matches(cam: u32, va: VirtualAddress) -> bool
     ensures { result ≡ word_matches cam va }
 {
     let apart = va.0 / 1024 ^ cam / 16;
-    valid(cam) & (apart < reach(kind_of(cam)))
+    valid(cam) && apart < reach(kind_of(cam))
 }
 
 // The physical address that a matching slot gives.
+#[tactic(auto, unfolding(crate::specs::Words::word_address))]
 pub fn translated(cam: u32, ram: u32, va: VirtualAddress) -> PhysicalAddress
     ensures { result ≡ word_address cam ram va }
 {
@@ -147,43 +145,36 @@ pub fn translated(cam: u32, ram: u32, va: VirtualAddress) -> PhysicalAddress
 }
 
 // A CAM word with V clear.
+#[tactic(auto, unfolding(crate::specs::Words::word_dropped, crate::specs::Pick::pick))]
 fn dropped(cam: u32) -> u32
     ensures { result ≡ word_dropped cam }
 {
-    if valid(cam) {
-        return cam - 4;
-    }
-    cam
+    if valid(cam) { cam - 4 } else { cam }
 }
 
 // A CAM word after a global flush.
+#[tactic(auto, unfolding(crate::specs::Words::word_flushed, crate::specs::Pick::pick))]
 pub fn flushed(cam: u32) -> u32
     ensures { result ≡ word_flushed cam }
 {
-    if cam / 8 % 2 == 1 {
-        return cam;
-    }
-    dropped(cam)
+    if cam / 8 % 2 == 1 { cam } else { dropped(cam) }
 }
 
 // A CAM word after an entry flush at an address.
+#[tactic(auto, unfolding(crate::specs::Words::word_flushed_at, crate::specs::Pick::pick))]
 pub fn flushed_at(va: VirtualAddress, cam: u32) -> u32
     ensures { result ≡ word_flushed_at va cam }
 {
-    if matches(cam, va) {
-        return dropped(cam);
-    }
-    cam
+    if matches(cam, va) { dropped(cam) } else { cam }
 }
 
 // The words of a page that a walk found.
+#[tactic(auto, unfolding(crate::specs::Words::made_cam, crate::specs::Words::made_ram))]
 pub fn made(k: Kind, frame: PhysicalAddress, access: u32, va: VirtualAddress) -> Words
     ensures { result ≡ made_words k frame access va }
 {
-    let mut cam = page_start(k, va.0);
-    cam = cam / 64 + 4;
-    cam = cam + type_of(k);
-    let mut ram = page_start(k, frame.0);
-    ram = ram + 256 * (access % 4);
-    Words { cam: cam, ram: ram }
+    Words {
+        cam: page_start(k, va.0) / 64 + 4 + type_of(k),
+        ram: page_start(k, frame.0) + 256 * (access % 4),
+    }
 }

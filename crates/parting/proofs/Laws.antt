@@ -1,7 +1,7 @@
 -- The laws of the comparison (02, P14). Assumes nothing.
-use Rattle.parting.specs.Names.{◌≡◌, Bool, false, true, List, [], ℕ, ◌+◌, ◌*◌, ◌%◌, ◌<◌, ◌≤◌, eqb, length, ltb, take, drop, not, pick, ◌and◌, Bytes, bytes_of, word_at, Owner, Comparison}
+use Rattle.parting.specs.Names.{◌≡◌, Bool, false, true, List, [], ℕ, ◌+◌, ◌*◌, ◌%◌, ◌<◌, ◌≤◌, eqb, length, ltb, take, drop, not, pick, ◌and◌, Bytes, bytes_of, word_at, Owner, Parting, Option, None}
 use Rattle.parting.proofs.Names.{refl, sym, ap, subst, ◌∙◌, arith, eq-eqb, le-ltb, lt-ltb, pick_by, pick_yes, pick_no, and_left, and_right, and_yes}
-use Rattle.parting.proofs.Names.{differing, first_differing, common, agreed, whole_words, owner_at, owner_number, owner_of, start_of, of_owner, part_bytes}
+use Rattle.parting.proofs.Names.{differing, first_differing, common, agreed, whole_words, owner_at, owner_number, owner_of, start_of, of_owner, part_bytes, parted}
 use Rattle.parting.proofs.Names.{comparison_of, comparison_number, comparison_owner, comparison_start}
 use mathlib.Core.Bool.{false≢true}
 use mathlib.Core.Logic.{inl, inr}
@@ -53,11 +53,11 @@ module _ (a b : List ℕ) where
   unfolding whole_words
   is_whole e = and_yes _ _ (eq-eqb _ _ e.0) ∙ eq-eqb _ _ e.1
 
-  bad-whole : comparison_of a b ≡ Comparison.BadLength → whole ≡ false
+  bad-whole : comparison_of a b ≡ None → whole ≡ false
   unfolding comparison_of
   bad-whole e =
       by_whole
-      (λ h. absurd (omega (arith, ap comparison_number (sym (pick_yes whole (Comparison.Parted (owner_of a b) (start_of a b) _) Comparison.BadLength h) ∙ e))))
+      (λ h. absurd (omega (arith, ap comparison_number (sym (pick_yes whole (parted (owner_of a b) (start_of a b) _) None h) ∙ e))))
       (λ h. h)
 
   refused-exactly : RefusedExactly a b
@@ -70,10 +70,10 @@ module _ (a b : List ℕ) where
   unfolding comparison_of
   says_where =
       by_whole
-      (λ h. let e = pick_yes whole (Comparison.Parted (owner_of a b) (start_of a b) (differing a b (common a b))) Comparison.BadLength h in
-      (ap comparison_owner e, ap (λ (c : Comparison). comparison_start c (length a)) e))
+      (λ h. let e = pick_yes whole (parted (owner_of a b) (start_of a b) (differing a b (common a b))) None h in
+      (ap comparison_owner e, ap (λ (c : Option Parting). comparison_start c (length a)) e))
       (λ h. let e = sym (refused-is a b h) in
-      (ap comparison_owner e ∙ sym (owner_refused a b h), ap (λ (c : Comparison). comparison_start c (length a)) e ∙ sym (start-refused a b h)))
+      (ap comparison_owner e ∙ sym (owner_refused a b h), ap (λ (c : Option Parting). comparison_start c (length a)) e ∙ sym (start-refused a b h)))
 
   -- the start lies in both images where nothing is refused
   abbrev first : ℕ

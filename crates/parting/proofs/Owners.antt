@@ -1,9 +1,29 @@
 -- Whose the part is, where it begins, and what the second call says. Assumes nothing.
 use denote.Ref.{Bor}
-use Rattle.parting.specs.Names.{◌≡◌, false, true, List, ℕ, ◌+◌, ◌*◌, ◌≤◌, drop, length, Bor, Owner, Comparison}
-use Rattle.parting.proofs.Names.{sym, ap, ap₂, ◌∙◌, arith, pick_yes, pick_no, common, agreed, differing, first_differing, whole_words, owner_at, owner_of, start_of}
-use Rattle.parting.proofs.Names.{of_owner, start_in, part_bytes, part_source, comparison_of}
+use Rattle.parting.specs.Names.{◌≡◌, ◌<◌, ◌⊎◌, false, true, List, ℕ, ◌+◌, ◌*◌, ◌≤◌, drop, length, Bor, Owner, None}
+use Rattle.parting.proofs.Names.{sym, ap, ap₂, ◌∙◌, arith, eq-eqb, ne_eqb, le-ltb, lt-ltb, pick_yes, pick_no, common, agreed, differing, first_differing, whole_words, owner_at, owner_of, start_of}
+use Rattle.parting.proofs.Names.{of_owner, start_in, part_bytes, part_source, parted, comparison_of}
+use mathlib.Core.Logic.{inl, inr}
 use Rattle.parting.proofs.Counting.{count_none, first_to, none_before}
+
+-- the owner by the three lengths
+pub signed_at : (k n m : ℕ) → k ≡ n → n < m → Owner.Signed ≡ owner_at k n m
+unfolding owner_at
+signed_at k n m e h = sym (pick_yes _ _ _ (eq-eqb _ _ e) ∙ pick_yes _ _ _ (lt-ltb _ _ h))
+
+pub new_past : (k n m : ℕ) → k ≡ n → m ≤ n → Owner.New ≡ owner_at k n m
+unfolding owner_at
+new_past k n m e h = sym (pick_yes _ _ _ (eq-eqb _ _ e) ∙ pick_no _ _ _ (le-ltb _ _ h))
+
+pub new_before : (k n m : ℕ) → (k ≡ n → ⊥) → Owner.New ≡ owner_at k n m
+unfolding owner_at
+new_before k n m h = sym (pick_no _ _ _ (ne_eqb _ _ h))
+
+pub new_at : (k n m : ℕ) → (k ≡ n) × (m ≤ n) ⊎ (k ≡ n → ⊥) → Owner.New ≡ owner_at k n m
+new_at k n m (inl h) = new_past k n m h.0 h.1
+new_at k n m (inr h) = new_before k n m h
+
+pub ruleset owners = (arith, signed_at, new_past, new_before, new_at)
 
 -- a part of its image, by its owner and its start
 pub part_is : (new signed : Bor (List ℕ)) (o : Owner) (k : ℕ) → owner_of new.now signed.now ≡ o → start_of new.now signed.now ≡ k
@@ -22,7 +42,7 @@ module _ (a b : List ℕ) where
   unfolding start_of
   start-refused h = pick_no _ _ _ h
 
-  pub refused-is : whole_words (length a) (length b) ≡ false → Comparison.BadLength ≡ comparison_of a b
+  pub refused-is : whole_words (length a) (length b) ≡ false → None ≡ comparison_of a b
   unfolding comparison_of
   refused-is h = sym (pick_no _ _ _ h)
 
@@ -56,13 +76,13 @@ module _ (a b : List ℕ) where
         y ∙ ap (differing a b) e
 
     pub parted-is : (o : Owner) (d : ℕ) → whole_words (length a) (length b) ≡ true → o ≡ owner_at (4 * w) (length a) (length b)
-        → differing a b c ≡ differing a b w + d → Comparison.Parted o (4 * w) d ≡ comparison_of a b
+        → differing a b c ≡ differing a b w + d → parted o (4 * w) d ≡ comparison_of a b
     unfolding comparison_of
     parted-is o d h g i =
-        ap₂ (λ (p : Owner) (k : ℕ). Comparison.Parted p k d)
+        ap₂ (λ (p : Owner) (k : ℕ). parted p k d)
         (g ∙ ap (λ (k : ℕ). owner_at k (length a) (length b)) agreed-is ∙ sym (owner_good h))
         (agreed-is ∙ sym (start-good h))
-        ∙ ap (Comparison.Parted (owner_of a b) (start_of a b)) (count-is d i)
+        ∙ ap (parted (owner_of a b) (start_of a b)) (count-is d i)
         ∙ sym (pick_yes _ _ _ h)
 
 -- the part of images of whole words, by its owner

@@ -1,6 +1,6 @@
 -- Where two images part (02, P14): the first word that differs, whose the part is that remains, and how many words differ.
 use Rattle.std.specs.Prelude.{◌+◌, ◌*◌, ◌/◌, ◌%◌}
-use Rattle.parting.specs.Names.{ℕ, zero, suc, Bool, not, List, eqb, ltb, length, drop, min, ◌and◌, pick, Bor, word_at, Owner, Comparison}
+use Rattle.parting.specs.Names.{ℕ, zero, suc, Bool, not, List, eqb, ltb, length, drop, min, ◌and◌, pick, Bor, word_at, Owner, Parting, Option, Some, None}
 
 -- refusal 4 asks of two lengths that they are multiples of 4
 unfoldable pub whole_words : ℕ → ℕ → Bool
@@ -60,26 +60,29 @@ start_in k image = (image.ref_ptr.0, k + image.ref_ptr.1)
 abbrev pub part_source : Bor (List ℕ) → Bor (List ℕ) → ℕ × ℕ
 part_source new signed = start_in (start_of new.now signed.now) (of_owner (owner_of new.now signed.now) new signed)
 
--- the second call: a refusal, or whose the part is, where it begins and how many words differ over the common length
-unfoldable pub comparison_of : List ℕ → List ℕ → Comparison
+-- the second call: whose the part is, where it begins and how many words differ over the common length; nothing under refusal 4
+abbrev pub parted : Owner → ℕ → ℕ → Option Parting
+parted o k d = Some (record { owner = o; start = k; words = d })
+
+unfoldable pub comparison_of : List ℕ → List ℕ → Option Parting
 comparison_of new signed =
     pick (whole_words (length new) (length signed))
-    (Comparison.Parted (owner_of new signed) (start_of new signed) (differing new signed (common new signed)))
-    Comparison.BadLength
+    (parted (owner_of new signed) (start_of new signed) (differing new signed (common new signed)))
+    None
 
 -- the paper's number of an answer, 0 where nothing is refused; whose the part is; where it begins, of a new image of n bytes; how many words differ
-abbrev pub comparison_number : Comparison → ℕ
-comparison_number Comparison.BadLength = 4
-comparison_number (Comparison.Parted o k d) = 0
+abbrev pub comparison_number : Option Parting → ℕ
+comparison_number None = 4
+comparison_number (Some p) = 0
 
-abbrev pub comparison_owner : Comparison → Owner
-comparison_owner Comparison.BadLength = Owner.New
-comparison_owner (Comparison.Parted o k d) = o
+abbrev pub comparison_owner : Option Parting → Owner
+comparison_owner None = Owner.New
+comparison_owner (Some p) = p.owner
 
-abbrev pub comparison_start : Comparison → ℕ → ℕ
-comparison_start Comparison.BadLength n = n
-comparison_start (Comparison.Parted o k d) n = k
+abbrev pub comparison_start : Option Parting → ℕ → ℕ
+comparison_start None n = n
+comparison_start (Some p) n = p.start
 
-abbrev pub comparison_words : Comparison → ℕ
-comparison_words Comparison.BadLength = 0
-comparison_words (Comparison.Parted o k d) = d
+abbrev pub comparison_words : Option Parting → ℕ
+comparison_words None = 0
+comparison_words (Some p) = p.words

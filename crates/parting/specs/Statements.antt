@@ -1,23 +1,23 @@
 -- What the laws of this crate say (02, P14): when the part is empty, what comes before it, where it begins, and when no word differs.
 use Rattle.std.specs.Prelude.{◌*◌, ◌%◌, ◌<◌, ◌≤◌, ◌≡◌, ◌∷◌, ◌⊎◌}
-use Rattle.parting.specs.Names.{ℕ, List, [], length, take, Bytes, bytes_of, word_at, Owner, Comparison}
-use Rattle.parting.specs.Parting.{common, differing, owner_of, start_of, part_bytes, comparison_of, comparison_owner, comparison_start}
+use Rattle.parting.specs.Names.{ℕ, List, [], length, take, Bytes, bytes_of, word_at, Owner, Parting, Option, None}
+use Rattle.parting.specs.Parting.{common, differing, owner_of, start_of, part_bytes, parted, comparison_of, comparison_owner, comparison_start}
 
 -- refused exactly where a length is no multiple of 4
 abbrev pub RefusedExactly : List ℕ → List ℕ → Type 0
 RefusedExactly new signed =
-    (comparison_of new signed ≡ Comparison.BadLength → (length new % 4 ≡ 0) × (length signed % 4 ≡ 0) → ⊥)
-    × (((length new % 4 ≡ 0) × (length signed % 4 ≡ 0) → ⊥) → comparison_of new signed ≡ Comparison.BadLength)
+    (comparison_of new signed ≡ None → (length new % 4 ≡ 0) × (length signed % 4 ≡ 0) → ⊥)
+    × (((length new % 4 ≡ 0) × (length signed % 4 ≡ 0) → ⊥) → comparison_of new signed ≡ None)
 
 -- the part is empty exactly where the images are equal or the call is refused
 abbrev pub EmptyExactly : List ℕ → List ℕ → Type 0
 EmptyExactly new signed =
-    (part_bytes new signed ≡ [] → (new ≡ signed) ⊎ (comparison_of new signed ≡ Comparison.BadLength))
-    × ((new ≡ signed) ⊎ (comparison_of new signed ≡ Comparison.BadLength) → part_bytes new signed ≡ [])
+    (part_bytes new signed ≡ [] → (new ≡ signed) ⊎ (comparison_of new signed ≡ None))
+    × ((new ≡ signed) ⊎ (comparison_of new signed ≡ None) → part_bytes new signed ≡ [])
 
 -- what comes before it agrees, to the byte
 abbrev pub AgreesBefore : List ℕ → List ℕ → Type 0
-AgreesBefore new signed = (comparison_of new signed ≡ Comparison.BadLength → ⊥) → take (start_of new signed) new ≡ take (start_of new signed) signed
+AgreesBefore new signed = (comparison_of new signed ≡ None → ⊥) → take (start_of new signed) new ≡ take (start_of new signed) signed
 
 -- the first word of a part of the new one differs, or lies past the signed one's end
 abbrev pub NewParts : List ℕ → List ℕ → Type 0
@@ -54,13 +54,13 @@ abbrev pub ImagesPart : Type 0
 ImagesPart = (new signed : List ℕ) → Bytes new → Bytes signed → Parts new signed
 
 -- two images of words: what the two calls give
-abbrev pub WorkedAs : List ℕ → List ℕ → Comparison → List ℕ → Type 0
+abbrev pub WorkedAs : List ℕ → List ℕ → Option Parting → List ℕ → Type 0
 WorkedAs new signed c rest = (comparison_of (bytes_of new) (bytes_of signed) ≡ c) × (part_bytes (bytes_of new) (bytes_of signed) ≡ bytes_of rest)
 
 -- the paper's cases, each on two images
 pub record CasesWorked : Type 0 where
-  pub differ : WorkedAs (7 ∷ 8 ∷ 9 ∷ []) (7 ∷ 5 ∷ 9 ∷ 6 ∷ []) (Comparison.Parted Owner.New 4 1) (8 ∷ 9 ∷ [])
-  pub shorter : WorkedAs (7 ∷ []) (7 ∷ 8 ∷ []) (Comparison.Parted Owner.Signed 4 0) (8 ∷ [])
-  pub longer : WorkedAs (7 ∷ 8 ∷ []) (7 ∷ []) (Comparison.Parted Owner.New 4 0) (8 ∷ [])
-  pub equal : WorkedAs (7 ∷ 8 ∷ []) (7 ∷ 8 ∷ []) (Comparison.Parted Owner.New 8 0) []
-  pub uneven : (comparison_of (7 ∷ []) [] ≡ Comparison.BadLength) × (part_bytes (7 ∷ []) [] ≡ [])
+  pub differ : WorkedAs (7 ∷ 8 ∷ 9 ∷ []) (7 ∷ 5 ∷ 9 ∷ 6 ∷ []) (parted Owner.New 4 1) (8 ∷ 9 ∷ [])
+  pub shorter : WorkedAs (7 ∷ []) (7 ∷ 8 ∷ []) (parted Owner.Signed 4 0) (8 ∷ [])
+  pub longer : WorkedAs (7 ∷ 8 ∷ []) (7 ∷ []) (parted Owner.New 4 0) (8 ∷ [])
+  pub equal : WorkedAs (7 ∷ 8 ∷ []) (7 ∷ 8 ∷ []) (parted Owner.New 8 0) []
+  pub uneven : (comparison_of (7 ∷ []) [] ≡ None) × (part_bytes (7 ∷ []) [] ≡ [])

@@ -1,10 +1,15 @@
 -- What the definitions of this crate are written with.
+pub use Rattle.decision.specs.declared.ShiftError.{ShiftError}
+pub use Rattle.std.specs.Prelude.{Result, Ok, Err}
+pub use Rattle.walk.specs.declared.Unfound.{Unfound}
+pub use Rattle.walk.specs.declared.Page.{Page}
+pub use Rattle.std.specs.Prelude.{Option, Some, None}
 pub use Rattle.std.specs.Prelude.{◌%◌, ◌/◌, ◌<◌, ◌≡◌}
 pub use Rattle.bank.specs.Changes.{bank_flushed, bank_flushed_at, copied, entry_filled, loaded, locked_at}
-pub use Rattle.bank.specs.InPlace.{Spanned, bank_of}
+pub use Rattle.bank.specs.InPlace.{IsSpanned}
 pub use Rattle.bank.specs.Slots.{fresh_bank}
 pub use Rattle.bank.specs.declared.Bank.{Bank}
-pub use Rattle.bank.specs.declared.Fill.{Fill}
+pub use Rattle.bank.specs.declared.slots.Slots.{Slots}
 unfoldable pub use Rattle.bill.specs.Bill.{attempt_posted}
 pub use Rattle.bill.specs.Bill.{reads_posted, seen_posted, word_posted}
 pub use Rattle.bill.specs.declared.Bill.{Bill}
@@ -15,10 +20,8 @@ unfoldable pub use Rattle.decision.specs.Prefetches.{prefetch_decided}
 pub use Rattle.decision.specs.Prefetches.{prefetch_kept, shift_by}
 pub use Rattle.decision.specs.declared.Decision.{Decision}
 pub use Rattle.decision.specs.declared.Said.{Said}
-pub use Rattle.decision.specs.declared.Shift.{Shift}
 pub use Rattle.lanes.specs.Lanes.{cam_limit, cams_ok, looked_up}
-pub use Rattle.lanes.specs.declared.Matched.{Matched}
-pub use Rattle.memory.specs.Memory.{Lent, lent}
+pub use Rattle.memory.specs.Memory.{Lent, lent, lent_of}
 pub use Rattle.memory.specs.Reads.{last_place, word_count}
 pub use Rattle.memory.specs.declared.Place.{Place}
 pub use Rattle.meters.specs.Posted.{no_tally}
@@ -41,10 +44,10 @@ pub use Rattle.registers.specs.Fields.{entry_of, fresh_registers, is_on, is_walk
 unfoldable pub use Rattle.registers.specs.Table.{value_at}
 pub use Rattle.registers.specs.declared.Answer.{Answer}
 pub use Rattle.registers.specs.declared.Fault.{Fault}
-pub use Rattle.registers.specs.declared.Pending.{Pending}
+pub use Rattle.registers.specs.declared.Stall.{Stall}
+pub use Rattle.registers.specs.Answers.{stall}
 pub use Rattle.registers.specs.declared.Registers.{Registers}
 pub use Rattle.walk.specs.Descriptors.{Room, physical_of}
 pub use Rattle.walk.specs.Walk.{after_second, by_first, walk_within}
 unfoldable pub use Rattle.walk.specs.Walk.{read_within}
-pub use Rattle.walk.specs.declared.Found.{Found}
 pub use Rattle.walk.specs.declared.Walked.{Walked}

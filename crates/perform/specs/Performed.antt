@@ -1,28 +1,31 @@
 -- What a plan leaves of a device's parts, and says (01, "The unit", "The walk", "Registers").
 -- Internal, for the code: the machine that is signed is unit/specs/Calls.antt and Machine.antt.
+use Rattle.std.specs.Prelude.{Option, None}
+use Rattle.std.specs.Prelude.{Err}
+use Rattle.decision.specs.declared.ShiftError.{ShiftError}
 use Rattle.std.specs.Prelude.{◌<◌, ◌≡◌, ◌/◌, ◌%◌}
 use Rattle.perform.specs.Names.{ℕ, List, true, false, limit, Access, VirtualAddress, Lent, Place, word_count, last_place, no_tally, Tally}
 use Rattle.perform.specs.Names.{Prices, Bill, cam_limit, cams_ok, fresh_bank, entry_filled, locked_at, bank_flushed, bank_flushed_at, loaded, copied}
 use Rattle.perform.specs.Names.{Bank, walk_within, Walked, is_on, is_walking, fresh_registers, setting, with_prefetch, with_copied, words_of, entry_of}
-use Rattle.perform.specs.Names.{cam_address, value_at, Answer, Pending, Registers, decided, settled, tally_of, billed, prefetch_decided}
-use Rattle.perform.specs.Names.{prefetch_kept, shift_by, Decision, Said, Shift, setting_at, Plan, Reason, bank_of, Spanned, Performed}
+use Rattle.perform.specs.Names.{cam_address, value_at, Answer, Stall, Registers, decided, settled, tally_of, billed, prefetch_decided}
+use Rattle.perform.specs.Names.{prefetch_kept, shift_by, Decision, Said, setting_at, Plan, Reason, Performed}
 
 -- what a call leaves of the parts, and says; from is where the last word of its walk lies, nowhere where it made none
 pub record Done : Type 0 where
   pub registers : Registers
   pub bank : Bank
-  pub pending : Pending
+  pub pending : Option Stall
   pub bill : Bill
   pub tally : Tally
   pub said : Said
   pub from : Place
 
 -- a call that charges nothing leaves the bill as it is and adds nothing to the meters
-abbrev pub uncharged : Registers → Bank → Pending → Bill → Said → Place → Done
+abbrev pub uncharged : Registers → Bank → Option Stall → Bill → Said → Place → Done
 uncharged r k q b s f = record { registers = r; bank = k; pending = q; bill = b; tally = no_tally; said = s; from = f }
 
 -- as one that reads no word
-abbrev pub quietly : Registers → Bank → Pending → Bill → Said → Done
+abbrev pub quietly : Registers → Bank → Option Stall → Bill → Said → Done
 quietly r k q b s = uncharged r k q b s Place.Nowhere
 
 -- what an attempt comes to, where w is what the plain walk of its address gives
@@ -44,7 +47,7 @@ registers_for Reason.Retry r va x = r
 registers_for Reason.Prefetch r va x = with_prefetch r (prefetch_kept (va.0 / 1024 % 16384) r.prefetch x)
 
 -- the slots, the pending fault and the bill after an attempt's decision
-abbrev pub ended_for : Prices → Bill → Reason → Registers → Bank → Pending → VirtualAddress → Access → Decision → Done
+abbrev pub ended_for : Prices → Bill → Reason → Registers → Bank → Option Stall → VirtualAddress → Access → Decision → Done
 ended_for p b e r k q va a x = record {
   registers = registers_for e r va x.answer;
   bank = entry_filled k x.fill;
@@ -56,16 +59,16 @@ ended_for p b e r k q va a x = record {
 }
 
 -- over memories that were tried
-abbrev pub attempt_done : Lent → Prices → Bill → Reason → Registers → Bank → Pending → VirtualAddress → Access → Done
+abbrev pub attempt_done : Lent → Prices → Bill → Reason → Registers → Bank → Option Stall → VirtualAddress → Access → Done
 attempt_done m p b e r k q va a =
     ended_for p b e r k q va a (decided_for e (walk_within m r.base.0 va.0) r.control k.cam k.ram va a)
 
 -- a shift report, where w is what the plain walk of its address gives
-abbrev pub report_done : Bill → Registers → Bank → Pending → VirtualAddress → Walked → Done
+abbrev pub report_done : Bill → Registers → Bank → Option Stall → VirtualAddress → Walked → Done
 report_done b r k q va w = uncharged r k q b (Said.Reported (shift_by va w.found)) (last_place w.reads)
 
 -- what is planned, done
-abbrev pub performed : Lent → Prices → Bill → Registers → Bank → Pending → Plan → Done
+abbrev pub performed : Lent → Prices → Bill → Registers → Bank → Option Stall → Plan → Done
 performed m p b r k q (Plan.Refused n) = quietly r k q b (Said.Answered (Answer.Refused n))
 performed m p b r k q Plan.Done = quietly r k q b (Said.Answered Answer.Done)
 performed m p b r k q (Plan.Show o) = quietly r k q b (Said.Answered (value_at o r k.lock k.victim q))
@@ -75,33 +78,24 @@ performed m p b r k q Plan.Flush = quietly r (bank_flushed k) q b (Said.Answered
 performed m p b r k q Plan.FlushEntry = quietly r (bank_flushed_at k (cam_address r.staged)) q b (Said.Answered Answer.Done)
 performed m p b r k q Plan.Load = quietly r (loaded k (words_of r.staged)) q b (Said.Answered Answer.Done)
 performed m p b r k q Plan.Copy = quietly (with_copied r (entry_of (copied k))) k q b (Said.Answered Answer.Done)
-performed m p b r k q Plan.Reset = quietly fresh_registers fresh_bank Pending.Nothing b (Said.Answered Answer.Done)
-performed m p b r k q Plan.Drop = quietly r k Pending.Nothing b (Said.Answered Answer.Done)
+performed m p b r k q Plan.Reset = quietly fresh_registers fresh_bank None b (Said.Answered Answer.Done)
+performed m p b r k q Plan.Drop = quietly r k None b (Said.Answered Answer.Done)
 performed m p b r k q (Plan.Attempt a e va) = attempt_done m p b e r k q va a
 performed m p b r k q (Plan.Shift va) = report_done b r k q va (walk_within m r.base.0 va.0)
-performed m p b r k q (Plan.Unreported n) = quietly r k q b (Said.Reported (Shift.Refused n))
+performed m p b r k q (Plan.Unreported n) = quietly r k q b (Said.Reported (Err (ShiftError.Refused n)))
 
 -- what charges nothing, handed back by value, and what reads no word
-abbrev pub uncharged_performed : Registers → ℕ → ℕ → Pending → Bill → Said → Place → Performed
-uncharged_performed r lock victim q b s f = record {
-  registers = r;
-  lock = lock;
-  victim = victim;
-  pending = q;
-  bill = b;
-  tally = no_tally;
-  said = s;
-  from = f;
-}
+abbrev pub uncharged_performed : Registers → Option Stall → Bill → Said → Place → Performed
+uncharged_performed r q b s f = record { registers = r; pending = q; bill = b; tally = no_tally; said = s; from = f }
 
-abbrev pub quiet_performed : Registers → ℕ → ℕ → Pending → Bill → Said → Performed
-quiet_performed r lock victim q b s = uncharged_performed r lock victim q b s Place.Nowhere
+abbrev pub quiet_performed : Registers → Option Stall → Bill → Answer → Performed
+quiet_performed r q b x = uncharged_performed r q b (Said.Answered x) Place.Nowhere
 
--- what is handed back by value, with the lanes as they then are
-abbrev pub done_of : Performed → List ℕ → List ℕ → Done
-done_of x cam ram = record {
+-- what is handed back by value, with the slots as they then are
+abbrev pub done_of : Performed → Bank → Done
+done_of x k = record {
   registers = x.registers;
-  bank = bank_of cam ram x.lock x.victim;
+  bank = k;
   pending = x.pending;
   bill = x.bill;
   tally = x.tally;
@@ -139,8 +133,3 @@ Fit c cam lock victim Plan.Drop = Unit {0}
 Fit c cam lock victim (Plan.Attempt a e va) = Fits c cam lock victim e va
 Fit c cam lock victim (Plan.Shift va) = Unit {0}
 Fit c cam lock victim (Plan.Unreported n) = Unit {0}
-
--- the parts after a plan are as they should be
-pub record Performs (should : Done) (x : Performed) (cam ram lows highs : List ℕ) : Type 0 where
-  pub is : done_of x cam ram ≡ should
-  pub spanned : Spanned cam lows highs

@@ -1,20 +1,20 @@
 #![tactic(auto)]
-// A plan performed: on the lanes of the slots in place, on the rest of the parts by value.
+// A plan performed: on the slots in place, on the rest of the parts by value.
 ghost use Rattle.std.specs.Prelude.{◌≡◌};
-ghost use Rattle.perform.specs.Names.{lent, setting, bank_of, Spanned, setting_at};
-ghost use Rattle.perform.specs.Performed.{performed, uncharged_performed, quiet_performed, Fit, Performs};
+ghost use Rattle.perform.specs.Names.{IsSpanned, lent_of, setting, setting_at};
+ghost use Rattle.perform.specs.Performed.{performed, done_of, uncharged_performed, quiet_performed, Fit};
 
-use bank::Fill;
+use attempt::Attempt;
+use bank::slots::Slots;
 use bill::Bill;
-use decision::{Said, Shift};
-use lanes::SLOTS;
-use memory::Place;
+use decision::{Said, ShiftError};
+use memory::{Memories, Place};
 use meters::Tally;
-use page::{PhysicalAddress, Words};
+use page::Words;
 use plan::Plan;
 use prices::Prices;
-use registers::{Answer, Pending, Registers, offsets};
-use walk::Found;
+use registers::{Answer, Entry, Registers, Stall, offsets};
+use walk::{Page, Unfound};
 
 mod attempt;
 mod charge;
@@ -22,7 +22,7 @@ mod charge;
 // What a walk finds, how many words it read, where the last one lies, and the bill after them.
 #[derive(Clone, Copy)]
 pub(crate) struct Charged {
-    found: Found,
+    found: Result<Page, Unfound>,
     words: u32,
     from: Place,
     bill: Bill,
@@ -31,21 +31,19 @@ pub(crate) struct Charged {
 // What an attempt puts into the slots, leaves and says.
 #[derive(Clone, Copy)]
 pub(crate) struct After {
-    fill: Fill,
-    pending: Pending,
+    fill: Option<Words>,
+    pending: Option<Stall>,
     bill: Bill,
     tally: Tally,
     answer: Answer,
     from: Place,
 }
 
-// What a plan leaves of the parts beside the lanes, and says: from is where the last word of a walk lies, nowhere where none was made.
+// What a plan leaves beside the slots, and says: from is where the last word of a walk lies, nowhere where none was made.
 #[derive(Clone, Copy)]
 pub struct Performed {
     pub registers: Registers,
-    pub lock: u8,
-    pub victim: u8,
-    pub pending: Pending,
+    pub pending: Option<Stall>,
     pub bill: Bill,
     pub tally: Tally,
     pub said: Said,
@@ -53,200 +51,140 @@ pub struct Performed {
 }
 
 // A register set, by its offset and the bits that are kept.
+#[tactic(auto, unfolding(page::specs::Pick::pick, plan::specs::Plans::setting_at))]
 fn set(r: Registers, offset: u32, v: u16) -> Registers
     ensures { result ≡ setting r (setting_at offset v) }
 {
     let mut s = r;
     match offset {
-        offsets::CONTROL => {
-            s.control = v;
-            s
-        }
-        offsets::BASE_HIGH => {
-            let b = PhysicalAddress((v as u32) * 65536 + r.base.0 % 65536);
-            s.base = b;
-            s
-        }
-        offsets::BASE_LOW => {
-            let b = PhysicalAddress(r.base.0 / 65536 * 65536 + (v as u32));
-            s.base = b;
-            s
-        }
-        offsets::CAM_HIGH => {
-            s.staged.camhi = v;
-            s
-        }
-        offsets::CAM_LOW => {
-            s.staged.camlo = v;
-            s
-        }
-        offsets::RAM_HIGH => {
-            s.staged.ramhi = v;
-            s
-        }
-        _ => {
-            s.staged.ramlo = v;
-            s
-        }
+        offsets::CONTROL => s.control = v,
+        offsets::BASE_HIGH => s.base.0 = (v as u32) * 65536 + r.base.0 % 65536,
+        offsets::BASE_LOW => s.base.0 = r.base.0 / 65536 * 65536 + (v as u32),
+        offsets::CAM_HIGH => s.staged.camhi = v,
+        offsets::CAM_LOW => s.staged.camlo = v,
+        offsets::RAM_HIGH => s.staged.ramhi = v,
+        _ => s.staged.ramlo = v,
     }
+    s
 }
 
 // What charges nothing.
 fn uncharged(
-    r: Registers,
-    lock: u8,
-    victim: u8,
-    p: Pending,
+    registers: Registers,
+    pending: Option<Stall>,
     bill: Bill,
     said: Said,
     from: Place,
 ) -> Performed
-    ensures { result ≡ uncharged_performed r lock victim p bill said from }
+    ensures { result ≡ uncharged_performed registers pending bill said from }
 {
     Performed {
-        registers: r,
-        lock: lock,
-        victim: victim,
-        pending: p,
-        bill: bill,
+        registers,
+        pending,
+        bill,
         tally: Tally::zero(),
-        said: said,
-        from: from,
+        said,
+        from,
     }
 }
 
 // What reads no word.
-fn quietly(r: Registers, lock: u8, victim: u8, p: Pending, bill: Bill, said: Said) -> Performed
-    ensures { result ≡ quiet_performed r lock victim p bill said }
+fn quietly(registers: Registers, pending: Option<Stall>, bill: Bill, answer: Answer) -> Performed
+    ensures { result ≡ quiet_performed registers pending bill answer }
 {
-    uncharged(r, lock, victim, p, bill, said, Place::Nowhere)
+    uncharged(
+        registers,
+        pending,
+        bill,
+        Said::Answered(answer),
+        Place::Nowhere,
+    )
 }
 
-// What is planned, done. For a caller that has tried the memories, whose lanes of ends are those of the slots.
-pub fn perform<'a>(
+// What is planned, done. For a caller that has tried the memories.
+pub fn perform(
     plan: Plan,
-    cam: &mut [u32; SLOTS],
-    ram: &mut [u32; SLOTS],
-    lows: &mut [u16; SLOTS],
-    highs: &mut [u16; SLOTS],
+    slots: &mut Slots,
     r: Registers,
-    lock: u8,
-    victim: u8,
-    p: Pending,
+    pending: Option<Stall>,
     bill: Bill,
-    on: &'a [u8],
-    onbase: PhysicalAddress,
-    ext: &'a [u8],
-    extbase: PhysicalAddress,
+    memories: &Memories,
     prices: Prices,
 ) -> Performed
-    ensures { Spanned cam.old lows.old highs.old → Fit r.control cam.old lock victim plan
-        → Performs (performed (lent on.now onbase.0 ext.now extbase.0) prices bill r (bank_of cam.old ram.old lock victim) p plan)
-        result cam.new ram.new lows.new highs.new }
+    ensures done { IsSpanned slots.old → Fit r.control slots.old.bank.cam slots.old.bank.lock slots.old.bank.victim plan
+        → done_of result slots.new.bank ≡ performed (lent_of memories.now) prices bill r slots.old.bank pending plan }
+    ensures ends { IsSpanned slots.old → IsSpanned slots.new }
 {
-    let base = r.base;
-    let staged = r.staged;
     match plan {
-        Plan::Attempt(a, reason, va) => {
-            let x = attempt::attempt(
-                cam, ram, lows, highs, r.control, base, on, onbase, ext, extbase, prices, bill,
-                reason, p, va, a,
-            );
-            let fill = x.fill;
-            let pending = x.pending;
-            let charged = x.bill;
-            let tally = x.tally;
-            let answer = x.answer;
-            let from = x.from;
-            let next = bank::slots::take(cam, ram, lows, highs, lock, victim, fill);
-            return Performed {
-                registers: attempt::registers_after(reason, r, va, answer),
-                lock: lock,
-                victim: next,
-                pending: pending,
-                bill: charged,
-                tally: tally,
-                said: Said::Answered(answer),
-                from: from,
-            };
-        }
-        Plan::Refused(k) => {
-            return quietly(r, lock, victim, p, bill, Said::Answered(Answer::Refused(k)));
-        }
-        Plan::Done => {
-            return quietly(r, lock, victim, p, bill, Said::Answered(Answer::Done));
-        }
-        Plan::Show(offset) => {
-            let shown = registers::values::value_at(offset, r, lock, victim, p);
-            return quietly(r, lock, victim, p, bill, Said::Answered(shown));
-        }
-        Plan::Set(offset, v) => {
-            return quietly(
-                set(r, offset, v),
-                lock,
-                victim,
-                p,
+        Plan::Attempt(access, reason, va) => {
+            let attempt = Attempt {
+                reason,
+                va,
+                access,
+                pending,
                 bill,
-                Said::Answered(Answer::Done),
-            );
+                prices,
+            };
+            let after = attempt.made(slots, memories, r.control, r.base);
+            slots.take(after.fill);
+            Performed {
+                registers: attempt.registers(r, after.answer),
+                pending: after.pending,
+                bill: after.bill,
+                tally: after.tally,
+                said: Said::Answered(after.answer),
+                from: after.from,
+            }
         }
-        Plan::Lock(l, v) => {
-            return quietly(r, l, v, p, bill, Said::Answered(Answer::Done));
+        Plan::Refused(k) => quietly(r, pending, bill, Answer::Refused(k)),
+        Plan::Done => quietly(r, pending, bill, Answer::Done),
+        Plan::Show(offset) => {
+            let shown = registers::values::value_at(
+                offset,
+                r,
+                slots.bank.lock,
+                slots.bank.victim,
+                pending,
+            );
+            quietly(r, pending, bill, shown)
+        }
+        Plan::Set(offset, v) => quietly(set(r, offset, v), pending, bill, Answer::Done),
+        Plan::Lock(lock, victim) => {
+            slots.set_lock(lock, victim);
+            quietly(r, pending, bill, Answer::Done)
         }
         Plan::Flush => {
-            bank::slots::flush(cam, lows, highs);
-            return quietly(r, lock, victim, p, bill, Said::Answered(Answer::Done));
+            slots.flush();
+            quietly(r, pending, bill, Answer::Done)
         }
         Plan::FlushEntry => {
-            bank::slots::flush_at(cam, lows, highs, registers::cam_address(staged));
-            return quietly(r, lock, victim, p, bill, Said::Answered(Answer::Done));
+            slots.flush_at(registers::cam_address(r.staged));
+            quietly(r, pending, bill, Answer::Done)
         }
         Plan::Load => {
-            let words = registers::words_of(staged);
-            bank::slots::store(cam, ram, lows, highs, lock, victim, victim, words);
-            return quietly(r, lock, victim, p, bill, Said::Answered(Answer::Done));
+            slots.store(slots.bank.victim, Words::from(r.staged));
+            quietly(r, pending, bill, Answer::Done)
         }
         Plan::Copy => {
-            let at = victim as usize % SLOTS;
-            let words = Words {
-                cam: cam[at],
-                ram: ram[at],
-            };
+            let words = slots.words(slots.bank.victim as usize);
             let mut s = r;
-            s.copied = registers::entry_of(words);
-            return quietly(s, lock, victim, p, bill, Said::Answered(Answer::Done));
+            s.copied = Entry::from(words);
+            quietly(s, pending, bill, Answer::Done)
         }
         Plan::Reset => {
-            bank::slots::clear(cam, ram, lows, highs);
-            return quietly(
-                Registers::fresh(),
-                0,
-                0,
-                Pending::Nothing,
-                bill,
-                Said::Answered(Answer::Done),
-            );
+            slots.clear();
+            quietly(Registers::fresh(), None, bill, Answer::Done)
         }
-        Plan::Drop => {
-            return quietly(
-                r,
-                lock,
-                victim,
-                Pending::Nothing,
-                bill,
-                Said::Answered(Answer::Done),
-            );
-        }
+        Plan::Drop => quietly(r, None, bill, Answer::Done),
         Plan::Shift(va) => {
-            let w = walk::walk_within(on, onbase, ext, extbase, base, va);
-            let reads = w.reads;
-            let from = memory::last_place(reads);
-            let found = w.found;
-            let shift = decision::shift_by(found, va);
-            return uncharged(r, lock, victim, p, bill, Said::Reported(shift), from);
+            let walked = walk::walk_within(memories, r.base, va);
+            let shift = decision::shift_by(walked.found, va);
+            let from = memory::last_place(walked.reads);
+            uncharged(r, pending, bill, Said::Reported(shift), from)
         }
         Plan::Unreported(k) => {
-            return quietly(r, lock, victim, p, bill, Said::Reported(Shift::Refused(k)));
+            let refused = Said::Reported(Err(ShiftError::Refused(k)));
+            uncharged(r, pending, bill, refused, Place::Nowhere)
         }
     }
 }

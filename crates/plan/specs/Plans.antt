@@ -1,33 +1,40 @@
--- What a call is to do: its refusals but 3, one after the other, then the thing itself (01, "Registers", "When the unit says no").
--- Each takes what was tested: ok that the device is in range, l that the memories are not refused, o that prices and bill are not.
+-- What a call is to do: its refusals but 3, one after the other, then the thing itself (01, "Registers", "When the unit
+-- says no"). Each takes what was tested: ok that the device is in range, l that the memories are not refused, o that
+-- prices and bill are not.
 -- Internal, for the code: the machine that is signed is unit/specs/Calls.antt and Machine.antt.
-use Rattle.std.specs.Prelude.{◌/◌, ◌%◌, ◌^◌}
-use Rattle.plan.specs.Names.{ℕ, Bool, eqb, leb, pick}
+use Rattle.std.specs.Prelude.{Option, Some, None, ◌/◌, ◌%◌, ◌^◌}
+use Rattle.plan.specs.Names.{ℕ, Bool, eqb, leb, pick, ◌and◌}
+use Rattle.bill.specs.Bill.{bill_ok}
 use Rattle.page.specs.Words.{limit}
 use Rattle.page.specs.declared.Access.{Access}
 use Rattle.page.specs.declared.VirtualAddress.{VirtualAddress}
 use Rattle.registers.specs.Answers.{idle, is_prefetch}
 use Rattle.registers.specs.Fields.{is_on, is_walking}
 use Rattle.registers.specs.declared.Fault.{Fault}
-use Rattle.registers.specs.declared.Pending.{Pending}
+use Rattle.registers.specs.declared.Stall.{Stall}
 use Rattle.registers.specs.declared.Command.{Command}
 use Rattle.registers.specs.declared.Setting.{Setting}
 use Rattle.registers.specs.declared.Tending.{Tending}
 use Rattle.decision.specs.Prefetches.{page_at}
 use Rattle.plan.specs.declared.Reason.{Reason}
 use Rattle.plan.specs.declared.Plan.{Plan}
+use Rattle.plan.specs.declared.Tried.{Tried}
 use Rattle.registers.specs.Offsets.{control_at, base_high_at, base_low_at, cam_high_at, cam_low_at, ram_high_at, ram_low_at}
 
--- what is lent is tried before the rest: 4, 9, or 0 for neither
-abbrev pub lent_refusal : Bool → Bool → ℕ
-lent_refusal l o = pick l (pick o 0 9) 4
+-- that prices and bill are not refused
+abbrev pub tried_money : Tried → Bool
+tried_money t = t.prices and bill_ok t.bill
+
+-- what is lent is tried before the rest: 4, 9 or neither
+abbrev pub lent_refusal : Bool → Bool → Option ℕ
+lent_refusal l o = pick l (pick o None (Some 9)) (Some 4)
 
 -- a request that is refused: 8, 1, 4, 9, else 2
 abbrev pub request_refusal : Bool → Bool → Bool → VirtualAddress → ℕ
 request_refusal ok l o va = pick ok (pick (leb limit va.0) 1 (pick l (pick o 2 9) 4)) 8
 
 -- a request: 8, 1, 4, 9, 2
-abbrev pub request_plan : Bool → Bool → Bool → Pending → VirtualAddress → Access → Plan
+abbrev pub request_plan : Bool → Bool → Bool → Option Stall → VirtualAddress → Access → Plan
 request_plan ok l o q va a =
     pick ok
     (pick (leb limit va.0) (Plan.Refused 1)
@@ -40,29 +47,29 @@ request_plan ok l o q va a =
     (Plan.Refused 8)
 
 -- a prefetch: 4 and 9, 8, 2, 7
-abbrev pub prefetch_plan : ℕ → ℕ → ℕ → Pending → Plan
-prefetch_plan v k c q =
-    pick (eqb k 0)
-    (pick (eqb (v / 2 ^ 14 % 2) 0)
+abbrev pub prefetch_plan : ℕ → Option ℕ → ℕ → Option Stall → Plan
+prefetch_plan v (Some k) c q = Plan.Refused k
+prefetch_plan v None c q =
+    pick (eqb (v / 2 ^ 14 % 2) 0)
     (pick (idle q)
     (pick (is_on c)
     (pick (is_walking c) (Plan.Attempt Access.Read Reason.Prefetch (page_at v))
     (Plan.Refused 7))
     (Plan.Refused 7))
     (Plan.Refused 2))
-    (Plan.Refused 8))
-    (Plan.Refused k)
+    (Plan.Refused 8)
 
 -- acknowledge with bit 0: 4 and 9, 7; a pending prefetch is only dropped, another fault retried as it was
 abbrev pub retry_plan : Fault → VirtualAddress → Access → Plan
 retry_plan k va a = pick (is_prefetch k) Plan.Drop (Plan.Attempt a Reason.Retry va)
 
-abbrev pub pending_plan : Pending → Plan
-pending_plan Pending.Nothing = Plan.Refused 7
-pending_plan (Pending.Held k va a) = retry_plan k va a
+abbrev pub pending_plan : Option Stall → Plan
+pending_plan None = Plan.Refused 7
+pending_plan (Some s) = retry_plan s.fault s.at s.access
 
-abbrev pub acknowledge_plan : Bool → ℕ → Pending → Plan
-acknowledge_plan go k q = pick (eqb k 0) (pick go (pending_plan q) Plan.Done) (Plan.Refused k)
+abbrev pub acknowledge_plan : Bool → Option ℕ → Option Stall → Plan
+acknowledge_plan go (Some k) q = Plan.Refused k
+acknowledge_plan go None q = pick go (pending_plan q) Plan.Done
 
 -- a setting is an offset of Table 3 and the bits that are kept
 abbrev pub setting_plan : Setting → Plan
@@ -94,7 +101,7 @@ abbrev pub unless_walking : ℕ → Plan → Plan
 unless_walking c x = pick (is_walking c) (Plan.Refused 7) x
 
 -- a write past the device's own 8, by its command
-abbrev pub command_plan : Bool → Bool → ℕ → Pending → Command → Plan
+abbrev pub command_plan : Bool → Bool → ℕ → Option Stall → Command → Plan
 command_plan l o c q (Command.Refused k) = Plan.Refused k
 command_plan l o c q Command.Nothing = Plan.Done
 command_plan l o c q Command.Reset = Plan.Reset
@@ -105,7 +112,7 @@ command_plan l o c q Command.Copy = unless_walking c Plan.Copy
 command_plan l o c q (Command.Prefetch v) = prefetch_plan v (lent_refusal l o) c q
 command_plan l o c q (Command.Acknowledge go) = acknowledge_plan go (lent_refusal l o) q
 
-abbrev pub write_plan : Bool → Bool → Bool → ℕ → Pending → Command → Plan
+abbrev pub write_plan : Bool → Bool → Bool → ℕ → Option Stall → Command → Plan
 write_plan ok l o c q x = pick ok (command_plan l o c q x) (Plan.Refused 8)
 
 -- a read: 8; 5 and 6 are what Table 3 shows
@@ -113,7 +120,7 @@ abbrev pub read_plan : Bool → ℕ → Plan
 read_plan ok o = pick ok (Plan.Show o) (Plan.Refused 8)
 
 -- a drop: 8, 7
-abbrev pub drop_plan : Bool → Pending → Plan
+abbrev pub drop_plan : Bool → Option Stall → Plan
 drop_plan ok q = pick ok (pick (idle q) (Plan.Refused 7) Plan.Drop) (Plan.Refused 8)
 
 -- a shift report: 8, 1, 4

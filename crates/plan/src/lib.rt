@@ -1,15 +1,13 @@
-#![tactic(auto)]
-// What a call is to do, by the registers, the pending fault and what was tested: refused with a number, or one thing to be performed.
+#![tactic(auto, using(crate::proofs::Tests::picks))]
+// What a call is to do, by the registers, the pending fault and what was tested: refused, or one thing to be performed.
 ghost use Rattle.std.specs.Prelude.{◌≡◌};
-ghost use Rattle.plan.specs.Names.{◌and◌};
-ghost use Rattle.bill.specs.Bill.{bill_ok};
 ghost use Rattle.registers.specs.Table.{command_of};
-ghost use Rattle.plan.specs.Plans.{lent_refusal, request_refusal, request_plan, prefetch_plan, retry_plan, pending_plan, acknowledge_plan};
+ghost use Rattle.plan.specs.Plans.{tried_money, lent_refusal, request_refusal, request_plan, prefetch_plan, retry_plan, pending_plan, acknowledge_plan};
 ghost use Rattle.plan.specs.Plans.{setting_plan, tend_plan, unless_walking, command_plan, write_plan, read_plan, drop_plan, shift_plan};
 
 use bill::Bill;
 use page::{Access, LIMIT, VirtualAddress};
-use registers::{Command, Fault, Pending, Setting, Tending, offsets};
+use registers::{Command, Fault, Setting, Stall, Tending, offsets, refusals};
 
 // Why the unit tries an address.
 #[derive(Clone, Copy)]
@@ -20,6 +18,7 @@ pub enum Reason {
 }
 
 // What is to be done. A setting is the offset of a register and the bits that are kept; a refused shift report reports.
+// Kept: `perform::perform` takes a plan with any number of a refusal, and a setting of any offset.
 #[derive(Clone, Copy)]
 pub enum Plan {
     Refused(u8),
@@ -38,109 +37,102 @@ pub enum Plan {
     Unreported(u8),
 }
 
-// 4 or 9 where what is lent is refused, else 0.
-fn lent_refusal(memories: bool, prices: bool, bill: Bill) -> u8
-    ensures { result ≡ lent_refusal memories (prices and bill_ok bill) }
-{
-    if !memories {
-        return 4;
-    }
-    if prices & bill.ok() {
-        return 0;
-    }
-    9
+// What was tested before a call: the device is in range, memories and prices are not refused. The bill is to be tested.
+#[derive(Clone, Copy)]
+pub struct Tried {
+    pub device: bool,
+    pub memories: bool,
+    pub prices: bool,
+    pub bill: Bill,
 }
 
-// The number of a request that is refused.
-fn request_refusal(ok: bool, memories: bool, prices: bool, bill: Bill, va: VirtualAddress) -> u8
-    ensures { result ≡ request_refusal ok memories (prices and bill_ok bill) va }
-{
-    if !ok {
-        return 8;
+impl Tried {
+    // 4 or 9 where what is lent is refused.
+    fn lent_refusal(self) -> Option<u8>
+        ensures { result ≡ lent_refusal self.memories (tried_money self) }
+    {
+        if !self.memories {
+            Some(refusals::MEMORIES)
+        } else if self.prices & self.bill.ok() {
+            None
+        } else {
+            Some(refusals::MONEY)
+        }
     }
-    if va.0 >= LIMIT {
-        return 1;
+
+    // The number of a request that is refused.
+    fn request_refusal(self, va: VirtualAddress) -> u8
+        ensures { result ≡ request_refusal self.device self.memories (tried_money self) va }
+    {
+        if !self.device {
+            refusals::RANGE
+        } else if va.0 >= LIMIT {
+            refusals::ADDRESS
+        } else {
+            self.lent_refusal().unwrap_or(refusals::PENDING)
+        }
     }
-    let k = lent_refusal(memories, prices, bill);
-    if k != 0 {
-        return k;
-    }
-    2
 }
 
-// A request: ok says that the device is in range, memories and prices that these are not refused.
-#[tactic(auto, using(crate::proofs::AtOnce::request_tried, crate::proofs::AtOnce::request_stopped))]
-pub fn request(
-    ok: bool,
-    memories: bool,
-    prices: bool,
-    bill: Bill,
-    p: Pending,
-    va: VirtualAddress,
-    a: Access,
-) -> Plan
-    ensures { result ≡ request_plan ok memories (prices and bill_ok bill) p va a }
+// A request.
+pub fn request(tried: Tried, p: Option<Stall>, va: VirtualAddress, a: Access) -> Plan
+    ensures { result ≡ request_plan tried.device tried.memories (tried_money tried) p va a }
 {
-    if ok & memories & prices & (va.0 < LIMIT) & registers::is_idle(p) & bill.ok() {
-        return Plan::Attempt(a, Reason::Request, va);
+    let free = (va.0 < LIMIT) & p.is_none();
+    if tried.device & tried.memories & tried.prices & free & tried.bill.ok() {
+        Plan::Attempt(a, Reason::Request, va)
+    } else {
+        Plan::Refused(tried.request_refusal(va))
     }
-    Plan::Refused(request_refusal(ok, memories, prices, bill, va))
 }
 
-// A write of the prefetch register, where k is the refusal of what is lent.
-fn prefetch(v: u16, k: u8, control: u16, p: Pending) -> Plan
-    ensures { result ≡ prefetch_plan v k control p }
+// A write of the prefetch register, where lent is the refusal of what is lent.
+fn prefetch(v: u16, lent: Option<u8>, control: u16, p: Option<Stall>) -> Plan
+    ensures { result ≡ prefetch_plan v lent control p }
 {
-    if k != 0 {
-        return Plan::Refused(k);
+    if let Some(k) = lent {
+        Plan::Refused(k)
+    } else if v / 16384 % 2 != 0 {
+        Plan::Refused(refusals::RANGE)
+    } else if p.is_some() {
+        Plan::Refused(refusals::PENDING)
+    } else if registers::is_on(control) && registers::is_walking(control) {
+        let va = VirtualAddress((v as u32) % 16384 * 1024);
+        Plan::Attempt(Access::Read, Reason::Prefetch, va)
+    } else {
+        Plan::Refused(refusals::UNTIMELY)
     }
-    if v / 16384 % 2 != 0 {
-        return Plan::Refused(8);
-    }
-    if !registers::is_idle(p) {
-        return Plan::Refused(2);
-    }
-    if !registers::is_on(control) {
-        return Plan::Refused(7);
-    }
-    if !registers::is_walking(control) {
-        return Plan::Refused(7);
-    }
-    let va = VirtualAddress((v as u32) % 16384 * 1024);
-    Plan::Attempt(Access::Read, Reason::Prefetch, va)
 }
 
 // A pending prefetch is only dropped, another fault retried.
-fn retry(f: Fault, va: VirtualAddress, a: Access) -> Plan
-    ensures { result ≡ retry_plan f va a }
+fn retry(s: Stall) -> Plan
+    ensures { result ≡ retry_plan s.fault s.at s.access }
 {
-    if registers::is_prefetch(f) {
-        return Plan::Drop;
+    match s.fault {
+        Fault::Prefetch => Plan::Drop,
+        _ => Plan::Attempt(s.access, Reason::Retry, s.at),
     }
-    Plan::Attempt(a, Reason::Retry, va)
 }
 
 // An acknowledge of what is pending.
-fn pending(p: Pending) -> Plan
+fn pending(p: Option<Stall>) -> Plan
     ensures { result ≡ pending_plan p }
 {
     match p {
-        Pending::Nothing => Plan::Refused(7),
-        Pending::Held(f, va, a) => retry(f, va, a),
+        None => Plan::Refused(refusals::UNTIMELY),
+        Some(s) => retry(s),
     }
 }
 
-// A write of the acknowledge register, where k is the refusal of what is lent.
-fn acknowledge(go: bool, k: u8, p: Pending) -> Plan
-    ensures { result ≡ acknowledge_plan go k p }
+// A write of the acknowledge register, where lent is the refusal of what is lent.
+fn acknowledge(go: bool, lent: Option<u8>, p: Option<Stall>) -> Plan
+    ensures { result ≡ acknowledge_plan go lent p }
 {
-    if k != 0 {
-        return Plan::Refused(k);
+    match lent {
+        Some(k) => Plan::Refused(k),
+        None if go => pending(p),
+        None => Plan::Done,
     }
-    if !go {
-        return Plan::Done;
-    }
-    pending(p)
 }
 
 // A write that sets a register.
@@ -174,14 +166,15 @@ fn unless_walking(control: u16, plan: Plan) -> Plan
     ensures { result ≡ unless_walking control plan }
 {
     if registers::is_walking(control) {
-        return Plan::Refused(7);
+        Plan::Refused(refusals::UNTIMELY)
+    } else {
+        plan
     }
-    plan
 }
 
 // A write by its command, for a device in range.
-fn command(c: Command, memories: bool, prices: bool, bill: Bill, control: u16, p: Pending) -> Plan
-    ensures { result ≡ command_plan memories (prices and bill_ok bill) control p c }
+fn command(c: Command, tried: Tried, control: u16, p: Option<Stall>) -> Plan
+    ensures { result ≡ command_plan tried.memories (tried_money tried) control p c }
 {
     match c {
         Command::Refused(k) => Plan::Refused(k),
@@ -191,58 +184,44 @@ fn command(c: Command, memories: bool, prices: bool, bill: Bill, control: u16, p
         Command::Tend(t) => tend(t),
         Command::Load => unless_walking(control, Plan::Load),
         Command::Copy => unless_walking(control, Plan::Copy),
-        Command::Prefetch(v) => prefetch(v, lent_refusal(memories, prices, bill), control, p),
-        Command::Acknowledge(go) => acknowledge(go, lent_refusal(memories, prices, bill), p),
+        Command::Prefetch(v) => prefetch(v, tried.lent_refusal(), control, p),
+        Command::Acknowledge(go) => acknowledge(go, tried.lent_refusal(), p),
     }
 }
 
 // A register write.
-pub fn write(
-    ok: bool,
-    memories: bool,
-    prices: bool,
-    bill: Bill,
-    control: u16,
-    p: Pending,
-    offset: u32,
-    v: u16,
-) -> Plan
-    ensures { result ≡ write_plan ok memories (prices and bill_ok bill) control p (command_of offset v) }
+pub fn write(tried: Tried, control: u16, p: Option<Stall>, offset: u32, v: u16) -> Plan
+    ensures { result ≡ write_plan tried.device tried.memories (tried_money tried) control p (command_of offset v) }
 {
-    if !ok {
-        return Plan::Refused(8);
+    if tried.device {
+        command(commands::command_at(offset, v), tried, control, p)
+    } else {
+        Plan::Refused(refusals::RANGE)
     }
-    command(
-        commands::command_at(offset, v),
-        memories,
-        prices,
-        bill,
-        control,
-        p,
-    )
 }
 
-// A register read.
+// A register read: ok says that the device is in range.
 pub fn read(ok: bool, offset: u32) -> Plan
     ensures { result ≡ read_plan ok offset }
 {
-    if !ok {
-        return Plan::Refused(8);
+    if ok {
+        Plan::Show(offset)
+    } else {
+        Plan::Refused(refusals::RANGE)
     }
-    Plan::Show(offset)
 }
 
 // A drop.
-pub fn drop(ok: bool, p: Pending) -> Plan
+pub fn drop(ok: bool, p: Option<Stall>) -> Plan
     ensures { result ≡ drop_plan ok p }
 {
     if !ok {
-        return Plan::Refused(8);
+        Plan::Refused(refusals::RANGE)
+    } else if p.is_none() {
+        Plan::Refused(refusals::UNTIMELY)
+    } else {
+        Plan::Drop
     }
-    if registers::is_idle(p) {
-        return Plan::Refused(7);
-    }
-    Plan::Drop
 }
 
 // A shift report.
@@ -250,13 +229,12 @@ pub fn shift(ok: bool, memories: bool, va: VirtualAddress) -> Plan
     ensures { result ≡ shift_plan ok memories va }
 {
     if !ok {
-        return Plan::Unreported(8);
+        Plan::Unreported(refusals::RANGE)
+    } else if va.0 >= LIMIT {
+        Plan::Unreported(refusals::ADDRESS)
+    } else if !memories {
+        Plan::Unreported(refusals::MEMORIES)
+    } else {
+        Plan::Shift(va)
     }
-    if va.0 >= LIMIT {
-        return Plan::Unreported(1);
-    }
-    if !memories {
-        return Plan::Unreported(4);
-    }
-    Plan::Shift(va)
 }

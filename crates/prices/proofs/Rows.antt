@@ -1,4 +1,5 @@
--- What a row price charges: the first read of a memory is a new row; then the row last read is the same row, and any other is new. Assumes nothing.
+-- What a row price charges: the first read of a memory is a new row; then the row last read is the same row, and any
+-- other is new. Assumes nothing.
 use Rattle.prices.specs.Names.{◌≡◌, ℕ, Float, Price, Side}
 use Rattle.prices.proofs.Names.{refl, eq-eqb, ne_eqb, pick_yes, pick_no, row_price, word_price}
 use Rattle.prices.specs.Prices.{side_read, fresh_side}

@@ -1,6 +1,6 @@
 -- What a word costs (01, "Meters and the walk bill", and refusal 9). Figures are binary64 values.
-use Rattle.std.specs.Prelude.{◌/◌}
-use Rattle.prices.specs.Names.{ℕ, Bool, eqb, pick, ◌and◌, Float, binary64, PhysicalAddress, Price, Prices, LastRow, Side}
+use Rattle.std.specs.Prelude.{Option, Some, None, ◌/◌}
+use Rattle.prices.specs.Names.{ℕ, Bool, eqb, pick, ◌and◌, Float, binary64, PhysicalAddress, Price, Prices, Side}
 use Rattle.std.specs.Float.Ieee.{of_bits, le}
 
 -- 0 and 4,096 as bit patterns of an f64
@@ -33,9 +33,9 @@ abbrev pub row_of : PhysicalAddress → ℕ
 row_of a = a.0 / row_bytes
 
 -- a row that is the memory's last one is the same row, and the first read is a new one
-unfoldable pub row_price : Float → Float → LastRow → ℕ → Float
-row_price same fresh LastRow.Never row = fresh
-row_price same fresh (LastRow.At last) row = pick (eqb last row) same fresh
+unfoldable pub row_price : Float → Float → Option ℕ → ℕ → Float
+row_price same fresh None row = fresh
+row_price same fresh (Some last) row = pick (eqb last row) same fresh
 
 -- a word's price, by what the bill keeps of its memory
 unfoldable pub word_price : Price → Side → ℕ → Float
@@ -44,8 +44,8 @@ word_price (Price.Row same fresh) side row = row_price same fresh side.last row
 
 -- what the bill keeps of a memory that was not read yet
 abbrev pub fresh_side : Side
-fresh_side = record { last = LastRow.Never }
+fresh_side = record { last = None }
 
 -- and after a word more of it
 abbrev pub side_read : Side → ℕ → Side
-side_read side row = record { last = LastRow.At row }
+side_read side row = record { last = Some row }

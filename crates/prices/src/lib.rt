@@ -22,43 +22,37 @@ pub struct Prices {
     pub external: Price,
 }
 
-// The row last read.
-#[derive(Clone, Copy)]
-pub enum LastRow {
-    Never,
-    At(u32),
-}
-
 // What the bill keeps of one memory.
 #[derive(Clone, Copy)]
 pub struct Side {
-    pub last: LastRow,
+    pub last: Option<u32>,
 }
 
 // Whether a figure is from 0 to 4,096.
+#[tactic(auto, using(page::proofs::Picks::tests), unfolding(crate::specs::Prices::figure_ok))]
 pub fn figure_ok(x: f64) -> bool
     ensures { result ≡ figure_ok x }
 {
-    (0.0 <= x) & (x <= 4096.0)
+    0.0 <= x && x <= 4096.0
 }
 
 // Whether every figure of a price is.
+#[tactic(auto, using(page::proofs::Picks::tests), unfolding(crate::specs::Prices::every))]
 pub fn price_ok(p: Price) -> bool
     ensures { result ≡ price_ok p }
 {
     match p {
-        Price::Flat(x) => return figure_ok(x),
-        Price::Row { same, fresh } => return figure_ok(same) & figure_ok(fresh),
+        Price::Flat(x) => figure_ok(x),
+        Price::Row { same, fresh } => figure_ok(same) && figure_ok(fresh),
     }
 }
 
 // Whether both prices are.
+#[tactic(auto, using(page::proofs::Picks::tests))]
 pub fn prices_ok(prices: Prices) -> bool
     ensures { result ≡ prices_ok prices }
 {
-    let onchip = prices.onchip;
-    let external = prices.external;
-    price_ok(onchip) & price_ok(external)
+    price_ok(prices.onchip) && price_ok(prices.external)
 }
 
 // The row of an address.
@@ -69,28 +63,25 @@ pub fn row_of(at: PhysicalAddress) -> u32
 }
 
 // The price of a word by the row last read.
-fn row_price(same: f64, fresh: f64, last: LastRow, row: u32) -> f64
+#[tactic(auto, using(page::proofs::Picks::tests), unfolding(crate::specs::Prices::row_price))]
+fn row_price(same: f64, fresh: f64, last: Option<u32>, row: u32) -> f64
     ensures { result ≡ row_price same fresh last row }
 {
     match last {
-        LastRow::Never => return fresh,
-        LastRow::At(k) => {
-            if k == row {
-                return same;
-            }
-            return fresh;
-        }
+        None => fresh,
+        Some(k) if k == row => same,
+        Some(_) => fresh,
     }
 }
 
 // The price of a word by what the bill keeps of its memory.
+#[tactic(auto, using(page::proofs::Picks::tests), unfolding(crate::specs::Prices::word_price))]
 pub fn word_price(p: Price, side: Side, row: u32) -> f64
     ensures { result ≡ word_price p side row }
 {
-    let last = side.last;
     match p {
-        Price::Flat(x) => return x,
-        Price::Row { same, fresh } => return row_price(same, fresh, last, row),
+        Price::Flat(x) => x,
+        Price::Row { same, fresh } => row_price(same, fresh, side.last, row),
     }
 }
 
@@ -99,17 +90,13 @@ impl Side {
     pub fn fresh() -> Self
         ensures { result ≡ fresh_side }
     {
-        Self {
-            last: LastRow::Never,
-        }
+        Side { last: None }
     }
 
     // A word of a row was read.
     pub fn read(self, row: u32) -> Side
         ensures { result ≡ side_read self row }
     {
-        Side {
-            last: LastRow::At(row),
-        }
+        Side { last: Some(row) }
     }
 }

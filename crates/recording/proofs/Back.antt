@@ -1,5 +1,6 @@
 -- What is written is read back. Assumes nothing.
-use Rattle.recording.specs.Names.{◌≡◌, List, true, ℕ, zero, suc, ◌+◌, ◌-◌, ◌*◌, ◌/◌, ◌<◌, ◌≤◌, length, take, drop, min, Bytes, is_good, call_at, call_count, all_good, Progress, Heard}
+use Rattle.std.proofs.Common.{Ok}
+use Rattle.recording.specs.Names.{◌≡◌, List, true, ℕ, zero, suc, ◌+◌, ◌-◌, ◌*◌, ◌/◌, ◌<◌, ◌≤◌, length, take, drop, min, Bytes, is_good, call_at, call_count, all_good, Progress}
 use Rattle.recording.specs.Blocks.{call_room, full_block, most_blocks, count_in}
 use Rattle.recording.specs.Writing.{calls_for, block_for, blocks_for, recording_of}
 use Rattle.recording.specs.Reading.{progress, block_at, blocks_in, calls_at, call_bytes, heard}
@@ -93,7 +94,7 @@ module _ (l : List ℕ) (bytes : Bytes l) (accepted : CallsAccepted l) where
   unfolding r
   many = omega (arith, recording_length l)
 
-  all-heard : heard r ≡ Heard.Whole (progress (blocks_for l) (call_count l))
+  all-heard : heard r ≡ Ok (progress (blocks_for l) (call_count l))
   all-heard =
       ap (heard_from r (progress 0 0)) many
       ∙ ap (λ (c : ℕ). heard_from r (progress 0 c) (blocks_for l)) (let z : 0 ≡ min (full_block * 0) (call_count l) = omega arith in z)

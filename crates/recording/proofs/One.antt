@@ -1,6 +1,7 @@
 -- What the reader accepts is what the writer would write. Assumes nothing.
+use Rattle.std.proofs.Common.{Ok}
 use Rattle.recording.specs.Names.{◌≡◌, List, ◌++◌, true, ℕ, zero, suc, ◌+◌, ◌-◌, ◌*◌, ◌/◌, ◌%◌, ◌^◌, ◌<◌, ◌≤◌, length, take, drop, min, replicate}
-use Rattle.recording.specs.Names.{Bytes, halves, word_bytes, word_at, is_good, call_at, call_count, crc32, Progress, Heard}
+use Rattle.recording.specs.Names.{Bytes, halves, word_bytes, word_at, is_good, call_at, call_count, crc32, Progress}
 use Rattle.recording.specs.Blocks.{call_room, full_block, most_calls, block_front, count_in}
 use Rattle.recording.specs.Writing.{records_in, calls_for, block_for, blocks_for, recording_of}
 use Rattle.recording.specs.Reading.{progress, block_at, blocks_in, calls_at, call_bytes, heard}
@@ -106,7 +107,7 @@ runs_full {r} (Runs.more {p = p} h (Runs.more h' t)) zero g =
 runs_full {r} (Runs.more {p = p} h (Runs.more h' t)) (suc j) g =
     ap (λ (m : ℕ). count_in (block_at r m)) (let e : p.blocks + suc j ≡ p.blocks + 1 + j = omega arith in e) ∙ runs_full (Runs.more h' t) j (omega arith)
 
-module _ (r : List ℕ) (p : Progress) (bytes : Bytes r) (h : heard r ≡ Heard.Whole p) where
+module _ (r : List ℕ) (p : Progress) (bytes : Bytes r) (h : heard r ≡ Ok p) where
   passes : (j : ℕ) → j < blocks_in r → BlockPasses (progress j (full_block * j)) (block_at r j)
   passes j g =
       subst (λ (m : ℕ). BlockPasses (progress m (full_block * m)) (block_at r m)) (let e : 0 + j ≡ j = omega arith in e) (runs_at (runs_of r (progress 0 0) (blocks_in r) p h) j g)

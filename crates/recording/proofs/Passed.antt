@@ -1,5 +1,6 @@
 -- A block that is taken passes every test. Assumes nothing.
-use Rattle.recording.specs.Names.{◌≡◌, List, Bool, true, false, not, ℕ, ◌+◌, ◌*◌, ◌≤◌, ◌<◌, length, take, all_good, crc32, eqb, Flaw, Progress, Taken}
+use Rattle.std.proofs.Common.{Result, Ok, Err}
+use Rattle.recording.specs.Names.{◌≡◌, List, Bool, true, false, not, ℕ, ◌+◌, ◌*◌, ◌≤◌, ◌<◌, length, take, all_good, crc32, eqb, Flaw, Progress}
 use Rattle.recording.specs.Blocks.{count_in, number_in, check_in, full_block, most_blocks, block_size, checked_size}
 use Rattle.recording.specs.Reading.{progress}
 use Rattle.recording.proofs.Names.{refl, sym, ◌∙◌, not-false, eqb-true, all_zero, calls_of, unused_of, block_judged, block_taken}
@@ -23,16 +24,16 @@ pub record BlockPasses (p : Progress) (b : List ℕ) : Type 0 where
 abbrev pub carried_on : Progress → List ℕ → Progress
 carried_on p b = progress (p.blocks + 1) (p.calls + count_in b)
 
-pub passed_taken : (p : Progress) (b : List ℕ) → BlockPasses p b → block_taken p b ≡ Taken.Next (carried_on p b)
+pub passed_taken : (p : Progress) (b : List ℕ) → BlockPasses p b → block_taken p b ≡ Ok (carried_on p b)
 passed_taken p b h =
     sym (judged_next p b h.checked h.numbered h.some h.few h.good h.zeros ∙ taken_judged p b h.room h.long h.full)
 
 -- a test that did not refuse
-abbrev Refuses : Taken → Type 0
-Refuses (Taken.Next q) = ⊥
-Refuses (Taken.Refused w) = Unit {0}
+abbrev Refuses : Result Progress Flaw → Type 0
+Refuses (Ok q) = ⊥
+Refuses (Err w) = Unit {0}
 
-peel : (t : Bool) (w : Flaw) (x : Taken) (q : Progress) → pick t (Taken.Refused w) x ≡ Taken.Next q → (t ≡ false) × (x ≡ Taken.Next q)
+peel : (t : Bool) (w : Flaw) (x : Result Progress Flaw) (q : Progress) → pick t (Err w) x ≡ Ok q → (t ≡ false) × (x ≡ Ok q)
 unfolding pick
 peel true w x q h = absurd (subst Refuses h tt)
 peel false w x q h = (refl, h)
@@ -40,7 +41,7 @@ peel false w x q h = (refl, h)
 same : (a b : ℕ) → not (eqb a b) ≡ false → a ≡ b
 same a b h = eqb-true a b (not-false _ h)
 
-pub next_passed : (p : Progress) (b : List ℕ) (q : Progress) → block_taken p b ≡ Taken.Next q → BlockPasses p b
+pub next_passed : (p : Progress) (b : List ℕ) (q : Progress) → block_taken p b ≡ Ok q → BlockPasses p b
 unfolding block_taken block_judged
 next_passed p b q h =
     let a = peel _ _ _ q h in
@@ -65,5 +66,5 @@ next_passed p b q h =
     }
 
 -- and what it comes to is what is carried on
-pub next_carried : (p : Progress) (b : List ℕ) (q : Progress) → block_taken p b ≡ Taken.Next q → q ≡ carried_on p b
+pub next_carried : (p : Progress) (b : List ℕ) (q : Progress) → block_taken p b ≡ Ok q → q ≡ carried_on p b
 next_carried p b q h = let e = sym h ∙ passed_taken p b (next_passed p b q h) in let z : q ≡ carried_on p b = cc in z

@@ -1,5 +1,7 @@
 -- Blocks that are all taken: each passes, and what is carried goes on. Assumes nothing.
-use Rattle.recording.specs.Names.{◌≡◌, List, ℕ, zero, suc, ◌+◌, ◌*◌, ◌≤◌, length, drop, Progress, Taken, Heard}
+use Rattle.std.proofs.Common.{Result, Ok, Err}
+use Rattle.recording.specs.declared.Flaw.{Flaw}
+use Rattle.recording.specs.Names.{◌≡◌, List, ℕ, zero, suc, ◌+◌, ◌*◌, ◌≤◌, length, drop, Progress}
 use Rattle.recording.specs.Blocks.{count_in, full_block, most_blocks}
 use Rattle.recording.specs.Reading.{progress, block_at, blocks_in, calls_at, call_bytes, heard, onward}
 use Rattle.recording.proofs.Names.{refl, sym, ◌∙◌, ap, arith, subst, length-append, length-take, length-drop, pieces, calls_of, heard_from, block_taken}
@@ -11,11 +13,11 @@ pub data Runs (r : List ℕ) : Progress → ℕ → Progress → Type 0 where
   more : {p q : Progress} {k : ℕ} → BlockPasses p (block_at r p.blocks) → Runs r (carried_on p (block_at r p.blocks)) k q → Runs r p (suc k) q
 
 -- an answer that is whole comes from a block that is taken
-onward-whole : (t : Taken) (f : Progress → Heard) (i : ℕ) (q : Progress) → onward t f i ≡ Heard.Whole q → (p : Progress) × (t ≡ Taken.Next p) × (f p ≡ Heard.Whole q)
-onward-whole (Taken.Next p) f i q h = (p, refl, h)
-onward-whole (Taken.Refused w) f i q h = absurd (let z : ◌≡◌ {A = ℕ} 0 1 = cc in omega arith)
+onward-whole : (t : Result Progress Flaw) (f : Progress → Result Progress ℕ) (i : ℕ) (q : Progress) → onward t f i ≡ Ok q → (p : Progress) × (t ≡ Ok p) × (f p ≡ Ok q)
+onward-whole (Ok p) f i q h = (p, refl, h)
+onward-whole (Err w) f i q h = absurd (let z : ◌≡◌ {A = ℕ} 0 1 = cc in omega arith)
 
-pub runs_of : (r : List ℕ) (p : Progress) (k : ℕ) (q : Progress) → heard_from r p k ≡ Heard.Whole q → Runs r p k q
+pub runs_of : (r : List ℕ) (p : Progress) (k : ℕ) (q : Progress) → heard_from r p k ≡ Ok q → Runs r p k q
 unfolding heard_from
 runs_of r p zero q h = subst (λ (x : Progress). Runs r p 0 x) (let z : p ≡ q = cc in z) done
 runs_of r p (suc k) q h =
@@ -23,10 +25,10 @@ runs_of r p (suc k) q h =
     more (next_passed p (block_at r p.blocks) o.0 o.1)
     (runs_of r (carried_on p (block_at r p.blocks)) k q (sym (ap (λ (x : Progress). heard_from r x k) (next_carried p (block_at r p.blocks) o.0 o.1)) ∙ o.2))
 
-pub runs_heard : {r : List ℕ} {p q : Progress} {k : ℕ} → Runs r p k q → heard_from r p k ≡ Heard.Whole q
+pub runs_heard : {r : List ℕ} {p q : Progress} {k : ℕ} → Runs r p k q → heard_from r p k ≡ Ok q
 unfolding heard_from
 runs_heard done = refl
-runs_heard {r} (more {p = p} {q = q} {k = k} h t) = ap (λ (x : Taken). onward x (λ y. heard_from r y k) p.blocks) (passed_taken p (block_at r p.blocks) h) ∙ runs_heard t
+runs_heard {r} (more {p = p} {q = q} {k = k} h t) = ap (λ (x : Result Progress Flaw). onward x (λ y. heard_from r y k) p.blocks) (passed_taken p (block_at r p.blocks) h) ∙ runs_heard t
 
 -- a block that passes has as many calls as it says
 pub calls-length : (p : Progress) (b : List ℕ) → BlockPasses p b → length (calls_of b) ≡ 12 * count_in b
@@ -56,7 +58,7 @@ pub record Counted (r : List ℕ) (p : Progress) : Type 0 where
   pub calls : length (call_bytes r) ≡ 12 * p.calls
   pub few : p.calls ≤ 2752512
 
-pub heard_counted : (r : List ℕ) (p : Progress) → heard r ≡ Heard.Whole p → Counted r p
+pub heard_counted : (r : List ℕ) (p : Progress) → heard r ≡ Ok p → Counted r p
 heard_counted r p h =
     let t = runs_of r (progress 0 0) (blocks_in r) p h in
     record {

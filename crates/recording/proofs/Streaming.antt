@@ -1,5 +1,7 @@
 -- A recording heard piece by piece is heard as a whole: what is carried is all that is needed of the blocks before. Assumes nothing.
-use Rattle.recording.specs.Names.{◌≡◌, List, ◌++◌, ℕ, zero, suc, ◌+◌, ◌*◌, ◌≤◌, length, take, drop, Progress, Taken, Heard}
+use Rattle.std.proofs.Common.{Result, Ok, Err}
+use Rattle.recording.specs.declared.Flaw.{Flaw}
+use Rattle.recording.specs.Names.{◌≡◌, List, ◌++◌, ℕ, zero, suc, ◌+◌, ◌*◌, ◌≤◌, length, take, drop, Progress}
 use Rattle.recording.specs.Reading.{progress, block_at, blocks_in, onward}
 use Rattle.recording.specs.Statements.{BlockByBlock, heard_on}
 use Rattle.recording.proofs.Names.{refl, ◌∙◌, ap, arith, length-append, length-drop, drop_at, heard_from, block_taken}
@@ -7,9 +9,9 @@ use Rattle.recording.proofs.Passed.{next_carried}
 use lib.Seq.{drop-append-le, take_all, take-append-le}
 
 -- what comes of a block, where it is the same behind each that is taken
-onward_same : (t : Taken) (f g : Progress → Heard) (i : ℕ) (s : List ℕ) → ((q : Progress) → t ≡ Taken.Next q → f q ≡ heard_on (g q) s) → onward t f i ≡ heard_on (onward t g i) s
-onward_same (Taken.Next q) f g i s h = h q refl
-onward_same (Taken.Refused w) f g i s h = refl
+onward_same : (t : Result Progress Flaw) (f g : Progress → Result Progress ℕ) (i : ℕ) (s : List ℕ) → ((q : Progress) → t ≡ Ok q → f q ≡ heard_on (g q) s) → onward t f i ≡ heard_on (onward t g i) s
+onward_same (Ok q) f g i s h = h q refl
+onward_same (Err w) f g i s h = refl
 
 module _ (r s : List ℕ) (short : length s ≤ 512) where
   -- the piece behind whole blocks is the block behind them, and the blocks before it are as they were
@@ -23,7 +25,7 @@ module _ (r s : List ℕ) (short : length s ≤ 512) where
   -- the blocks that are left, and one more piece
   heard-more : (k : ℕ) (p : Progress) → length r ≡ 512 * (p.blocks + k) → heard_from (r ++ s) p (suc k) ≡ heard_on (heard_from r p k) s
   unfolding heard_from
-  heard-more zero p e = ap (λ (b : List ℕ). onward (block_taken p b) Heard.Whole p.blocks) (block-behind p.blocks (omega arith))
+  heard-more zero p e = ap (λ (b : List ℕ). onward (block_taken p b) Ok p.blocks) (block-behind p.blocks (omega arith))
   heard-more (suc k) p e =
       ap (λ (b : List ℕ). onward (block_taken p b) (λ q. heard_from (r ++ s) q (suc k)) p.blocks) (block-before p.blocks (omega arith))
       ∙ onward_same (block_taken p (block_at r p.blocks)) (λ q. heard_from (r ++ s) q (suc k)) (λ q. heard_from r q k) p.blocks s

@@ -1,7 +1,9 @@
 -- A turn of the loops that write: one more block, and the calls of one more. Assumes nothing.
 use Rattle.recording.specs.Names.{◌≡◌, List, ℕ, ◌+◌, ◌-◌, ◌*◌, ◌%◌, ◌≤◌, ◌<◌, length, drop, pasted}
 use Rattle.recording.specs.Blocks.{call_room}
-use Rattle.recording.specs.Writing.{calls_for, block_for}
+use Rattle.recording.specs.Reading.{blocks_in, call_bytes, calls_at}
+use Rattle.recording.specs.Writing.{calls_for, block_for, blocks_for, recording_of}
+use Rattle.recording.proofs.Pieces.{Cutting}
 use Rattle.recording.proofs.Names.{sym, ◌∙◌, ap, arith, length-take, length-drop, pieces}
 use Rattle.recording.proofs.Joins.{length_next, join_length, put_next}
 use Rattle.recording.proofs.Puts.{block-length}
@@ -35,3 +37,16 @@ block_turn l out m n i h fits e =
     put_next (block_for l) n i (512 * i) out m h (omega (arith, blocks_length l i (n - i))) e
     ∙ ap (λ (x : ℕ). pasted m x (pieces (block_for l) (i + 1) (n - (i + 1))))
     (let z : 512 * i + length (block_for l i) ≡ 512 * (i + 1) = omega (arith, block-length i (calls_for l i) (calls-few l i)) in z)
+
+-- what holds before the calls of each block are put
+pub record Filling (r rest : List ℕ) (held : ℕ) (first out : List ℕ) (at i : ℕ) : Type 0 where
+  pub cut : Cutting 512 r rest held i
+  pub long : length out ≡ length first
+  pub fits : at + length (pieces (calls_at r) i (blocks_in r - i)) ≤ length out
+  pub same : pasted first 0 (call_bytes r) ≡ pasted out at (pieces (calls_at r) i (blocks_in r - i))
+
+-- what holds before each block is put
+pub record Blocking (l rest : List ℕ) (held : ℕ) (first out : List ℕ) (i : ℕ) : Type 0 where
+  pub cut : Cutting call_room l rest held i
+  pub long : length out ≡ length first
+  pub same : pasted first 0 (recording_of l) ≡ pasted out (512 * i) (pieces (block_for l) i (blocks_for l - i))

@@ -1,7 +1,9 @@
 -- A recording read (02, P1): block by block with what is carried from one to the next; refusal 16 with the index of the first bad block, then 12 with the bytes needed.
+use Rattle.recording.specs.declared.RecordingError.{RecordingError}
+use Rattle.std.specs.Prelude.{Result, Ok, Err}
 use Rattle.std.specs.Prelude.{◌+◌, ◌*◌, ◌/◌, ◌∷◌, ◌<◌, ◌≤◌, ◌≡◌}
 use Rattle.recording.specs.Names.{ℕ, zero, suc, Bool, not, List, [], eqb, leb, ltb, length, take, drop, pick, ◌and◌, all_good, crc32, true, IsTable}
-use Rattle.recording.specs.Names.{Flaw, Heard, Progress, Taken, Written}
+use Rattle.recording.specs.Names.{Flaw, Progress}
 use Rattle.recording.specs.Blocks.{block_size, full_block, checked_size, most_blocks, count_in, number_in, check_in, calls_of, unused_of, pieces}
 use Rattle.recording.specs.Writing.{Wrote, wrote, filled_with}
 
@@ -15,21 +17,21 @@ abbrev pub progress : ℕ → ℕ → Progress
 progress blocks calls = record { blocks = blocks; calls = calls }
 
 -- a block of 512 bytes by itself, and behind what is carried: the first thing that is wrong with it, or what is carried on
-unfoldable pub block_judged : Progress → List ℕ → Taken
+unfoldable pub block_judged : Progress → List ℕ → Result Progress Flaw
 block_judged p b =
-    pick (not (eqb (check_in b) (crc32 (take checked_size b)))) (Taken.Refused Flaw.Check)
-    (pick (not (eqb (number_in b) p.blocks)) (Taken.Refused Flaw.Number)
-    (pick (eqb (count_in b) 0) (Taken.Refused Flaw.Count)
-    (pick (ltb full_block (count_in b)) (Taken.Refused Flaw.Count)
-    (pick (not (all_good (calls_of b))) (Taken.Refused Flaw.Record)
-    (pick (not (all_zero (unused_of b))) (Taken.Refused Flaw.Unused)
-    (Taken.Next (progress (p.blocks + 1) (p.calls + count_in b))))))))
+    pick (not (eqb (check_in b) (crc32 (take checked_size b)))) (Err Flaw.Check)
+    (pick (not (eqb (number_in b) p.blocks)) (Err Flaw.Number)
+    (pick (eqb (count_in b) 0) (Err Flaw.Count)
+    (pick (ltb full_block (count_in b)) (Err Flaw.Count)
+    (pick (not (all_good (calls_of b))) (Err Flaw.Record)
+    (pick (not (all_zero (unused_of b))) (Err Flaw.Unused)
+    (Ok (progress (p.blocks + 1) (p.calls + count_in b))))))))
 
-unfoldable pub block_taken : Progress → List ℕ → Taken
+unfoldable pub block_taken : Progress → List ℕ → Result Progress Flaw
 block_taken p b =
-    pick (leb most_blocks p.blocks) (Taken.Refused Flaw.TooMany)
-    (pick (not (eqb (length b) block_size)) (Taken.Refused Flaw.Short)
-    (pick (not (eqb p.calls (full_block * p.blocks))) (Taken.Refused Flaw.BehindLast)
+    pick (leb most_blocks p.blocks) (Err Flaw.TooMany)
+    (pick (not (eqb (length b) block_size)) (Err Flaw.Short)
+    (pick (not (eqb p.calls (full_block * p.blocks))) (Err Flaw.BehindLast)
     (block_judged p b)))
 
 -- block i of a recording, short at its end, and how many there are, a short one counted
@@ -40,16 +42,16 @@ abbrev pub blocks_in : List ℕ → ℕ
 blocks_in r = (length r + 511) / block_size
 
 -- after a block: on with what is carried, or its index
-abbrev pub onward : Taken → (Progress → Heard) → ℕ → Heard
-onward (Taken.Next q) f i = f q
-onward (Taken.Refused w) f i = Heard.Bad i
+abbrev pub onward : Result Progress Flaw → (Progress → Result Progress ℕ) → ℕ → Result Progress ℕ
+onward (Ok q) f i = f q
+onward (Err w) f i = Err i
 
 -- k blocks behind what is carried, and all
-unfoldable pub heard_from : List ℕ → Progress → ℕ → Heard
-heard_from r p zero = Heard.Whole p
+unfoldable pub heard_from : List ℕ → Progress → ℕ → Result Progress ℕ
+heard_from r p zero = Ok p
 heard_from r p (suc k) = onward (block_taken p (block_at r p.blocks)) (λ q. heard_from r q k) p.blocks
 
-abbrev pub heard : List ℕ → Heard
+abbrev pub heard : List ℕ → Result Progress ℕ
 heard r = heard_from r (progress 0 0) (blocks_in r)
 
 -- the calls of block i, and all
@@ -60,9 +62,9 @@ abbrev pub call_bytes : List ℕ → List ℕ
 call_bytes r = pieces (calls_at r) 0 (blocks_in r)
 
 -- the reader
-abbrev pub heard_as : Heard → List ℕ → List ℕ → Wrote
-heard_as (Heard.Whole p) calls before = filled_with calls before
-heard_as (Heard.Bad i) calls before = wrote (Written.Bad i) before
+abbrev pub heard_as : Result Progress ℕ → List ℕ → List ℕ → Wrote
+heard_as (Ok p) calls before = filled_with calls before
+heard_as (Err i) calls before = wrote (Err (RecordingError.Bad i)) before
 
 unfoldable pub recording_read : List ℕ → List ℕ → Wrote
 recording_read r before = heard_as (heard r) (call_bytes r) before

@@ -1,7 +1,9 @@
 -- Calls as a recording (02, P1): refusal 16 with the index of the first call that is not as said or past the most, then 12 with the bytes needed.
+use Rattle.std.specs.Prelude.{Result, Ok, Err}
+use Rattle.recording.specs.declared.RecordingError.{RecordingError}
 use Rattle.std.specs.Prelude.{◌+◌, ◌*◌, ◌/◌, ◌%◌, ◌<◌, ◌≤◌, ◌≡◌}
 use Rattle.recording.specs.Names.{ℕ, zero, suc, List, eqb, leb, ltb, length, take, drop, min, pick, ◌and◌}
-use Rattle.recording.specs.Names.{call_size, call_at, is_good, pasted, IsTable, Written}
+use Rattle.recording.specs.Names.{call_size, call_at, is_good, pasted, IsTable}
 use Rattle.recording.specs.Blocks.{block_size, call_room, most_blocks, most_calls, block_of, pieces}
 
 -- how many records there are, a short one counted, and the first of n from record i on that is not as said, the one behind them where all are
@@ -32,15 +34,15 @@ recording_of l = pieces (block_for l) 0 (blocks_for l)
 
 -- an answer and the lent memory beside it
 pub record Wrote : Type 0 where
-  pub answer : Written
+  pub answer : Result ℕ RecordingError
   pub memory : List ℕ
 
-abbrev pub wrote : Written → List ℕ → Wrote
+abbrev pub wrote : Result ℕ RecordingError → List ℕ → Wrote
 wrote a l = record { answer = a; memory = l }
 
 -- bytes put at the front of the lent memory, or 12 with as many as are needed
 unfoldable pub filled_with : List ℕ → List ℕ → Wrote
-filled_with s before = pick (ltb (length before) (length s)) (wrote (Written.TooShort (length s)) before) (wrote (Written.Length (length s)) (pasted before 0 s))
+filled_with s before = pick (ltb (length before) (length s)) (wrote (Err (RecordingError.TooShort (length s))) before) (wrote (Ok (length s)) (pasted before 0 s))
 
 -- one block by itself, where its number, its calls and the lent memory are in bounds
 unfoldable pub block_written : ℕ → List ℕ → List ℕ → List ℕ
@@ -49,18 +51,18 @@ block_written n calls before =
 
 -- the writer
 unfoldable pub recording_written : List ℕ → List ℕ → Wrote
-recording_written l before = pick (ltb (bad_call l) (records_in l)) (wrote (Written.Bad (bad_call l)) before) (filled_with (recording_of l) before)
+recording_written l before = pick (ltb (bad_call l) (records_in l)) (wrote (Err (RecordingError.Bad (bad_call l))) before) (filled_with (recording_of l) before)
 
 -- the paper's number of an answer, 0 where nothing is refused, and the value beside it
-abbrev pub written_number : Written → ℕ
-written_number (Written.Length n) = 0
-written_number (Written.Bad i) = 16
-written_number (Written.TooShort n) = 12
+abbrev pub written_number : Result ℕ RecordingError → ℕ
+written_number (Ok n) = 0
+written_number (Err (RecordingError.Bad i)) = 16
+written_number (Err (RecordingError.TooShort n)) = 12
 
-abbrev pub written_value : Written → ℕ
-written_value (Written.Length n) = n
-written_value (Written.Bad i) = i
-written_value (Written.TooShort n) = n
+abbrev pub written_value : Result ℕ RecordingError → ℕ
+written_value (Ok n) = n
+written_value (Err (RecordingError.Bad i)) = i
+written_value (Err (RecordingError.TooShort n)) = n
 
 -- what putting a block asks, and putting all of them
 pub record BlockFits (t : List ℕ) (number calls room at : ℕ) : Type 0 where

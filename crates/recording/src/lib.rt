@@ -4,7 +4,6 @@ mod reader;
 mod writer;
 
 ghost use Rattle.std.specs.Prelude.{◌≡◌};
-ghost use Rattle.recording.specs.Names.{take, drop};
 ghost use Rattle.recording.specs.Blocks.{calls_of};
 ghost use Rattle.recording.specs.Writing.{wrote, block_written, recording_written};
 ghost use Rattle.recording.specs.Reading.{progress, block_taken, recording_read};
@@ -12,10 +11,16 @@ ghost use Rattle.recording.specs.Reading.{progress, block_taken, recording_read}
 // The bytes of a block.
 pub const BLOCK: usize = 512;
 
-// The calls of a full block, and their bytes.
+// The calls of a full block.
 pub const FULL: usize = 42;
 
-const CALL_ROOM: usize = 504;
+// The bytes of a full block's calls.
+const CALL_ROOM: usize = calls::SIZE * FULL;
+
+// Where a block's calls begin, and where its check lies.
+const HEAD: usize = 4;
+
+const CHECK: usize = HEAD + CALL_ROOM;
 
 // The most blocks of a recording.
 pub const MOST: usize = 65536;
@@ -40,24 +45,9 @@ pub struct Progress {
     pub calls: usize,
 }
 
-// What one more block comes to.
+// Why no recording is written or read: the index of the first bad call or block, or the bytes that are needed.
 #[derive(Clone, Copy)]
-pub enum Taken {
-    Next(Progress),
-    Refused(Flaw),
-}
-
-// What all blocks come to: how many and how many calls, or the index of the first bad one.
-#[derive(Clone, Copy)]
-pub enum Heard {
-    Whole(Progress),
-    Bad(usize),
-}
-
-// What writing or reading a recording answers: the bytes written; the index of the first bad call or block; or the bytes that are needed.
-#[derive(Clone, Copy)]
-pub enum Written {
-    Length(usize),
+pub enum RecordingError {
     Bad(usize),
     TooShort(usize),
 }
@@ -74,86 +64,62 @@ impl Progress {
     }
 
     // One more block.
-    pub fn take(self, block: &[u8]) -> Taken
+    pub fn take(self, block: &[u8]) -> Result<Progress, Flaw>
         ensures { result ≡ block_taken self block.now }
     {
-        let t = crc::table();
-        reader::take_by(&t, self, block)
+        reader::take_by(&crc::table(), self, block)
     }
-}
-
-// So many bytes from an offset on, as far as there are any.
-pub(crate) fn piece(s: &[u8], at: usize, size: usize) -> &[u8]
-    ensures { result.now ≡ take size (drop at s.now) }
-{
-    if at >= s.len() {
-        return &s[0..0];
-    }
-    if s.len() - at < size {
-        return &s[at..];
-    }
-    &s[at..at + size]
 }
 
 // The bytes of a block's calls.
+#[tactic(auto, unfolding(crate::specs::Blocks::calls_of))]
 pub fn calls_of(block: &[u8]) -> &[u8]
     ensures { result.now ≡ calls_of block.now }
 {
-    piece(block, 4, 12 * wire::low_at(block, 0) as usize)
+    let rest = block.get(HEAD..).unwrap_or(&[]);
+    let n = calls::SIZE * wire::low_at(block, 0) as usize;
+    &rest[..n.min(rest.len())]
 }
 
 // The block of a number with these calls, at the front of a memory; nothing where one of the three is out of bounds.
 pub fn write_block(number: usize, calls: &[u8], out: &mut [u8])
     ensures { out.new ≡ block_written number calls.now out.old }
 {
-    if number >= MOST {
-        return;
+    if number < MOST
+        && calls.len() <= CALL_ROOM
+        && calls.len() % calls::SIZE == 0
+        && out.len() >= BLOCK
+    {
+        writer::put_block(&crc::table(), number, calls, out, 0);
     }
-    if calls.len() > CALL_ROOM {
-        return;
-    }
-    if calls.len() % 12 != 0 {
-        return;
-    }
-    if out.len() < BLOCK {
-        return;
-    }
-    let t = crc::table();
-    writer::put_block(&t, number, calls, out, 0);
 }
 
 // Calls as a recording.
-pub fn write(calls: &[u8], out: &mut [u8]) -> Written
+pub fn write(calls: &[u8], out: &mut [u8]) -> Result<usize, RecordingError>
     ensures { wrote result out.new ≡ recording_written calls.now out.old }
 {
-    let n = (calls.len() + 11) / 12;
+    let n = calls.len().div_ceil(calls::SIZE);
     let bad = writer::bad_call(calls, n);
     if bad < n {
-        return Written::Bad(bad);
+        return Err(RecordingError::Bad(bad));
     }
-    let blocks = (calls.len() + 503) / CALL_ROOM;
-    let bytes = BLOCK * blocks;
+    let bytes = BLOCK * calls.len().div_ceil(CALL_ROOM);
     if out.len() < bytes {
-        return Written::TooShort(bytes);
+        return Err(RecordingError::TooShort(bytes));
     }
-    writer::put_blocks(calls, blocks, out);
-    Written::Length(bytes)
+    writer::put_blocks(calls, out);
+    Ok(bytes)
 }
 
 // The calls of a recording.
-pub fn read(recording: &[u8], out: &mut [u8]) -> Written
+pub fn read(recording: &[u8], out: &mut [u8]) -> Result<usize, RecordingError>
     ensures { wrote result out.new ≡ recording_read recording.now out.old }
 {
-    let h = reader::hear(recording);
-    match h {
-        Heard::Whole(p) => {
-            let bytes = 12 * p.calls;
-            if out.len() < bytes {
-                return Written::TooShort(bytes);
-            }
-            reader::fill(recording, p.blocks, out);
-            return Written::Length(bytes);
-        }
-        Heard::Bad(i) => return Written::Bad(i),
+    let p = reader::hear(recording).map_err(RecordingError::Bad)?;
+    let bytes = calls::SIZE * p.calls;
+    if out.len() < bytes {
+        return Err(RecordingError::TooShort(bytes));
     }
+    reader::fill(recording, out);
+    Ok(bytes)
 }

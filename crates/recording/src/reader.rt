@@ -1,104 +1,87 @@
 // Blocks read: each tested with what is carried from the one before, and their calls.
 ghost use Rattle.std.specs.Prelude.{◌≡◌};
 ghost use Rattle.recording.specs.Names.{length, pasted, IsTable};
-ghost use Rattle.recording.specs.Blocks.{pieces};
-ghost use Rattle.recording.specs.Reading.{all_zero, block_judged, block_taken, heard, calls_at, Judgeable, Fillable};
+ghost use Rattle.recording.specs.Reading.{all_zero, block_judged, block_taken, heard, blocks_in, call_bytes, Judgeable, Fillable};
 
-use crate::{BLOCK, FULL, Flaw, Heard, MOST, Progress, Taken};
+use crate::{BLOCK, CHECK, FULL, Flaw, HEAD, MOST, Progress};
 
 // Whether all bytes are zero.
+#[tactic(auto, using(crate::proofs::Zeros::zero_listed))]
 fn all_zero(s: &[u8]) -> bool
     ensures { result ≡ all_zero s.now }
 {
-    let mut i = 0;
-    while i < s.len() {
-        if s[i] != 0 {
-            return false;
-        }
-        i += 1;
-    }
-    true
+    s.iter().all(|b| *b == 0)
 }
 
 // A block of 512 bytes behind what is carried.
-fn judge(t: &[u32], p: Progress, block: &[u8]) -> Taken
+fn judge(t: &[u32], p: Progress, block: &[u8]) -> Result<Progress, Flaw>
     requires { Judgeable t.now p block.now }
     ensures { result ≡ block_judged p block.now }
 {
-    if wire::word_at(block, 508) != crc::crc32_by(t, &block[0..508]) {
-        return Taken::Refused(Flaw::Check);
+    if wire::word_at(block, CHECK) != crc::crc32_by(t, &block[..CHECK]) {
+        return Err(Flaw::Check);
     }
     if wire::high_at(block, 0) as usize != p.blocks {
-        return Taken::Refused(Flaw::Number);
+        return Err(Flaw::Number);
     }
     let n = wire::low_at(block, 0) as usize;
-    if n == 0 {
-        return Taken::Refused(Flaw::Count);
+    if n == 0 || n > FULL {
+        return Err(Flaw::Count);
     }
-    if n > FULL {
-        return Taken::Refused(Flaw::Count);
+    let end = HEAD + calls::SIZE * n;
+    if !calls::all_good(&block[HEAD..end]) {
+        return Err(Flaw::Record);
     }
-    if !calls::all_good(&block[4..4 + 12 * n]) {
-        return Taken::Refused(Flaw::Record);
+    if !all_zero(&block[end..CHECK]) {
+        return Err(Flaw::Unused);
     }
-    if !all_zero(&block[4 + 12 * n..508]) {
-        return Taken::Refused(Flaw::Unused);
-    }
-    Taken::Next(Progress {
+    Ok(Progress {
         blocks: p.blocks + 1,
         calls: p.calls + n,
     })
 }
 
 // One more block, by a table that is laid.
-pub(crate) fn take_by(t: &[u32], p: Progress, block: &[u8]) -> Taken
+pub(crate) fn take_by(t: &[u32], p: Progress, block: &[u8]) -> Result<Progress, Flaw>
     requires { IsTable t.now }
     ensures { result ≡ block_taken p block.now }
 {
     if p.blocks >= MOST {
-        return Taken::Refused(Flaw::TooMany);
+        return Err(Flaw::TooMany);
     }
     if block.len() != BLOCK {
-        return Taken::Refused(Flaw::Short);
+        return Err(Flaw::Short);
     }
     if p.calls != FULL * p.blocks {
-        return Taken::Refused(Flaw::BehindLast);
+        return Err(Flaw::BehindLast);
     }
     judge(t, p, block)
 }
 
 // All blocks, one after another.
-pub(crate) fn hear(recording: &[u8]) -> Heard
+pub(crate) fn hear(recording: &[u8]) -> Result<Progress, usize>
     ensures { result ≡ heard recording.now }
 {
     let t = crc::table();
-    let n = (recording.len() + 511) / BLOCK;
     let mut p = Progress::start();
-    let mut i: usize = 0;
-    while i < n {
-        let taken = take_by(&t, p, crate::piece(recording, BLOCK * i, BLOCK));
-        match taken {
-            Taken::Next(q) => {
-                p = q;
-                i += 1;
-            }
-            Taken::Refused(_) => return Heard::Bad(i),
-        }
+    for block in recording.chunks(BLOCK) {
+        let Ok(q) = take_by(&t, p, block) else {
+            return Err(p.blocks);
+        };
+        p = q;
     }
-    Heard::Whole(p)
+    Ok(p)
 }
 
-// The calls of the first n blocks, at the front of a memory that has room for them.
-pub(crate) fn fill(recording: &[u8], n: usize, out: &mut [u8])
-    requires { Fillable recording.now n (length out.old) }
-    ensures { out.new ≡ pasted out.old 0 (pieces (calls_at recording.now) 0 n) }
+// The calls of all blocks, at the front of a memory that has room for them.
+pub(crate) fn fill(recording: &[u8], out: &mut [u8])
+    requires { Fillable recording.now (blocks_in recording.now) (length out.old) }
+    ensures { out.new ≡ pasted out.old 0 (call_bytes recording.now) }
 {
-    let mut at: usize = 0;
-    let mut i: usize = 0;
-    while i < n {
-        let part = crate::calls_of(crate::piece(recording, BLOCK * i, BLOCK));
+    let mut at = 0;
+    for block in recording.chunks(BLOCK) {
+        let part = crate::calls_of(block);
         wire::put_bytes(out, at, part);
         at += part.len();
-        i += 1;
     }
 }

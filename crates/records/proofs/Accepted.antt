@@ -1,5 +1,7 @@
 -- What the check of a list promises of its mappings. Assumes nothing.
-use Rattle.records.specs.Names.{◌≡◌, Bool, true, false, List, [], ◌∷◌, ℕ, zero, suc, ◌+◌, ◌/◌, ◌≤◌, ◌<◌, length, pick, ◌or◌, Mapping, Checked}
+use Rattle.std.proofs.Common.{Result, Ok, Err}
+use Rattle.records.specs.declared.BadList.{BadList}
+use Rattle.records.specs.Names.{◌≡◌, Bool, true, false, List, [], ◌∷◌, ℕ, zero, suc, ◌+◌, ◌/◌, ◌≤◌, ◌<◌, length, pick, ◌or◌, Mapping}
 use Rattle.records.proofs.Names.{refl, sym, ◌∙◌, subst, true≢false, arith, dec_le, not-false, pick_yes, pick_no, and_left, and_right, or_yes}
 use Rattle.records.proofs.Names.{or_no, record_at, mapping_of, mappings_from, mappings, overlap, proper, well_formed, bad, clashes, overlapping}
 use Rattle.records.proofs.Names.{checked_from, begun, checked}
@@ -15,14 +17,14 @@ abbrev pub Clean : ℕ → List ℕ → ℕ → Type 0
 Clean n rs i = (bad n rs i ≡ false) × (overlapping rs i ≡ false)
 
 module _ (n : ℕ) (rs : List ℕ) where
-  step : (b o : Bool) (i : ℕ) (r : Checked) → pick b (Checked.BadRecord i) (pick o (Checked.Overlap i) r) ≡ Checked.Fine → ((b ≡ false) × (o ≡ false)) × (r ≡ Checked.Fine)
-  step true o i r e = let z : ◌≡◌ {A = ℕ} 0 1 = cc (pick_yes true (Checked.BadRecord i) (pick o (Checked.Overlap i) r) refl) in absurd (omega arith)
+  step : (b o : Bool) (i : ℕ) (r : Result Unit BadList) → pick b (Err (BadList.BadRecord i)) (pick o (Err (BadList.Overlap i)) r) ≡ Ok tt → ((b ≡ false) × (o ≡ false)) × (r ≡ Ok tt)
+  step true o i r e = let z : ◌≡◌ {A = ℕ} 0 1 = cc (pick_yes true (Err (BadList.BadRecord i)) (pick o (Err (BadList.Overlap i)) r) refl) in absurd (omega arith)
   step false true i r e =
-      let z : ◌≡◌ {A = ℕ} 0 1 = cc (pick_no false (Checked.BadRecord i) (pick true (Checked.Overlap i) r) refl, pick_yes true (Checked.Overlap i) r refl) in
+      let z : ◌≡◌ {A = ℕ} 0 1 = cc (pick_no false (Err (BadList.BadRecord i)) (pick true (Err (BadList.Overlap i)) r) refl, pick_yes true (Err (BadList.Overlap i)) r refl) in
       absurd (omega arith)
-  step false false i r e = ((refl, refl), sym (pick_no false (Checked.BadRecord i) (pick false (Checked.Overlap i) r) refl ∙ pick_no false (Checked.Overlap i) r refl) ∙ e)
+  step false false i r e = ((refl, refl), sym (pick_no false (Err (BadList.BadRecord i)) (pick false (Err (BadList.Overlap i)) r) refl ∙ pick_no false (Err (BadList.Overlap i)) r refl) ∙ e)
 
-  clean_from : (k i j : ℕ) → checked_from n rs i k ≡ Checked.Fine → i ≤ j → j < i + k → Clean n rs j
+  clean_from : (k i j : ℕ) → checked_from n rs i k ≡ Ok tt → i ≤ j → j < i + k → Clean n rs j
   unfolding checked_from
   clean_from zero i j e h l = absurd (omega arith)
   clean_from (suc k) i j e h l =
@@ -32,7 +34,7 @@ module _ (n : ℕ) (rs : List ℕ) where
         | no g ↦ clean_from k (suc i) j f.1 (omega arith) (omega arith)
       ]
 
-  pub fine_clean : checked n rs ≡ Checked.Fine → (i : ℕ) → i < begun rs → Clean n rs i
+  pub fine_clean : checked n rs ≡ Ok tt → (i : ℕ) → i < begun rs → Clean n rs i
   unfolding checked
   fine_clean e i h = clean_from (begun rs) 0 i e (omega arith) (omega arith)
 
@@ -50,7 +52,7 @@ pub all-records : (P : Mapping → Type 0) (rs : List ℕ) → ((k : ℕ) → k 
 unfolding mappings
 all-records P rs f = all_from P rs (length rs / 12) 0 (λ k h l. f k (omega arith))
 
-pub accepted-proper : (n : ℕ) (rs : List ℕ) → checked n rs ≡ Checked.Fine → All (λ m. proper n m ≡ true) (mappings rs)
+pub accepted-proper : (n : ℕ) (rs : List ℕ) → checked n rs ≡ Ok tt → All (λ m. proper n m ≡ true) (mappings rs)
 accepted-proper n rs e = all-records _ rs (λ k h. proper_at n rs k (fine_clean n rs e k (omega arith)).0)
 
 -- and none overlaps a later one
@@ -76,7 +78,7 @@ disjoint_from rs (suc n) i f = (
   disjoint_from rs n (suc i) (λ j k h l. f j k h (omega arith)),
 )
 
-pub accepted_disjoint : (n : ℕ) (rs : List ℕ) → checked n rs ≡ Checked.Fine → Disjoint (mappings rs)
+pub accepted_disjoint : (n : ℕ) (rs : List ℕ) → checked n rs ≡ Ok tt → Disjoint (mappings rs)
 unfolding mappings overlapping
 accepted_disjoint n rs e =
     disjoint_from rs (length rs / 12) 0

@@ -1,5 +1,4 @@
 pub mod Names
-pub mod Scan
 pub mod Alls
 pub mod Records
 pub mod Rest
@@ -12,3 +11,4 @@ pub mod Taken
 pub mod Noted
 pub mod Notes
 pub mod Listed
+pub mod Pieces

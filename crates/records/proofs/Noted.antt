@@ -1,5 +1,7 @@
 -- The kinds that the check notes: after i records those of the first i mappings. Assumes nothing.
-use Rattle.records.specs.Names.{◌≡◌, Bool, true, false, List, ℕ, zero, suc, ◌+◌, ◌*◌, ◌/◌, ◌≤◌, ◌<◌, length, set, ◌or◌, Kind, Mapping, Checked}
+use Rattle.std.proofs.Common.{Result, Ok, Err}
+use Rattle.records.specs.declared.BadList.{BadList}
+use Rattle.records.specs.Names.{◌≡◌, Bool, true, false, List, ℕ, zero, suc, ◌+◌, ◌*◌, ◌/◌, ◌≤◌, ◌<◌, length, set, ◌or◌, Kind, Mapping}
 use Rattle.records.proofs.Names.{refl, sym, ap, ◌∙◌, subst, arith, add-one, length-set, record_at, mapping_of, mappings_from, mappings, is_in}
 use Rattle.records.proofs.Names.{has_kind, Blank, note_at, Kinds}
 use Rattle.records.proofs.Notes.{noted_none, noted_more}
@@ -47,8 +49,5 @@ unfolding mappings
 notes_end rs i seen lo hi n = subst (λ (k : ℕ). Kinds (mappings_from rs 0 k) seen) (let e : i ≡ length rs / 12 = omega arith in e) n.kinds
 
 -- no refusal is a fine list
-pub bad-not-fine : (i : ℕ) → Checked.BadRecord i ≡ Checked.Fine → ⊥
-bad-not-fine i e = let z : ◌≡◌ {A = ℕ} 0 1 = cc in omega arith
-
-pub overlap-not-fine : (i : ℕ) → Checked.Overlap i ≡ Checked.Fine → ⊥
-overlap-not-fine i e = let z : ◌≡◌ {A = ℕ} 0 1 = cc in omega arith
+pub bad-not-fine : (b : BadList) → ◌≡◌ {A = Result Unit BadList} (Err b) (Ok tt) → ⊥
+bad-not-fine b e = cc

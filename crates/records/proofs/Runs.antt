@@ -1,11 +1,17 @@
 -- Bits of numbers, and runs of them that are zero. Assumes nothing.
-use Rattle.records.specs.Names.{◌≡◌, List, ℕ, zero, suc, ◌+◌, ◌*◌, ◌/◌, ◌%◌, ◌^◌, ◌≤◌, ◌<◌, eqb, length, get_or, set}
+use Rattle.records.specs.Names.{◌≡◌, List, ℕ, zero, suc, ◌+◌, ◌*◌, ◌/◌, ◌%◌, ◌^◌, ◌≤◌, ◌<◌, Bool, true, false, eqb, length, get_or, set, take, drop, replicate}
 use Rattle.records.proofs.Names.{refl, sym, ap, ap₂, ◌∙◌, subst, ◌-◌, arith, zero-div, mul-mod_left, dec_le, ℕ_discrete, eq-eqb, ne_eqb, field}
-use Rattle.records.proofs.Names.{mod-mod-pow, shr-shr, bit_or, get_or-set_same, get_or-set_other, bit, Says, Untaken, Full}
+use Rattle.records.proofs.Names.{mod-mod-pow, shr-shr, bit_or, get_or-set_same, get_or-set_other, length-take, length-drop, bit, Says, Untaken, Full}
 use Prim.Native.Nat.{max}
 use native.Mathlib.Nat.{zero-mul, mod-one, mod-eq_of_lt, max-zero}
 use lib.Pow.{mod-pow-add, shr_lt, shl_lt, shl-shr, high, ones_lt, ones_split, pow_mono}
 use lib.Bits.{or_shr, or_step}
+use lib.Seq.{get_or-take, get_or-drop, get_or-append_right}
+use lib.ListN.{get_or-append, length-replicate}
+use borrow.Rule.Slice.PartMut.{put_mid}
+use Rattle.std.proofs.lemmas.List.{get_or-replicate}
+use Rattle.std.specs.Bool.{MatchBool}
+use Rattle.std.specs.List.{AllWithin, HoldsAt}
 
 -- a number whose n low bits are zero, by the bit
 pub bits_zero : (n x r : ℕ) → x % 2 ^ n ≡ 0 → r < n → x / 2 ^ r % 2 ≡ 0
@@ -144,35 +150,70 @@ pub full-all : (c : List ℕ) (w : ℕ) → w < length c → Full c (64 * w + 0)
 full-all c w lt =
     full-word c w 18446744073709551615 0 64 lt (omega arith) (λ r l h. ones_bit 64 r (omega arith)) (λ r o k. absurd (o (omega arith) (omega arith)))
 
--- two runs one behind the other
-pub full_join : (c d e : List ℕ) (s n k : ℕ) → Full c s n d → Full d (s + n) k e → Full c s (n + k) e
-full_join c d e s n k f g = (
-  λ p l h. elim (dec_le (s + n) p) [
-    | yes q ↦ g.0 p q (omega arith)
-    | no q ↦ g.1 p (λ x y. omega arith) ∙ f.0 p l (omega arith)
-  ],
-  λ p o. g.1 p (λ x y. o (omega arith) (omega arith)) ∙ f.1 p (λ x y. o x (omega arith)),
-)
-
-pub full-none : (c : List ℕ) (s : ℕ) → Full c s 0 c
-full-none c s = (λ p l h. absurd (omega arith), λ p o. refl)
-
-pub clear_join : (c : List ℕ) (s n k : ℕ) → Untaken c s n → Untaken c (s + n) k → Untaken c s (n + k)
-clear_join c s n k f g p l h = elim (dec_le (s + n) p) [
-  | yes q ↦ g p q (omega arith)
-  | no q ↦ f p l (omega arith)
-]
-
+-- a part of a run
 pub clear_part : (c : List ℕ) (s n t k : ℕ) → s ≤ t → t + k ≤ s + n → Untaken c s n → Untaken c t k
 clear_part c s n t k a b f p l h = f p (omega arith) (omega arith)
 
--- one word more, of words one behind the other
-pub clear_turn : (c : List ℕ) (w j : ℕ) → get_or c (w + j) 0 ≡ 0 → Untaken c (64 * w) (64 * j) → Untaken c (64 * w) (64 * (j + 1))
-clear_turn c w j e f p l h =
-    clear_join c (64 * w) (64 * j) 64 f (λ q a b. word_clear c (w + j) e q (omega arith) (omega arith)) p l (omega arith)
+-- words one behind the other, by each of them
+pub clear_words : (c : List ℕ) (w n : ℕ) → ((k : ℕ) → k < n → get_or c (w + k) 0 ≡ 0) → Untaken c (64 * w) (64 * n)
+clear_words c w n f p l h =
+    let k : ℕ = p / 64 - w in
+    word_clear c (w + k) (f k (omega arith)) p (omega arith) (omega arith)
 
-pub full_turn : (c d : List ℕ) (w j : ℕ) → w + j < length d → Full c (64 * w) (64 * j) d → Full c (64 * w) (64 * (j + 1)) (set d (w + j) 18446744073709551615)
-full_turn c d w j lt f =
-    subst (λ (n : ℕ). Full c (64 * w) n (set d (w + j) 18446744073709551615)) (let e : 64 * j + 64 ≡ 64 * (j + 1) = omega arith in e)
-    (full_join c d _ (64 * w) (64 * j) 64 f
-    (subst (λ (s : ℕ). Full d s 64 (set d (w + j) 18446744073709551615)) (let e : 64 * (w + j) + 0 ≡ 64 * w + 64 * j = omega arith in e) (full-all d (w + j) lt)))
+pub full_words : (c d : List ℕ) (w n : ℕ) → ((i : ℕ) → w ≤ i → i < w + n → get_or d i 0 ≡ 18446744073709551615)
+    → ((i : ℕ) → (w ≤ i → i < w + n → ⊥) → get_or d i 0 ≡ get_or c i 0) → Full c (64 * w) (64 * n) d
+unfolding bit
+full_words c d w n f g = (
+  λ p l h. ap (λ (x : ℕ). x / 2 ^ (p % 64) % 2) (f (p / 64) (omega arith) (omega arith)) ∙ ones_bit 64 (p % 64) (omega arith),
+  λ p o. ap (λ (x : ℕ). x / 2 ^ (p % 64) % 2) (g (p / 64) (λ l h. o (omega arith) (omega arith))),
+)
+
+-- sixteen words of ones in place of a part
+pub full_mid : (c ys : List ℕ) (w n : ℕ) → n ≡ 16 → w + 16 ≤ length c → ys ≡ replicate (length (take n (drop w c))) 18446744073709551615
+    → Full c (64 * w) 1024 (put_mid w n c ys)
+full_mid c ys w n e room ones =
+    full_words c (put_mid w n c ys) w 16 mid (λ i o. elim (dec_le w i) [
+      | yes g ↦ above i g o
+      | no g ↦ get_or-append (take w c) _ 0 i (omega (arith, head)) ∙ get_or-take w c i 0 (omega arith)
+    ])
+  where
+    head : length (take w c) ≡ w
+    head = omega (arith, length-take w c)
+
+    long : length ys ≡ 16
+    long = ap length ones ∙ length-replicate _ _ ∙ (let z : length (take n (drop w c)) ≡ 16 = omega (arith, length-take n (drop w c), length-drop w c) in z)
+
+    mid : (i : ℕ) → w ≤ i → i < w + 16 → get_or (put_mid w n c ys) i 0 ≡ 18446744073709551615
+    mid i l h =
+        get_or-append_right (take w c) _ i 0 (omega (arith, head))
+        ∙ get_or-append ys _ 0 (i - length (take w c)) (omega (arith, head, long))
+        ∙ ap (λ (l : List ℕ). get_or l (i - length (take w c)) 0) ones
+        ∙ get_or-replicate _ _ _ 0 (let z : i - length (take w c) < length (take n (drop w c)) = omega (arith, head, length-take n (drop w c), length-drop w c) in z)
+
+    above : (i : ℕ) → w ≤ i → (w ≤ i → i < w + 16 → ⊥) → get_or (put_mid w n c ys) i 0 ≡ get_or c i 0
+    above i g o =
+        get_or-append_right (take w c) _ i 0 (omega (arith, head))
+        ∙ get_or-append_right ys _ (i - length (take w c)) 0 (let z : length ys ≤ i - length (take w c) = omega (arith, head, long, o g) in z)
+        ∙ get_or-drop n (drop w c) _ 0
+        ∙ get_or-drop w c _ 0
+        ∙ ap (λ (k : ℕ). get_or c k 0) (let z : w + (n + (i - length (take w c) - length ys)) ≡ i = omega (arith, head, long, o g) in z)
+
+-- what a test of each of sixteen words says of them
+pub says_sixteen : (c : List ℕ) (w n : ℕ) (r : Bool) → n ≡ 16 → w + 16 ≤ length c → ((i : ℕ) → get_or c i 0 < 2 ^ 64)
+    → MatchBool r (AllWithin (λ x. x ≡ 0) (take n (drop w c)) 0 (length (take n (drop w c))))
+    ((k : ℕ) × (k < length (take n (drop w c))) × HoldsAt (λ x. x ≡ 0 → ⊥) (take n (drop w c)) k) → Says (Untaken c (64 * w) 1024) r
+says_sixteen c w n r e room fits m =
+    by r m
+  where
+    long : length (take n (drop w c)) ≡ 16
+    long = omega (arith, length-take n (drop w c), length-drop w c)
+
+    word : (k : ℕ) → k < 16 → get_or (take n (drop w c)) k 0 ≡ get_or c (w + k) 0
+    word k h = get_or-take n (drop w c) k 0 (omega arith) ∙ get_or-drop w c k 0
+
+    by : (b : Bool) → MatchBool b (AllWithin (λ x. x ≡ 0) (take n (drop w c)) 0 (length (take n (drop w c))))
+        ((k : ℕ) × (k < length (take n (drop w c))) × HoldsAt (λ x. x ≡ 0 → ⊥) (take n (drop w c)) k) → Says (Untaken c (64 * w) 1024) b
+    by true a = clear_words c w 16 (λ k h. sym (word k h) ∙ a k 0 (omega arith) (omega (arith, long)))
+    by false a = λ f.
+        let lt : a.0 < 16 = omega (arith, long, a.1) in
+        a.2 0 (word a.0 lt ∙ clear_word c (w + a.0) (fits (w + a.0)) (clear_part c (64 * w) 1024 (64 * (w + a.0)) 64 (omega arith) (omega arith) f))

@@ -1,13 +1,12 @@
--- The pages that the records before have, as bits, and what a record that overlaps one of them finds there. Assumes nothing.
+-- The pages that the records before have, as bits, and what a record that overlaps one of them finds there. Assumes
+-- nothing.
 use Rattle.records.specs.Names.{◌≡◌, Bool, true, false, not, List, ℕ, zero, suc, ◌+◌, ◌*◌, ◌/◌, ◌%◌, ◌^◌, ◌≤◌, ◌<◌, get_or, virtual, megabytes}
 use Rattle.records.specs.Names.{low_bits, VirtualAddress, Kind, Mapping}
 use Rattle.records.proofs.Names.{refl, sym, ap, ◌∙◌, subst, true≢false, arith, zero-div, dec_le, ◌⊎◌, inl, inr, eq-eqb, eqb-true, ltb-true}
-use Rattle.records.proofs.Names.{and_left, or_no, record_at, mapping_of, mappings_from, mappings, no_mapping, holds, overlap, proper, bit, Says}
+use Rattle.records.proofs.Names.{and_left, or_no, record_at, mapping_of, mappings_from, holds, overlap, proper, bit, Says}
 use Rattle.records.proofs.Names.{Free, Covered, bad, clashes, overlapping}
 use mathlib.Core.Logic.{⊎_elim}
-use Rattle.records.proofs.Listed.{mappings_at}
 use Rattle.records.proofs.Rest.{by_false}
-use Rattle.records.proofs.Refusals.{whole}
 use Rattle.records.proofs.Accepted.{clash_at, proper_at}
 use Rattle.records.proofs.Holders.{Both, overlap_shared, both_hold}
 
@@ -104,16 +103,13 @@ unfolding proper
 good-below rs i e = ltb-true _ _ (and_left _ _ (proper_at megabytes rs i e))
 
 -- a turn of the check: the mapping that it reads at a record that is not bad
-module _ (rs : List ℕ) (i : ℕ) (m : Mapping) (good : bad megabytes rs i ≡ false) (read : m ≡ get_or (mappings rs) i no_mapping) where
-  pub read_is : m ≡ mapping_of (record_at rs i)
-  read_is = read ∙ mappings_at rs i (let w = whole megabytes rs i good in omega arith)
-
+module _ (rs : List ℕ) (i : ℕ) (m : Mapping) (good : bad megabytes rs i ≡ false) (read : m ≡ mapping_of (record_at rs i)) where
   pub read_below : m.at.0 < 16777216
-  read_below = subst (λ (x : Mapping). x.at.0 < 16777216) (sym read_is) (good-below rs i good)
+  read_below = subst (λ (x : Mapping). x.at.0 < 16777216) (sym read) (good-below rs i good)
 
   pub overlap_says : (c : List ℕ) (r : Bool) → Marks rs i c → Says (Free c m) r → overlapping rs i ≡ not r
   unfolding overlapping
-  overlap_says c r k s = ap (clashes (mappings_from rs 0 i)) (sym read_is) ∙ clash_says rs c i m r k read_below s
+  overlap_says c r k s = ap (clashes (mappings_from rs 0 i)) (sym read) ∙ clash_says rs c i m r k read_below s
 
   pub marks_turn : (c d : List ℕ) → Marks rs i c → Covered c m d → Marks rs (i + 1) d
-  marks_turn c d k v = marks_more rs c d i k (subst (λ (x : Mapping). Covered c x d) read_is v)
+  marks_turn c d k v = marks_more rs c d i k (subst (λ (x : Mapping). Covered c x d) read v)

@@ -1,4 +1,5 @@
--- The tiny pages that earlier records have, as bits, 64 to a word: how an overlap is found (01, "When the unit says no", 11).
+-- The tiny pages that earlier records have, as bits, 64 to a word: how an overlap is found (01, "When the unit says
+-- no", 11).
 use Rattle.std.specs.Prelude.{◌+◌, ◌*◌, ◌/◌, ◌%◌, ◌^◌, ◌<◌, ◌≤◌, ◌≡◌}
 use Rattle.records.specs.Names.{ℕ, Bool, true, false, List, get_or, virtual, Mapping}
 use Rattle.records.specs.Mappings.{holds}

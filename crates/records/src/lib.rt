@@ -25,27 +25,35 @@ pub struct Mapping {
     pub access: u32,
 }
 
-// The mapping that holds an address, if one does.
+// The first refusal of a list, with its record's index.
 #[derive(Clone, Copy)]
-pub enum Held {
-    By(Mapping),
-    Nobody,
-}
-
-// What the check of a list finds: nothing, or the first refusal with its record's index.
-#[derive(Clone, Copy)]
-pub enum Checked {
-    Fine,
+pub enum BadList {
     BadRecord(usize),
     Overlap(usize),
 }
 
-// What a list means at an address: a physical byte, or which fault.
+// Why a list means no physical byte at an address: the fault.
 #[derive(Clone, Copy)]
-pub enum Meaning {
-    Byte(PhysicalAddress),
+pub enum Denial {
     Permission,
     Translation,
+}
+
+impl Mapping {
+    // Whether its region has an address.
+    pub fn holds(self, va: VirtualAddress) -> bool
+        ensures { result ≡ holds self va }
+    {
+        let n = page::low_bits(self.kind);
+        va.0 >> n == self.at.0 >> n
+    }
+
+    // The physical byte that it gives for an address.
+    pub fn byte_of(self, va: VirtualAddress) -> PhysicalAddress
+        ensures { result ≡ byte_of self va }
+    {
+        page::join(self.kind, self.to, va)
+    }
 }
 
 // The word of four bytes from byte i on.
@@ -56,33 +64,17 @@ fn word_at(r: &[u8], i: usize) -> u32
     wire::word_of(&r[i..i + 4])
 }
 
-// A byte as a word.
-fn wide(x: u8) -> u32
-    ensures { result ≡ x }
-{
-    x as u32
-}
-
 // The mapping that a record's bytes say.
-fn mapping_of(r: &[u8]) -> Mapping
+pub(crate) fn mapping_of(r: &[u8]) -> Mapping
     requires { record_size ≤ length r.now }
     ensures { result ≡ mapping_of r.now }
 {
     Mapping {
         at: VirtualAddress(word_at(r, 0)),
         to: PhysicalAddress(word_at(r, 4)),
-        kind: page::kind_of(wide(r[8])),
-        access: wide(r[9]),
+        kind: page::kind_of(r[8] as u32),
+        access: r[9] as u32,
     }
-}
-
-// The mapping of record i.
-fn mapped(records: &[u8], i: usize) -> Mapping
-    requires { record_size * i + record_size ≤ length records.now }
-    ensures { result ≡ mapping_of (record_at records.now i) }
-{
-    let at = SIZE * i;
-    mapping_of(&records[at..at + SIZE])
 }
 
 // How many whole records there are.
@@ -97,33 +89,16 @@ pub fn mapping_at(records: &[u8], i: usize) -> Mapping
     ensures { result ≡ get_or (mappings records.now) i no_mapping }
 {
     if i < records.len() / SIZE {
-        return mapped(records, i);
+        let at = SIZE * i;
+        mapping_of(&records[at..at + SIZE])
+    } else {
+        Mapping {
+            at: VirtualAddress(0),
+            to: PhysicalAddress(0),
+            kind: Kind::Section,
+            access: 0,
+        }
     }
-    Mapping {
-        at: VirtualAddress(0),
-        to: PhysicalAddress(0),
-        kind: Kind::Section,
-        access: 0,
-    }
-}
-
-// Whether a mapping's region has an address.
-pub fn holds(m: Mapping, va: VirtualAddress) -> bool
-    ensures { result ≡ holds m va }
-{
-    let at = m.at;
-    let k = m.kind;
-    let n = page::low_bits(k);
-    va.0 >> n == at.0 >> n
-}
-
-// The physical byte that a mapping gives for an address.
-pub fn byte_of(m: Mapping, va: VirtualAddress) -> PhysicalAddress
-    ensures { result ≡ byte_of m va }
-{
-    let to = m.to;
-    let k = m.kind;
-    page::join(k, to, va)
 }
 
 // Whether a record's bytes are as they must be.
@@ -133,18 +108,7 @@ pub fn well_formed(r: &[u8]) -> bool
     if r.len() < SIZE {
         return false;
     }
-    let rest = word_at(r, 8);
-    if rest / 512 != 1 {
-        return false;
-    }
-    if rest % 256 >= 4 {
-        return false;
-    }
-    let at = word_at(r, 0);
-    let to = word_at(r, 4);
-    if LIMIT <= at {
-        return false;
-    }
-    let n = page::low_bits(page::kind_of(rest % 256));
-    (at | to) % (1 << n) == 0
+    let (at, to, rest) = (word_at(r, 0), word_at(r, 4), word_at(r, 8));
+    let kind = page::kind_of(rest % 256);
+    rest / 512 == 1 && rest % 256 < 4 && at < LIMIT && (at | to) % (1 << page::low_bits(kind)) == 0
 }

@@ -1,5 +1,6 @@
 -- The offsets: 21 registers and no other. Assumes nothing.
-use Rattle.registers.specs.Names.{◌≡◌, Bool, true, false, not, List, [], ◌∷◌, ℕ, ◌*◌, ◌%◌, eqb, leb, pick, ◌and◌, Pending, Registers, Answer}
+use Rattle.std.proofs.Common.{Option}
+use Rattle.registers.specs.Names.{◌≡◌, Bool, true, false, not, List, [], ◌∷◌, ℕ, ◌*◌, ◌%◌, eqb, leb, pick, ◌and◌, Stall, Registers, Answer}
 use Rattle.registers.specs.Names.{Tending, Command}
 use Rattle.registers.proofs.Names.{refl, sym, ap, ◌∙◌, subst, ◌<◌, arith, eqb-true, not-true, not-false, pick_by, and_left, and_right, listed}
 use Rattle.registers.proofs.Names.{control_command, lock_command, load_command, when_bit, command_of, value_at}
@@ -83,7 +84,7 @@ pub command_elsewhere : (o v : ℕ) → no_register o ≡ true → command_of o 
 unfolding command_of no_register ◌and◌
 command_elsewhere o v h = listed_other _ (Command.Refused 5) o refl h
 
-pub value_elsewhere : (o : ℕ) (r : Registers) (lock victim : ℕ) (p : Pending) → no_register o ≡ true → value_at o r lock victim p ≡ Answer.Refused 5
+pub value_elsewhere : (o : ℕ) (r : Registers) (lock victim : ℕ) (p : Option Stall) → no_register o ≡ true → value_at o r lock victim p ≡ Answer.Refused 5
 unfolding value_at no_register ◌and◌
 value_elsewhere o r lock victim p h = listed_other _ (Answer.Refused 5) o refl h
 
@@ -145,7 +146,7 @@ command_five v =
     refl
     (λ o h. ap is_five (command_elsewhere o v h) ∙ sym h)
 
-pub value_five : (r : Registers) (lock victim : ℕ) (p : Pending) (o : ℕ) → eqb (answer_number (value_at o r lock victim p)) 5 ≡ no_register o
+pub value_five : (r : Registers) (lock victim : ℕ) (p : Option Stall) (o : ℕ) → eqb (answer_number (value_at o r lock victim p)) 5 ≡ no_register o
 unfolding value_at listed pick no_register ◌and◌
 value_five r lock victim p =
     by_offset (λ (o : ℕ). eqb (answer_number (value_at o r lock victim p)) 5 ≡ no_register o)

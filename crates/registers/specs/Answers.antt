@@ -1,6 +1,6 @@
 -- Answers and pending faults, with the paper's numbers (01, "When the unit says no", "Registers").
-use Rattle.std.specs.Prelude.{◌∷◌}
-use Rattle.registers.specs.Names.{ℕ, Bool, true, false, List, [], Fault, Pending, Answer}
+use Rattle.std.specs.Prelude.{Option, Some, None, ◌∷◌}
+use Rattle.registers.specs.Names.{ℕ, Bool, true, false, List, [], Fault, Stall, Answer, VirtualAddress, Access}
 
 -- the paper's number of a fault
 abbrev pub fault_number : Fault → ℕ
@@ -33,10 +33,14 @@ is_refusal (Answer.Value x) = false
 is_refusal Answer.Done = false
 is_refusal (Answer.Refused k) = true
 
+-- a fault that is held, of its parts
+abbrev pub stall : Fault → VirtualAddress → Access → Stall
+stall k va a = record { fault = k; at = va; access = a }
+
 -- nothing is pending
-abbrev pub idle : Pending → Bool
-idle Pending.Nothing = true
-idle (Pending.Held k va a) = false
+abbrev pub idle : Option Stall → Bool
+idle None = true
+idle (Some s) = false
 
 -- a fault in a prefetch
 abbrev pub is_prefetch : Fault → Bool
@@ -53,11 +57,11 @@ fault_bit Fault.Permission = 4
 fault_bit Fault.Prefetch = 8
 
 -- the fault status, zero when nothing is pending
-abbrev pub fault_status : Pending → ℕ
-fault_status Pending.Nothing = 0
-fault_status (Pending.Held k va a) = fault_bit k
+abbrev pub fault_status : Option Stall → ℕ
+fault_status None = 0
+fault_status (Some s) = fault_bit s.fault
 
 -- the fault address, zero when nothing is pending
-abbrev pub fault_address : Pending → ℕ
-fault_address Pending.Nothing = 0
-fault_address (Pending.Held k va a) = va.0
+abbrev pub fault_address : Option Stall → ℕ
+fault_address None = 0
+fault_address (Some s) = s.at.0

@@ -1,7 +1,6 @@
 -- The registers' fields: control bits, a slot in register form, ranges, settings (01, "Registers", "The unit").
-use Rattle.std.specs.Prelude.{◌+◌, ◌*◌, ◌/◌, ◌%◌, ◌^◌}
-use Rattle.registers.specs.Names.{ℕ, Bool, true, eqb, ltb, ◌and◌, virtual, physical, limit, VirtualAddress, Words}
-use Rattle.registers.specs.Names.{Entry, Registers, Pending, Setting}
+use Rattle.std.specs.Prelude.{Option, Some, None, ◌+◌, ◌*◌, ◌/◌, ◌%◌, ◌^◌}
+use Rattle.registers.specs.Names.{ℕ, Bool, true, eqb, ltb, ◌and◌, virtual, physical, limit, VirtualAddress, Words, Entry, Registers, Stall, Setting}
 
 -- control: 1 enable, 2 walk
 abbrev pub is_on : ℕ → Bool
@@ -33,9 +32,9 @@ registers_ok r =
     and entry_ok r.staged
     and entry_ok r.copied
 
-abbrev pub pending_ok : Pending → Bool
-pending_ok Pending.Nothing = true
-pending_ok (Pending.Held k va a) = ltb va.0 limit
+abbrev pub pending_ok : Option Stall → Bool
+pending_ok None = true
+pending_ok (Some s) = ltb s.at.0 limit
 
 -- a slot's words are the halves of its register form
 abbrev pub words_of : Entry → Words
@@ -50,26 +49,26 @@ cam_address e = virtual ((words_of e).cam / 16 % 2 ^ 14 * 2 ^ 10)
 
 -- registers with one part set
 abbrev pub with_control : Registers → ℕ → Registers
-with_control r v = record { control = v; base = r.base; prefetch = r.prefetch; staged = r.staged; copied = r.copied }
+with_control r v = record r { control = v }
 
 abbrev pub with_base : Registers → ℕ → Registers
-with_base r b = record { control = r.control; base = physical b; prefetch = r.prefetch; staged = r.staged; copied = r.copied }
+with_base r b = record r { base = physical b }
 
 abbrev pub with_prefetch : Registers → ℕ → Registers
-with_prefetch r v = record { control = r.control; base = r.base; prefetch = v; staged = r.staged; copied = r.copied }
+with_prefetch r v = record r { prefetch = v }
 
 abbrev pub with_staged : Registers → Entry → Registers
-with_staged r e = record { control = r.control; base = r.base; prefetch = r.prefetch; staged = e; copied = r.copied }
+with_staged r e = record r { staged = e }
 
 abbrev pub with_copied : Registers → Entry → Registers
-with_copied r e = record { control = r.control; base = r.base; prefetch = r.prefetch; staged = r.staged; copied = e }
+with_copied r e = record r { copied = e }
 
 -- the registers after a setting
 abbrev pub setting : Registers → Setting → Registers
 setting r (Setting.Control v) = with_control r v
 setting r (Setting.BaseHigh v) = with_base r (v * 65536 + r.base.0 % 65536)
 setting r (Setting.BaseLow v) = with_base r (r.base.0 / 65536 * 65536 + v)
-setting r (Setting.CamHigh v) = with_staged r (record { camhi = v; camlo = r.staged.camlo; ramhi = r.staged.ramhi; ramlo = r.staged.ramlo })
-setting r (Setting.CamLow v) = with_staged r (record { camhi = r.staged.camhi; camlo = v; ramhi = r.staged.ramhi; ramlo = r.staged.ramlo })
-setting r (Setting.RamHigh v) = with_staged r (record { camhi = r.staged.camhi; camlo = r.staged.camlo; ramhi = v; ramlo = r.staged.ramlo })
-setting r (Setting.RamLow v) = with_staged r (record { camhi = r.staged.camhi; camlo = r.staged.camlo; ramhi = r.staged.ramhi; ramlo = v })
+setting r (Setting.CamHigh v) = with_staged r (record (r.staged) { camhi = v })
+setting r (Setting.CamLow v) = with_staged r (record (r.staged) { camlo = v })
+setting r (Setting.RamHigh v) = with_staged r (record (r.staged) { ramhi = v })
+setting r (Setting.RamLow v) = with_staged r (record (r.staged) { ramlo = v })

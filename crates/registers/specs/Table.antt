@@ -1,7 +1,7 @@
 -- The 21 registers in the order of Table 3 of 000: what a write asks for, and what a read shows (01, "Registers").
-use Rattle.std.specs.Prelude.{◌+◌, ◌*◌, ◌/◌, ◌%◌, ◌∷◌}
+use Rattle.std.specs.Prelude.{Option, ◌+◌, ◌*◌, ◌/◌, ◌%◌, ◌∷◌}
 use Rattle.registers.specs.Names.{ℕ, Bool, not, List, [], eqb, ltb, leb, pick, ◌and◌, slots, locked_at, bank_flushed}
-use Rattle.registers.specs.Names.{bank_flushed_at, Bank, Pending, Entry, Registers, Answer, Setting, Tending, Command}
+use Rattle.registers.specs.Names.{bank_flushed_at, Bank, Stall, Entry, Registers, Answer, Setting, Tending, Command}
 use Rattle.registers.specs.Answers.{fault_status, fault_address}
 use Rattle.registers.specs.Fields.{cam_address}
 use Rattle.registers.specs.Offsets.{prefetch_at, walk_status_at, control_at, fault_high_at, fault_low_at, fault_status_at, acknowledge_at, base_high_at}
@@ -66,7 +66,7 @@ command_of o v =
     (Command.Refused 5) o
 
 -- what a read gives; 6 at acknowledge, 5 where there is no register
-unfoldable pub value_at : ℕ → Registers → ℕ → ℕ → Pending → Answer
+unfoldable pub value_at : ℕ → Registers → ℕ → ℕ → Option Stall → Answer
 value_at o r lock victim p =
     listed (
     (prefetch_at, Answer.Value r.prefetch)

@@ -1,30 +1,34 @@
 #![tactic(auto)]
 // The registers: their types and Table 3, what is in range, and a slot in register form.
 pub mod offsets;
+pub mod refusals;
 pub mod values;
 
 ghost use Rattle.std.specs.Prelude.{◌≡◌};
-ghost use Rattle.registers.specs.Answers.{fault_bit, is_prefetch, idle};
+ghost use Rattle.registers.specs.Answers.{fault_bit, is_prefetch};
 ghost use Rattle.registers.specs.Fields.{is_on, is_walking, fresh_registers, entry_ok, registers_ok, pending_ok, words_of, entry_of, cam_address};
 
 use page::{Access, LIMIT, PhysicalAddress, VirtualAddress, Words};
 
+// A fault, with its status bit.
 #[derive(Clone, Copy)]
 pub enum Fault {
-    Translation,
-    Miss,
-    Permission,
-    Prefetch,
+    Translation = 1,
+    Miss = 2,
+    Permission = 4,
+    Prefetch = 8,
 }
 
-// The pending fault: nothing, or its kind with the address and access of the request.
+// A fault that is held: its kind, with the address and access of the request.
 #[derive(Clone, Copy)]
-pub enum Pending {
-    Nothing,
-    Held(Fault, VirtualAddress, Access),
+pub struct Stall {
+    pub fault: Fault,
+    pub at: VirtualAddress,
+    pub access: Access,
 }
 
 // What a call answers.
+// Kept: `decision::settle`, `tally_of` and `prefetch_kept` take an answer with any number of a refusal.
 #[derive(Clone, Copy)]
 pub enum Answer {
     Address(PhysicalAddress),
@@ -35,7 +39,7 @@ pub enum Answer {
 }
 
 // A slot in register form.
-#[derive(Clone, Copy)]
+#[derive(Clone, Copy, Default)]
 pub struct Entry {
     pub camhi: u16,
     pub camlo: u16,
@@ -74,6 +78,7 @@ pub enum Tending {
 }
 
 // What a write asks for.
+// Kept: `plan::write` hands the number of a refusal on to a plan, which has any.
 #[derive(Clone, Copy)]
 pub enum Command {
     Refused(u8),
@@ -101,112 +106,80 @@ pub fn is_walking(control: u16) -> bool
     control / 4 % 2 == 1
 }
 
-// Whether nothing is pending.
-pub fn is_idle(pending: Pending) -> bool
-    ensures { result ≡ idle pending }
-{
-    match pending {
-        Pending::Nothing => true,
-        Pending::Held(_, _, _) => false,
-    }
-}
-
 // Whether a fault is a prefetch's.
 pub fn is_prefetch(k: Fault) -> bool
     ensures { result ≡ is_prefetch k }
 {
-    match k {
-        Fault::Translation => false,
-        Fault::Miss => false,
-        Fault::Permission => false,
-        Fault::Prefetch => true,
-    }
+    matches!(k, Fault::Prefetch)
 }
 
 // The status bit of a fault.
 pub fn fault_bit(k: Fault) -> u8
     ensures { result ≡ fault_bit k }
 {
-    match k {
-        Fault::Translation => 1,
-        Fault::Miss => 2,
-        Fault::Permission => 4,
-        Fault::Prefetch => 8,
-    }
+    k as u8
 }
 
 // Whether a slot in register form has only its layout's bits.
+#[tactic(auto, using(page::proofs::Picks::tests), unfolding(crate::specs::Fields::entry_ok))]
 fn entry_ok(e: Entry) -> bool
     ensures { result ≡ entry_ok e }
 {
-    if e.camhi < 4 {
-        e.ramlo % 256 == 0
-    } else {
-        false
-    }
+    e.camhi < 4 && e.ramlo % 256 == 0
 }
 
 // Whether the registers are in range.
+#[tactic(auto, using(page::proofs::Picks::tests), unfolding(crate::specs::Fields::registers_ok))]
 pub fn registers_ok(r: Registers) -> bool
     ensures { result ≡ registers_ok r }
 {
-    if r.control >= 64 {
-        return false;
-    }
-    if r.control / 8 % 4 != 0 {
-        return false;
-    }
-    if r.base.0 % 128 != 0 {
-        return false;
-    }
-    if r.prefetch >= 16384 {
-        return false;
-    }
-    let s = r.staged;
-    if !entry_ok(s) {
-        return false;
-    }
-    let c = r.copied;
-    entry_ok(c)
+    r.control < 64
+        && r.control / 8 % 4 == 0
+        && r.base.0 % 128 == 0
+        && r.prefetch < 16384
+        && entry_ok(r.staged)
+        && entry_ok(r.copied)
 }
 
 // Whether a pending address is a virtual one.
-pub fn pending_ok(p: Pending) -> bool
+pub fn pending_ok(p: Option<Stall>) -> bool
     ensures { result ≡ pending_ok p }
 {
-    match p {
-        Pending::Nothing => true,
-        Pending::Held(_, va, _) => va.0 < LIMIT,
-    }
+    p.is_none_or(|s| s.at.0 < LIMIT)
 }
 
 // A slot's words of its register form.
-pub fn words_of(e: Entry) -> Words
-    ensures { result ≡ words_of e }
-{
-    Words {
-        cam: (e.camhi as u32) * 65536 + (e.camlo as u32),
-        ram: (e.ramhi as u32) * 65536 + (e.ramlo as u32),
+impl From<Entry> for Words {
+    ghost from_gives = { λ e w. w ≡ words_of e };
+
+    fn from(e: Entry) -> Words {
+        Words {
+            cam: (e.camhi as u32) * 65536 + (e.camlo as u32),
+            ram: (e.ramhi as u32) * 65536 + (e.ramlo as u32),
+        }
     }
 }
 
 // The register form of a slot's words.
-pub fn entry_of(w: Words) -> Entry
-    ensures { result ≡ entry_of w }
-{
-    Entry {
-        camhi: (w.cam / 65536) as u16,
-        camlo: (w.cam % 65536) as u16,
-        ramhi: (w.ram / 65536) as u16,
-        ramlo: (w.ram % 65536) as u16,
+impl From<Words> for Entry {
+    ghost from_gives = { λ w e. e ≡ entry_of w };
+
+    fn from(w: Words) -> Entry {
+        Entry {
+            camhi: (w.cam / 65536) as u16,
+            camlo: (w.cam % 65536) as u16,
+            ramhi: (w.ram / 65536) as u16,
+            ramlo: (w.ram % 65536) as u16,
+        }
     }
 }
 
 // The address of the CAM registers.
+#[tactic(auto, unfolding(crate::specs::Fields::cam_address))]
 pub fn cam_address(e: Entry) -> VirtualAddress
     ensures { result ≡ cam_address e }
 {
-    let w = words_of(e);
+    let w = Words::from(e);
     VirtualAddress(w.cam / 16 % 16384 * 1024)
 }
 
@@ -215,18 +188,12 @@ impl Registers {
     pub fn fresh() -> Registers
         ensures { result ≡ fresh_registers }
     {
-        let none = Entry {
-            camhi: 0,
-            camlo: 0,
-            ramhi: 0,
-            ramlo: 0,
-        };
         Registers {
             control: 0,
             base: PhysicalAddress(0),
             prefetch: 0,
-            staged: none,
-            copied: none,
+            staged: Entry::default(),
+            copied: Entry::default(),
         }
     }
 }

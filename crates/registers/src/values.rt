@@ -3,30 +3,25 @@ ghost use Rattle.std.specs.Prelude.{◌≡◌};
 ghost use Rattle.registers.specs.Answers.{fault_status, fault_address};
 ghost use Rattle.registers.specs.Table.{value_at};
 
-use crate::{Answer, Pending, Registers, fault_bit, offsets};
+use crate::{Answer, Registers, Stall, fault_bit, offsets, refusals};
 
 // The fault status register.
-fn fault_status(p: Pending) -> u16
+fn fault_status(p: Option<Stall>) -> u16
     ensures { result ≡ fault_status p }
 {
-    match p {
-        Pending::Nothing => 0,
-        Pending::Held(k, _, _) => fault_bit(k) as u16,
-    }
+    p.map_or(0, |s| fault_bit(s.fault) as u16)
 }
 
 // The address of the pending fault.
-fn fault_address(p: Pending) -> u32
+fn fault_address(p: Option<Stall>) -> u32
     ensures { result ≡ fault_address p }
 {
-    match p {
-        Pending::Nothing => 0,
-        Pending::Held(_, va, _) => va.0,
-    }
+    p.map_or(0, |s| s.at.0)
 }
 
 // What a read shows, in the order of Table 3.
-pub fn value_at(offset: u32, r: Registers, lock: u8, victim: u8, p: Pending) -> Answer
+#[tactic(auto, unfolding(crate::specs::Table::value_at, crate::specs::Table::listed, page::specs::Pick::pick))]
+pub fn value_at(offset: u32, r: Registers, lock: u8, victim: u8, p: Option<Stall>) -> Answer
     ensures { result ≡ value_at offset r lock victim p }
 {
     match offset {
@@ -36,7 +31,7 @@ pub fn value_at(offset: u32, r: Registers, lock: u8, victim: u8, p: Pending) -> 
         offsets::FAULT_HIGH => Answer::Value((fault_address(p) / 65536 % 256) as u16),
         offsets::FAULT_LOW => Answer::Value((fault_address(p) / 128 % 512 * 128) as u16),
         offsets::FAULT_STATUS => Answer::Value(fault_status(p)),
-        offsets::ACKNOWLEDGE => Answer::Refused(6),
+        offsets::ACKNOWLEDGE => Answer::Refused(refusals::ONE_WAY),
         offsets::BASE_HIGH => Answer::Value((r.base.0 / 65536) as u16),
         offsets::BASE_LOW => Answer::Value((r.base.0 % 65536) as u16),
         offsets::LOCK => Answer::Value((lock as u16) % 64 * 1024 + (victim as u16) % 64 * 16),
@@ -51,6 +46,6 @@ pub fn value_at(offset: u32, r: Registers, lock: u8, victim: u8, p: Pending) -> 
         offsets::READ_CAM_LOW => Answer::Value(r.copied.camlo),
         offsets::READ_RAM_HIGH => Answer::Value(r.copied.ramhi),
         offsets::READ_RAM_LOW => Answer::Value(r.copied.ramlo),
-        _ => Answer::Refused(5),
+        _ => Answer::Refused(refusals::NO_REGISTER),
     }
 }

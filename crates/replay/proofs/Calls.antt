@@ -1,4 +1,5 @@
 -- The calls of two lists of bytes, one behind the other. Assumes nothing.
+use Rattle.std.proofs.Common.{Option}
 use Rattle.replay.specs.Names.{◌≡◌, List, ◌∷◌, ◌++◌, ℕ, zero, suc, ◌+◌, ◌*◌, length, call_count, calls_in, Call}
 use Rattle.replay.proofs.Names.{refl, sym, ◌∙◌, ap, ap₂, arith, ◌≤◌, take, drop, length-append, le-leb, pick_yes, call_at, calls_from}
 use Rattle.calls.specs.Records.{call_of}
@@ -17,7 +18,7 @@ unfolding calls_from
 calls_split l i zero k = ap₂ (calls_from l) (let e : i ≡ i + 0 = omega arith in e) (let e : 0 + k ≡ k = omega arith in e)
 calls_split l i (suc j) k =
     ap (calls_from l i) (let e : suc j + k ≡ suc (j + k) = omega arith in e)
-    ∙ ap (λ (cs : List Call). call_at l (12 * i) ∷ cs)
+    ∙ ap (λ (cs : List (Option Call)). call_at l (12 * i) ∷ cs)
     (calls_split l (i + 1) j k ∙ ap (λ (x : ℕ). calls_from l (i + 1) j ++ calls_from l x k) (let e : i + 1 + j ≡ i + suc j = omega arith in e))
 
 module _ (x y : List ℕ) where

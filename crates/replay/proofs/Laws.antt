@@ -1,4 +1,5 @@
 -- Replaying a recording block by block is running its calls one after another (02, P1). Assumes nothing.
+use Rattle.std.proofs.Common.{Option, Some, None}
 use Rattle.replay.specs.Names.{◌≡◌, true, List, [], ◌∷◌, ◌++◌, ℕ, suc, ◌+◌, length, Lent, Prices, calls_in, Call, said_words, stepped, Bench}
 use Rattle.replay.specs.Names.{all_good, blocks_in, call_bytes, call_count, calls_at, Progress, session_words}
 use Rattle.replay.specs.Blocks.{machine_bench, machine_calls}
@@ -18,12 +19,12 @@ use Rattle.unit.specs.Machine
 
 -- calls behind calls
 module _ (m : Lent) (p : Prices) where
-  behind-both : (b : Bench) (cs ds : List Call) → bench_behind m p b (cs ++ ds) ≡ bench_behind m p (bench_behind m p b cs) ds
+  behind-both : (b : Bench) (cs ds : List (Option Call)) → bench_behind m p b (cs ++ ds) ≡ bench_behind m p (bench_behind m p b cs) ds
   unfolding bench_behind
   behind-both b [] ds = refl
   behind-both b (c ∷ cs) ds = behind-both (stepped m p b c).bench cs ds
 
-  session-both : (handed : ℕ) (b : Bench) (cs ds : List Call) → session_words m p handed b (cs ++ ds) ≡ answers_of m p b cs ++ session_words m p handed (bench_behind m p b cs) ds
+  session-both : (handed : ℕ) (b : Bench) (cs ds : List (Option Call)) → session_words m p handed b (cs ++ ds) ≡ answers_of m p b cs ++ session_words m p handed (bench_behind m p b cs) ds
   unfolding bench_behind answers_of session_words
   session-both handed b [] ds = refl
   session-both handed b (c ∷ cs) ds =
@@ -32,17 +33,17 @@ module _ (m : Lent) (p : Prices) where
       ap (λ (l : List ℕ). ws ++ l) (session-both handed s cs ds) ∙ sym (append_assoc ws (answers_of m p s cs) (session_words m p handed (bench_behind m p s cs) ds))
 
   -- each is the machine's
-  pub behind-machine : (b : Bench) (cs : List Call) → machine_bench (bench_behind m p b cs) ≡ Machine.run m (machine_bench b) (machine_calls p cs)
+  pub behind-machine : (b : Bench) (cs : List (Option Call)) → machine_bench (bench_behind m p b cs) ≡ Machine.run m (machine_bench b) (machine_calls p cs)
   unfolding bench_behind
   behind-machine b [] = refl
-  behind-machine b (Call.Write o v ∷ cs) = behind-machine (stepped m p b (Call.Write o v)).bench cs
-  behind-machine b (Call.Read o ∷ cs) = behind-machine (stepped m p b (Call.Read o)).bench cs
-  behind-machine b (Call.Request va a ∷ cs) = behind-machine (stepped m p b (Call.Request va a)).bench cs
-  behind-machine b (Call.Drop ∷ cs) = behind-machine (stepped m p b Call.Drop).bench cs
-  behind-machine b (Call.Shift va ∷ cs) = behind-machine (stepped m p b (Call.Shift va)).bench cs
-  behind-machine b (Call.Bad ∷ cs) = behind-machine b cs
+  behind-machine b (Some (Call.Write o v) ∷ cs) = behind-machine (stepped m p b (Some (Call.Write o v))).bench cs
+  behind-machine b (Some (Call.Read o) ∷ cs) = behind-machine (stepped m p b (Some (Call.Read o))).bench cs
+  behind-machine b (Some (Call.Request va a) ∷ cs) = behind-machine (stepped m p b (Some (Call.Request va a))).bench cs
+  behind-machine b (Some Call.Drop ∷ cs) = behind-machine (stepped m p b (Some Call.Drop)).bench cs
+  behind-machine b (Some (Call.Shift va) ∷ cs) = behind-machine (stepped m p b (Some (Call.Shift va))).bench cs
+  behind-machine b (None ∷ cs) = behind-machine b cs
 
-good-both : (cs ds : List Call) → good_calls cs ≡ true → good_calls ds ≡ true → good_calls (cs ++ ds) ≡ true
+good-both : (cs ds : List (Option Call)) → good_calls cs ≡ true → good_calls ds ≡ true → good_calls (cs ++ ds) ≡ true
 good-both [] ds g h = h
 good-both (c ∷ cs) ds g h = and_yes _ _ (and_left _ _ g) ∙ good-both cs ds (and_right _ _ g) h
 

@@ -1,4 +1,5 @@
 -- A recording replayed block by block (02, P1), and its calls as the machine's.
+use Rattle.std.specs.Prelude.{Option, Some, None}
 use Rattle.unit.specs.Machine
 use Rattle.std.specs.Prelude.{◌+◌, ◌∷◌, ◌++◌}
 use Rattle.replay.specs.Names.{ℕ, zero, suc, List, [], Lent, Prices, calls_in, Call, calls_at, Bench, state_words}
@@ -19,11 +20,11 @@ abbrev pub machine_bench : Bench → Machine.Bench
 machine_bench b = record { device = b.device; bill = b.bill; meters = b.meters }
 
 -- the machine's calls, each with the same prices; a record that is none makes none (02, P1)
-abbrev pub machine_calls : Prices → List Call → List Machine.Call
+abbrev pub machine_calls : Prices → List (Option Call) → List Machine.Call
 machine_calls p [] = []
-machine_calls p (Call.Write o v ∷ cs) = Machine.write o v p ∷ machine_calls p cs
-machine_calls p (Call.Read o ∷ cs) = Machine.read o ∷ machine_calls p cs
-machine_calls p (Call.Request va a ∷ cs) = Machine.request va a p ∷ machine_calls p cs
-machine_calls p (Call.Drop ∷ cs) = Machine.drop-fault ∷ machine_calls p cs
-machine_calls p (Call.Shift va ∷ cs) = Machine.shift va ∷ machine_calls p cs
-machine_calls p (Call.Bad ∷ cs) = machine_calls p cs
+machine_calls p (Some (Call.Write o v) ∷ cs) = Machine.write o v p ∷ machine_calls p cs
+machine_calls p (Some (Call.Read o) ∷ cs) = Machine.read o ∷ machine_calls p cs
+machine_calls p (Some (Call.Request va a) ∷ cs) = Machine.request va a p ∷ machine_calls p cs
+machine_calls p (Some Call.Drop ∷ cs) = Machine.drop-fault ∷ machine_calls p cs
+machine_calls p (Some (Call.Shift va) ∷ cs) = Machine.shift va ∷ machine_calls p cs
+machine_calls p (None ∷ cs) = machine_calls p cs

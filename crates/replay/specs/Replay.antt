@@ -1,14 +1,15 @@
 -- Calls replayed (02, P1): made on a bench one after another, with the same memories and prices, each answer as 16 bytes.
+use Rattle.std.specs.Prelude.{Option}
 use Rattle.std.specs.Prelude.{◌*◌, ◌∷◌, ◌++◌}
 use Rattle.replay.specs.Names.{ℕ, List, [], leb, length, pick, Lent, Prices, call_count, calls_in, Call, said_words, answer_size, stepped, Bench, placed}
 
 -- the bench behind the calls (02, P1)
-unfoldable pub bench_behind : Lent → Prices → Bench → List Call → Bench
+unfoldable pub bench_behind : Lent → Prices → Bench → List (Option Call) → Bench
 bench_behind m p b [] = b
 bench_behind m p b (c ∷ cs) = bench_behind m p (stepped m p b c).bench cs
 
 -- their answers, one behind the other (02, P1)
-unfoldable pub answers_of : Lent → Prices → Bench → List Call → List ℕ
+unfoldable pub answers_of : Lent → Prices → Bench → List (Option Call) → List ℕ
 answers_of m p b [] = []
 answers_of m p b (c ∷ cs) = said_words (stepped m p b c).said (stepped m p b c).from ++ answers_of m p (stepped m p b c).bench cs
 

@@ -1,10 +1,11 @@
 -- What the law of this crate says (02, P1): replaying a recording block by block is running its calls one after another.
+use Rattle.std.specs.Prelude.{Ok}
 use Rattle.std.specs.Prelude.{◌≡◌}
 use Rattle.recording.specs.Writing.{blocks_for, recording_of}
 use Rattle.recording.specs.Statements.{Writable}
 use Rattle.wire.specs.Words.{Bytes}
 use Rattle.unit.specs.Machine
-use Rattle.replay.specs.Names.{ℕ, List, true, Lent, Prices, calls_in, all_good, heard, blocks_in, call_bytes, Heard, Progress, Bench, session_words}
+use Rattle.replay.specs.Names.{ℕ, List, true, Lent, Prices, calls_in, all_good, heard, blocks_in, call_bytes, Progress, Bench, session_words}
 use Rattle.replay.specs.Replay.{bench_behind}
 use Rattle.replay.specs.Blocks.{block_words, block_bench, machine_bench, machine_calls}
 
@@ -17,7 +18,7 @@ pub record AsRun (m : Lent) (p : Prices) (handed : ℕ) (b : Bench) (r : List �
 
 -- so it is with every recording that is heard whole, from every bench (02, P1)
 abbrev pub ReplaysAsRun : Type 0
-ReplaysAsRun = (r : List ℕ) (q : Progress) → heard r ≡ Heard.Whole q → (m : Lent) (p : Prices) (handed : ℕ) (b : Bench) → AsRun m p handed b r
+ReplaysAsRun = (r : List ℕ) (q : Progress) → heard r ≡ Ok q → (m : Lent) (p : Prices) (handed : ℕ) (b : Bench) → AsRun m p handed b r
 
 -- and calls that are recorded are replayed as they would have been run (02, P1)
 abbrev pub RecordedReplays : Type 0

@@ -6,4 +6,3 @@ pub mod Offsets
 pub mod Going
 pub mod Sizes
 pub mod Room
-pub mod May

@@ -3,7 +3,6 @@ pub use borrow.Author.Rules.{rules}
 pub use borrow.Author.Tests.{le-leb, lt-leb, not-false, not-true}
 pub use mathlib.Core.Path.{◌∙◌, ap, ap₂, refl, sym}
 pub use native.Mathlib.Omega.{arith}
-pub use Rattle.bank.specs.InPlace.{bank_of}
 unfoldable pub use Rattle.bill.specs.Bill.{money_ok}
 unfoldable pub use Rattle.calls.specs.Records.{call_at}
 pub use Rattle.calls.specs.Records.{is_good}

@@ -1,4 +1,5 @@
 -- An offset in a memory has 28 bits. Assumes nothing.
+use Rattle.std.proofs.Common.{Option, Some, None}
 use Rattle.run.specs.Names.{◌≡◌, Bool, true, ℕ, ◌%◌, ◌^◌, ◌≤◌, Lent, Place, Prices, Call, stepped, Bench}
 use Rattle.run.proofs.Names.{refl, sym, ◌∙◌, ap, arith, lent_ok}
 use mathlib.Core.Bool.{false, true≢false}
@@ -7,7 +8,6 @@ use Rattle.bill.specs.declared.Bill.{Bill}
 use Rattle.memory.specs.Memory.{longest, Inside}
 use Rattle.memory.specs.declared.Reads.{Reads}
 use Rattle.memory.proofs.Places.{ok_short, on_ok, ext_ok}
-use Rattle.walk.specs.declared.Read.{Read}
 use Rattle.walk.specs.Statements.{LiesAt, LastLies}
 use Rattle.walk.proofs.Walks.{read-refused}
 use Rattle.unit.specs.Machine
@@ -22,9 +22,9 @@ short : (k : ℕ) → k ≤ longest → k % 2 ^ 28 ≡ k
 short k h = omega arith
 
 -- a word was read
-abbrev is_word : Read → Bool
-is_word (Read.Word w p) = true
-is_word Read.Missing = false
+abbrev is_word : Option (ℕ × Place) → Bool
+is_word (Some (w, p)) = true
+is_word None = false
 
 module _ (m : Lent) where
   pub inside-whole : (a : ℕ) (p : Place) → lent_ok m ≡ true → Inside m a p → cut_place p ≡ p
@@ -52,10 +52,10 @@ module _ (m : Lent) where
       by true h = subst (λ (x : Place). cut_place x ≡ x) (sym (refused-nowhere m d b c h)) refl
       by false h = last_whole (reads_of m d c) (step m d b c).from (comes_from_last m d b c h)
 
-  pub stepped-whole : (p : Prices) (b : Bench) (c : Call) → cut_place (stepped m p b c).from ≡ (stepped m p b c).from
-  stepped-whole p b (Call.Write o v) = step-whole b.device b.bill (Machine.write o v p)
-  stepped-whole p b (Call.Read o) = step-whole b.device b.bill (Machine.read o)
-  stepped-whole p b (Call.Request va a) = step-whole b.device b.bill (Machine.request va a p)
-  stepped-whole p b Call.Drop = step-whole b.device b.bill Machine.drop-fault
-  stepped-whole p b (Call.Shift va) = step-whole b.device b.bill (Machine.shift va)
-  stepped-whole p b Call.Bad = refl
+  pub stepped-whole : (p : Prices) (b : Bench) (c : Option Call) → cut_place (stepped m p b c).from ≡ (stepped m p b c).from
+  stepped-whole p b (Some (Call.Write o v)) = step-whole b.device b.bill (Machine.write o v p)
+  stepped-whole p b (Some (Call.Read o)) = step-whole b.device b.bill (Machine.read o)
+  stepped-whole p b (Some (Call.Request va a)) = step-whole b.device b.bill (Machine.request va a p)
+  stepped-whole p b (Some Call.Drop) = step-whole b.device b.bill Machine.drop-fault
+  stepped-whole p b (Some (Call.Shift va)) = step-whole b.device b.bill (Machine.shift va)
+  stepped-whole p b None = refl

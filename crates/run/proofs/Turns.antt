@@ -1,4 +1,5 @@
 -- One turn of the run: what is left to write. Assumes nothing.
+use Rattle.std.proofs.Common.{Option}
 use Rattle.run.specs.Names.{◌≡◌, List, ◌++◌, ℕ, ◌+◌, ◌*◌, ◌≤◌, length, Lent, Prices, Call, stepped, Bench, Stepped, placed, words_put, state_words}
 use Rattle.run.proofs.Names.{refl, sym, ◌∙◌, ap, ap₂, ◌-◌, ◌<◌, arith, call_at, said_words, session_words}
 use Prim.Native.Nat.{zero, suc}
@@ -28,7 +29,7 @@ module _ (m : Lent) (p : Prices) (handed : ℕ) (l : List ℕ) (n : ℕ) where
       let u = said-length s.said s.from in
       let v = session-length m p handed s.bench (calls_from l (i + 1) (n - (i + 1))) in
       let w = calls-length (i + 1) (n - (i + 1)) in
-      ap (λ (cs : List Call). placed out (16 * i) (session_words m p handed b cs)) (calls_next l n i h)
+      ap (λ (cs : List (Option Call)). placed out (16 * i) (session_words m p handed b cs)) (calls_next l n i h)
       ∙ ap (λ (x : Stepped). placed out (16 * i) (said_words x.said x.from ++ session_words m p handed x.bench (calls_from l (i + 1) (n - (i + 1))))) (sym e)
       ∙ sym (placed_then out (16 * i) (said_words s.said s.from) (omega arith) rest (omega arith))
       ∙ ap₂ (λ (x : List ℕ) (j : ℕ). placed x j rest) (sym (q ∙ written_fits out (16 * i) (said_words s.said s.from) (omega arith)))
@@ -38,5 +39,5 @@ module _ (m : Lent) (p : Prices) (handed : ℕ) (l : List ℕ) (n : ℕ) where
       → placed out (16 * i) (left b i) ≡ words_put out (16 * n) (state_words handed b)
   unfolding session_words
   run_end out b i h g fits =
-      ap₂ (λ (j : ℕ) (cs : List Call). placed out (16 * j) (session_words m p handed b cs)) (let e : i ≡ n = omega arith in e) (calls-none l n i h)
+      ap₂ (λ (j : ℕ) (cs : List (Option Call)). placed out (16 * j) (session_words m p handed b cs)) (let e : i ≡ n = omega arith in e) (calls-none l n i h)
       ∙ sym (state_fits out (16 * n) handed b fits)

@@ -1,6 +1,9 @@
 -- What a call said as 16 bytes: a number, where the last word of its walk lies (02, P6), and a value of 8 bytes in two's complement.
+use Rattle.std.specs.Prelude.{ℤ}
+use Rattle.std.specs.Prelude.{Result, Ok, Err}
+use Rattle.decision.specs.declared.ShiftError.{ShiftError}
 use Rattle.std.specs.Prelude.{◌+◌, ◌*◌, ◌%◌, ◌^◌, ◌∷◌}
-use Rattle.run.specs.Names.{ℕ, List, Place, answer_number, shift_number, Answer, Shift, Said, twos, wide}
+use Rattle.run.specs.Names.{ℕ, List, Place, answer_number, shift_number, Answer, Said, twos, wide}
 
 -- the numbers of what the paper gives none: a physical address, a register's value, a distance
 abbrev pub an_address : ℕ
@@ -26,15 +29,15 @@ answer_word (Answer.Value x) = x
 answer_word Answer.Done = 0
 answer_word (Answer.Refused k) = 0
 
-abbrev pub shift_code : Shift → ℕ
-shift_code (Shift.Distance z) = a_distance
-shift_code Shift.Fault = shift_number Shift.Fault
-shift_code (Shift.Refused k) = shift_number (Shift.Refused k)
+abbrev pub shift_code : Result ℤ ShiftError → ℕ
+shift_code (Ok z) = a_distance
+shift_code (Err ShiftError.Fault) = shift_number (Err ShiftError.Fault)
+shift_code (Err (ShiftError.Refused k)) = shift_number (Err (ShiftError.Refused k))
 
-abbrev pub shift_word : Shift → ℕ
-shift_word (Shift.Distance z) = twos z
-shift_word Shift.Fault = 0
-shift_word (Shift.Refused k) = 0
+abbrev pub shift_word : Result ℤ ShiftError → ℕ
+shift_word (Ok z) = twos z
+shift_word (Err ShiftError.Fault) = 0
+shift_word (Err (ShiftError.Refused k)) = 0
 
 -- a place: memory * 2^28 + offset, the memories being 1 on chip and 2 external; 0 is nowhere
 abbrev pub place_code : Place → ℕ

@@ -1,4 +1,7 @@
 -- What the definitions of this crate are written with.
+pub use Rattle.std.specs.Prelude.{Option, Some, None}
+pub use Rattle.std.specs.Prelude.{Result, Ok, Err}
+pub use Rattle.decision.specs.declared.ShiftError.{ShiftError}
 pub use Rattle.std.specs.Prelude.{◌%◌, ◌*◌, ◌++◌, ◌+◌, ◌^◌, ◌∷◌, ◌≡◌, ◌≤◌}
 pub use Rattle.bank.specs.declared.Bank.{Bank}
 pub use Rattle.bill.specs.Bill.{bill_ok}
@@ -7,8 +10,7 @@ unfoldable pub use Rattle.calls.specs.Records.{all_good}
 pub use Rattle.calls.specs.Records.{call_count, calls_in}
 pub use Rattle.calls.specs.declared.Call.{Call}
 pub use Rattle.decision.specs.declared.Said.{Said}
-pub use Rattle.decision.specs.declared.Shift.{Shift}
-pub use Rattle.memory.specs.Memory.{Lent, lent}
+pub use Rattle.memory.specs.Memory.{Lent, lent, lent_of}
 unfoldable pub use Rattle.meters.specs.Posted.{posted}
 pub use Rattle.meters.specs.declared.Meters.{Meters}
 pub use Rattle.memory.specs.declared.Place.{Place}
@@ -22,7 +24,8 @@ pub use Rattle.decision.specs.Prefetches.{shift_number}
 pub use Rattle.registers.specs.Answers.{answer_number, fault_number}
 unfoldable pub use Rattle.registers.specs.Table.{command_of}
 pub use Rattle.registers.specs.declared.Answer.{Answer}
-pub use Rattle.registers.specs.declared.Pending.{Pending}
+pub use Rattle.registers.specs.declared.Stall.{Stall}
+pub use Rattle.registers.specs.Answers.{stall}
 pub use Rattle.registers.specs.declared.Registers.{Registers}
 pub use Rattle.session.specs.Bench.{stepped}
 pub use Rattle.session.specs.declared.Bench.{Bench}

@@ -1,11 +1,12 @@
 -- What a run writes and answers.
+use Rattle.std.specs.Prelude.{Option}
 use Rattle.std.specs.Prelude.{◌∷◌, ◌++◌}
 use Rattle.run.specs.Names.{ℕ, List, [], length, pick, Lent, Prices, calls_in, Call, stepped, Bench, placed, state_words}
 use Rattle.run.specs.Answers.{said_words}
 use Rattle.run.specs.MayRun.{run_size, may_run}
 
 -- what is written: an answer for each call, then the state
-unfoldable pub session_words : Lent → Prices → ℕ → Bench → List Call → List ℕ
+unfoldable pub session_words : Lent → Prices → ℕ → Bench → List (Option Call) → List ℕ
 session_words m p handed b [] = state_words handed b
 session_words m p handed b (c ∷ cs) = said_words (stepped m p b c).said (stepped m p b c).from ++ session_words m p handed (stepped m p b c).bench cs
 

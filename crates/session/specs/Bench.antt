@@ -1,4 +1,5 @@
 -- A bench in the middle of a session: what a call of a record makes of it and says, by the machine's own step (01, demand 2; 02, P1).
+use Rattle.std.specs.Prelude.{Option, Some, None}
 use Rattle.memory.specs.declared.Place.{Place}
 use Rattle.meters.specs.Posted.{no_meters, posted}
 use Rattle.meters.specs.declared.Meters.{Meters}
@@ -26,10 +27,10 @@ made t s = record {
 }
 
 -- a call with its prices; a record that is none changes nothing
-abbrev pub stepped : Lent → Prices → Bench → Call → Stepped
-stepped m p b (Call.Write o v) = made b.meters (step m b.device b.bill (Machine.write o v p))
-stepped m p b (Call.Read o) = made b.meters (step m b.device b.bill (Machine.read o))
-stepped m p b (Call.Request va a) = made b.meters (step m b.device b.bill (Machine.request va a p))
-stepped m p b Call.Drop = made b.meters (step m b.device b.bill Machine.drop-fault)
-stepped m p b (Call.Shift va) = made b.meters (step m b.device b.bill (Machine.shift va))
-stepped m p b Call.Bad = record { bench = b; said = Said.Answered Answer.Done; from = Place.Nowhere }
+abbrev pub stepped : Lent → Prices → Bench → Option Call → Stepped
+stepped m p b (Some (Call.Write o v)) = made b.meters (step m b.device b.bill (Machine.write o v p))
+stepped m p b (Some (Call.Read o)) = made b.meters (step m b.device b.bill (Machine.read o))
+stepped m p b (Some (Call.Request va a)) = made b.meters (step m b.device b.bill (Machine.request va a p))
+stepped m p b (Some Call.Drop) = made b.meters (step m b.device b.bill Machine.drop-fault)
+stepped m p b (Some (Call.Shift va)) = made b.meters (step m b.device b.bill (Machine.shift va))
+stepped m p b None = record { bench = b; said = Said.Answered Answer.Done; from = Place.Nowhere }

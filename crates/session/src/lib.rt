@@ -1,16 +1,15 @@
 #![tactic(auto)]
 // A session on the bench: a device, a bill and meters, and one call after another.
 ghost use Rattle.std.specs.Prelude.{◌≡◌};
-ghost use Rattle.memory.specs.Memory.{lent};
+ghost use Rattle.memory.specs.Memory.{lent_of};
 ghost use Rattle.unit.specs.Machine.{step_out, step_told};
 ghost use Rattle.session.specs.Bench.{fresh_bench, made, stepped};
 
 use bill::Bill;
 use calls::Call;
 use decision::Said;
-use memory::Place;
+use memory::{Memories, Place};
 use meters::{Meters, Tally};
-use page::PhysicalAddress;
 use prices::Prices;
 use registers::Answer;
 use unit::{Device, Outcome, Told};
@@ -35,19 +34,14 @@ pub struct Stepped {
 fn posted(meters: Meters, outcome: Outcome) -> Stepped
     ensures { result ≡ made meters (step_out outcome) }
 {
-    let device = outcome.device;
-    let bill = outcome.bill;
-    let tally = outcome.tally;
-    let answer = outcome.answer;
-    let from = outcome.from;
     Stepped {
         bench: Bench {
-            device: device,
-            bill: bill,
-            meters: meters::after(meters, tally),
+            device: outcome.device,
+            bill: outcome.bill,
+            meters: meters.posted(outcome.tally),
         },
-        said: Said::Answered(answer),
-        from: from,
+        said: Said::Answered(outcome.answer),
+        from: outcome.from,
     }
 }
 
@@ -55,15 +49,14 @@ fn posted(meters: Meters, outcome: Outcome) -> Stepped
 fn kept(meters: Meters, bill: Bill, told: Told) -> Stepped
     ensures { result ≡ made meters (step_told bill told) }
 {
-    let device = told.device;
-    let answer = told.answer;
+    let Told { device, answer } = told;
     posted(
         meters,
         Outcome {
-            device: device,
-            bill: bill,
+            device,
+            bill,
             tally: Tally::zero(),
-            answer: answer,
+            answer,
             from: Place::Nowhere,
         },
     )
@@ -82,47 +75,38 @@ impl Bench {
     }
 
     // One call.
-    pub fn step<'a>(
-        self,
-        call: Call,
-        on: &'a [u8],
-        onbase: PhysicalAddress,
-        ext: &'a [u8],
-        extbase: PhysicalAddress,
-        prices: Prices,
-    ) -> Stepped
-        ensures { result ≡ stepped (lent on.now onbase.0 ext.now extbase.0) prices self call }
+    pub fn step(self, call: Option<Call>, memories: &Memories, prices: Prices) -> Stepped
+        ensures { result ≡ stepped (lent_of memories.now) prices self call }
     {
-        let device = self.device;
-        let bill = self.bill;
-        let meters = self.meters;
+        let Bench {
+            device,
+            bill,
+            meters,
+        } = self;
         match call {
-            Call::Write(offset, v) => posted(
+            Some(Call::Write(offset, v)) => posted(
                 meters,
-                device.write(offset, v, on, onbase, ext, extbase, prices, bill),
+                device.write(offset, v, memories, prices, bill),
             ),
-            Call::Read(offset) => kept(meters, bill, device.read(offset)),
-            Call::Request(va, a) => posted(
+            Some(Call::Read(offset)) => kept(meters, bill, device.read(offset)),
+            Some(Call::Request(va, a)) => posted(
                 meters,
-                device.request(va, a, on, onbase, ext, extbase, prices, bill),
+                device.request(va, a, memories, prices, bill),
             ),
-            Call::Drop => kept(meters, bill, device.drop()),
-            Call::Shift(va) => {
-                let reported = device.shift_report(va, on, onbase, ext, extbase);
-                let same = reported.device;
-                let shift = reported.shift;
-                let from = reported.from;
+            Some(Call::Drop) => kept(meters, bill, device.drop()),
+            Some(Call::Shift(va)) => {
+                let reported = device.shift_report(va, memories);
                 Stepped {
                     bench: Bench {
-                        device: same,
-                        bill: bill,
-                        meters: meters::after(meters, Tally::zero()),
+                        device: reported.device,
+                        bill,
+                        meters: meters.posted(Tally::zero()),
                     },
-                    said: Said::Reported(shift),
-                    from: from,
+                    said: Said::Reported(reported.shift),
+                    from: reported.from,
                 }
             }
-            Call::Bad => Stepped {
+            None => Stepped {
                 bench: self,
                 said: Said::Answered(Answer::Done),
                 from: Place::Nowhere,

@@ -1,9 +1,10 @@
 -- What the definitions of this crate are written with.
+pub use Rattle.std.specs.Prelude.{Result, Ok, Err}
+pub use Rattle.builder.specs.declared.BuildError.{BuildError}
 pub use Rattle.std.specs.Prelude.{◌*◌, ◌++◌, ◌+◌, ◌-◌, ◌/◌, ◌∷◌, ◌≡◌}
 pub use Rattle.bill.specs.Bill.{fresh_bill}
 unfoldable pub use Rattle.builder.specs.Build.{answer_of, build_of}
 pub use Rattle.builder.specs.Build.{built_number, built_value}
-pub use Rattle.builder.specs.declared.Built.{Built}
 pub use Rattle.demands.specs.Buyer.{prices_a, room_a, start_a}
 pub use Rattle.memory.specs.Memory.{lent_alone}
 pub use Rattle.lanes.specs.Lanes.{slots}

@@ -1,7 +1,9 @@
 -- The proved lines of the bench sheet as one table (01, "Bench sheet"): a question to the bench, and the numbers that answer it.
+use Rattle.std.specs.Prelude.{Result}
+use Rattle.builder.specs.declared.BuildError.{BuildError}
 use Rattle.std.specs.Prelude.{◌+◌, ◌-◌, ◌*◌, ◌/◌, ◌≡◌, ◌∷◌, ◌++◌}
 use Rattle.sheet.specs.Names.{ℕ, zero, suc, Bool, true, false, List, [], eqb, get_or, take, drop, replicate}
-use Rattle.sheet.specs.Names.{◌and◌, virtual, word_valid, word_of, Lent, Place, first_of, First, Built, answer_of, built_number, built_value}
+use Rattle.sheet.specs.Names.{◌and◌, virtual, word_valid, word_of, Lent, Place, first_of, First, answer_of, built_number, built_value}
 use Rattle.sheet.specs.Names.{fresh_bill, slots, answer_number, answer_values, entry_of, Access, Bank, Answer, Entry, Device, Outcome}
 use Rattle.sheet.specs.Names.{request_of, records_a, base_a, prices_a, start_a}
 use Rattle.sheet.specs.Bench.{lent_a, locked_a}
@@ -33,7 +35,7 @@ Line = Question × List ℕ
 abbrev pub said_numbers : Answer → List ℕ
 said_numbers r = answer_number r ∷ answer_values r
 
-abbrev pub built_numbers : Built → List ℕ
+abbrev pub built_numbers : Result ℕ BuildError → List ℕ
 built_numbers b = built_number b ∷ built_value b ∷ []
 
 abbrev pub address : ℕ → List ℕ

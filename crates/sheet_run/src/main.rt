@@ -1,11 +1,10 @@
 #![tactic(auto)]
-// The bench sheet, run: list A and the empty list built by the builder and asked through the unit. Its file `stdout` was worked out by
-// hand. A line ends in a number (0 for a length or an address, else the paper's) and a value.
-use bank::Bank;
-use builder::Built;
+// The bench sheet, run: list A and the empty list built by the builder and asked through the unit. Its file `stdout`
+// was worked out by hand. A line ends in a number (0 for a length or an address, else the paper's) and a value.
+use builder::BuildError;
 use calls::Call;
 use decision::Said;
-use memory::Place;
+use memory::{Memories, Place};
 use page::{Access, PhysicalAddress, VirtualAddress};
 use prices::{Price, Prices};
 use session::{Bench, Stepped};
@@ -14,7 +13,7 @@ use session::{Bench, Stepped};
 const STDOUT_FILENO: i32 = 1;
 
 // The sheet's base.
-const BASE: u32 = 0x20000000;
+const BASE: PhysicalAddress = PhysicalAddress(0x20000000);
 
 // The addresses that the empty list is asked for are this far apart.
 const STRIDE: u32 = 65537;
@@ -22,235 +21,156 @@ const STRIDE: u32 = 65537;
 // How many of them lie below 2^24.
 const ASKED: u32 = 256;
 
+// Prices that are good.
+const PRICES: Prices = Prices {
+    onchip: Price::Flat(1.0),
+    external: Price::Flat(1.0),
+};
+
+// List A: large 010000 to 10020000, both; section 300000 to 11200000, read; tiny 500400 to 10000C00, both.
+const LIST: [u8; 36] = *b"\x00\x00\x01\x00\x00\x00\x02\x10\x01\x03\x00\x00\
+    \x00\x00\x30\x00\x00\x00\x20\x11\x00\x02\x00\x00\
+    \x00\x04\x50\x00\x00\x0C\x00\x10\x03\x03\x00\x00";
+
 fn main() {
     whole();
     bare();
 }
 
-// List A: large 010000 to 10020000, both; section 300000 to 11200000, read; tiny 500400 to 10000C00, both.
-fn list() -> [u8; 36] {
-    *b"\x00\x00\x01\x00\x00\x00\x02\x10\x01\x03\x00\x00\x00\x00\x30\x00\x00\x00\x20\x11\x00\x02\x00\x00\x00\x04\x50\x00\x00\x0C\x00\x10\x03\x03\x00\x00"
-}
-
-// List A in the room that it needs, and what the sheet asks of it.
+// List A in the room that it needs and in a word less, and what the sheet asks of it.
 fn whole() {
-    let a = list();
     let mut image = [0u8; 8192];
-    label(0);
-    built(builder::build(&a, PhysicalAddress(BASE), &mut image));
-    label(1);
-    short();
+    show::text(b"list A in 8192 bytes");
+    built(builder::build(&LIST, BASE, &mut image));
+    show::text(b"list A in 8188 bytes");
+    built(builder::build(&LIST, BASE, &mut [0u8; 8188]));
     words(&image);
     requests(&image);
 }
 
-// List A in a word less.
-fn short() {
-    let a = list();
-    let mut image = [0u8; 8188];
-    built(builder::build(&a, PhysicalAddress(BASE), &mut image));
-}
-
-// The empty list in the room that it needs, asked.
+// The empty list in the room that it needs, asked at addresses a stride apart and at the last one.
 fn bare() {
     let mut image = [0u8; 64];
-    label(2);
-    built(builder::build(b"", PhysicalAddress(BASE), &mut image));
-    empty(&image);
+    show::text(b"empty list in 64 bytes");
+    built(builder::build(b"", BASE, &mut image));
+    for i in 0..ASKED {
+        asked(&image, 0, STRIDE * i, Access::Read);
+    }
+    asked(&image, 0, 0xFFFFFF, Access::Read);
+    asked(&image, 0, 0xFFFFFF, Access::Write);
 }
 
 // What the builder answers.
-fn built(b: Built) {
+fn built(b: Result<usize, BuildError>) {
     match b {
-        Built::Length(n) => show::said(0, n as u64),
-        Built::BadMemory => show::said(4, 0),
-        Built::BadRecord(i) => show::said(10, i as u64),
-        Built::Overlap(i) => show::said(11, i as u64),
-        Built::TooLong(c) => show::said(12, c as u64),
+        Ok(n) => show::said(0, n as u64),
+        Err(BuildError::BadMemory) => show::said(4, 0),
+        Err(BuildError::BadRecord(i)) => show::said(10, i as u64),
+        Err(BuildError::Overlap(i)) => show::said(11, i as u64),
+        Err(BuildError::TooLong(c)) => show::said(12, c as u64),
     }
 }
 
-// The words of the sheet: what is built, the words of an image, requests, and slots.
-fn label(n: u32) {
-    show::part(
-        b"list A in 8192 bytes|list A in 8188 bytes|empty list in 64 bytes|word |coarse word|fine word \
-          |read |write |locked read |  words read|  slot 0|  slot 31|  from the word at|  from no word",
-        n,
-    );
+// The words that the sheet names: of the first level, words 15 to 32 of the coarse table, and of the fine table.
+fn words(image: &[u8]) {
+    for i in [0u8, 3, 5] {
+        numbered(b"word ", image, 0, i);
+    }
+    for j in 15..33 {
+        word(b"coarse word", image, 0x400 + 4 * j);
+    }
+    for i in 0..3 {
+        numbered(b"fine word ", image, 0x1000, i);
+    }
+}
+
+// The word with a number, of the table at an offset of an image.
+fn numbered(label: &[u8], image: &[u8], from: u16, i: u8) {
+    show::text(label);
+    show::decimal(i as u64);
+    word(b"", image, from as usize + 4 * (i as usize));
 }
 
 // The word at an offset of an image.
-fn word(ext: &[u8], at: usize) {
-    show::value(wire::word_at(ext, at) as u64);
-}
-
-// A word of the first level.
-fn first(ext: &[u8], i: u8) {
-    label(3);
-    show::decimal(i as u64);
-    word(ext, 4 * (i as usize));
-}
-
-// A word of the fine table.
-fn fine(ext: &[u8], i: u8) {
-    label(5);
-    show::decimal(i as u64);
-    word(ext, 0x1000 + 4 * (i as usize));
-}
-
-// The words that the sheet names.
-fn words(ext: &[u8]) {
-    first(ext, 0);
-    first(ext, 3);
-    first(ext, 5);
-    coarse(ext);
-    fine(ext, 0);
-    fine(ext, 1);
-    fine(ext, 2);
-}
-
-// Coarse words 15 to 32.
-fn coarse(ext: &[u8]) {
-    let mut j: usize = 15;
-    while j < 33 {
-        label(4);
-        word(ext, 0x400 + 4 * j);
-        j += 1;
-    }
+fn word(label: &[u8], image: &[u8], at: usize) {
+    show::line(label, wire::word_at(image, at) as u64);
 }
 
 // The requests that the sheet names; the last follows a write of lock base 31 and victim 0.
-fn requests(ext: &[u8]) {
-    slots(asked(ext, 6, 0, 0x012345));
-    slots(asked(ext, 6, 0, 0x3ABCDE));
-    slots(asked(ext, 7, 0, 0x3ABCDE));
-    slots(asked(ext, 6, 0, 0x5007FF));
-    slots(asked(ext, 6, 0, 0x500800));
-    slots(asked(ext, 6, 0, 0xFFFFFF));
-    slots(asked(ext, 6, 0, 0x1000000));
-    slots(asked(ext, 8, 0x7C00, 0x012345));
-}
-
-// The empty list at addresses a stride apart and at the last one.
-fn empty(ext: &[u8]) {
-    let mut i: u32 = 0;
-    while i < ASKED {
-        asked(ext, 6, 0, STRIDE * i);
-        i += 1;
+fn requests(image: &[u8]) {
+    for (va, access) in [
+        (0x012345, Access::Read),
+        (0x3ABCDE, Access::Read),
+        (0x3ABCDE, Access::Write),
+        (0x5007FF, Access::Read),
+        (0x500800, Access::Read),
+        (0xFFFFFF, Access::Read),
+        (0x1000000, Access::Read),
+    ] {
+        slots(asked(image, 0, va, access));
     }
-    asked(ext, 6, 0, 0xFFFFFF);
-    asked(ext, 7, 0, 0xFFFFFF);
-}
-
-// Prices that are good.
-fn prices() -> Prices {
-    Prices {
-        onchip: Price::Flat(1.0),
-        external: Price::Flat(1.0),
-    }
-}
-
-// A call made.
-fn stepped(b: Bench, ext: &[u8], call: Call) -> Stepped {
-    let on = [0u8; 16];
-    b.step(
-        call,
-        &on,
-        PhysicalAddress(0),
-        ext,
-        PhysicalAddress(BASE),
-        prices(),
-    )
-}
-
-// A register write.
-fn set(b: Bench, ext: &[u8], offset: u32, v: u16) -> Bench {
-    let s = stepped(b, ext, Call::Write(offset, v));
-    s.bench
+    show::text(b"locked ");
+    slots(asked(image, 0x7C00, 0x012345, Access::Read));
 }
 
 // A fresh device with the base set, on and walking, and the lock register written.
-fn start(ext: &[u8], lock: u16) -> Bench {
-    let based = set(Bench::fresh(), ext, 0x1c, 0x2000);
-    let walking = set(based, ext, 0x08, 7);
-    set(walking, ext, 0x24, lock)
-}
-
-// The request that a label says: 7 to write, else to read.
-fn request(n: u32, va: u32) -> Call {
-    if n == 7 {
-        return Call::Request(VirtualAddress(va), Access::Write);
+fn start(lent: &Memories, lock: u16) -> Bench {
+    let mut b = Bench::fresh();
+    for (offset, v) in [(0x1C, 0x2000), (0x08, 7), (0x24, lock)] {
+        b = b.step(Some(Call::Write(offset, v)), lent, PRICES).bench;
     }
-    Call::Request(VirtualAddress(va), Access::Read)
+    b
 }
 
 // A request of such a device, shown with what it said, and what it left.
-fn asked(ext: &[u8], n: u32, lock: u16, va: u32) -> Stepped {
-    label(n);
+fn asked(image: &[u8], lock: u16, va: u32, access: Access) -> Stepped {
+    match access {
+        Access::Read => show::text(b"read "),
+        Access::Write => show::text(b"write "),
+    }
     io::print_hex(STDOUT_FILENO, va as u64, 6);
-    let s = stepped(start(ext, lock), ext, request(n, va));
-    let said = s.said;
-    tell(said);
+    let lent = Memories {
+        on: &[0u8; 16],
+        onbase: PhysicalAddress(0),
+        ext: image,
+        extbase: BASE,
+    };
+    let call = Call::Request(VirtualAddress(va), access);
+    let s = start(&lent, lock).step(Some(call), &lent, PRICES);
+    tell(s.said);
     s
 }
 
-// What a call said, as a number and a value.
+// What a call said, as a number, 0 for an address, and a value.
 fn tell(said: Said) {
     let mut out = [0u8; 16];
     run::answers::put_said(&mut out, 0, said, Place::Nowhere);
-    show::said(
-        number(wire::word_at(&out, 0)),
-        wire::word_at(&out, 8) as u64,
-    );
-}
-
-// An answer's number, 0 for an address or a value.
-fn number(n: u32) -> u64 {
-    if n >= 100 {
-        return 0;
-    }
-    n as u64
-}
-
-// The address of a word in a memory at a base.
-fn word_at(base: u32, k: usize) {
-    label(12);
-    show::value(std::num::wrapping_add_u64(base as u64, k as u64));
+    let number = wire::word_at(&out, 0) as u64;
+    let shown = if number < 100 { number } else { 0 };
+    show::said(shown, wire::word_at(&out, 8) as u64);
 }
 
 // Where the last word came from.
 fn source(from: Place) {
     match from {
-        Place::OnChip(k) => word_at(0, k),
-        Place::External(k) => word_at(BASE, k),
-        Place::Nowhere => {
-            label(13);
-            show::end();
-        }
+        Place::OnChip(k) => at(0, k),
+        Place::External(k) => at(BASE.0, k),
+        Place::Nowhere => show::text(b"  from no word\n"),
     }
+}
+
+// The address of a word in a memory at a base.
+fn at(base: u32, k: usize) {
+    show::line(b"  from the word at", (base as u64).wrapping_add(k as u64));
 }
 
 // How many words were read, where the last one came from, and CAM and RAM of the first and the last slot.
 fn slots(s: Stepped) {
-    let from = s.from;
-    let b = s.bench;
-    let m = b.meters;
-    label(9);
-    show::value(m.words as u64);
-    source(from);
-    let d = b.device;
-    let k = d.bank;
-    slot(k, 10, 0);
-    slot(k, 11, 31);
-}
-
-// A slot's words.
-fn slot(k: Bank, n: u32, i: usize) {
-    let cam = k.cam;
-    let ram = k.ram;
-    label(n);
-    if i < 32 {
-        show::number(cam[i] as u64);
-        show::value(ram[i] as u64);
-    }
+    show::line(b"  words read", s.bench.meters.words as u64);
+    source(s.from);
+    let bank = s.bench.device.bank;
+    show::words(b"  slot 0", bank.cam[0], bank.ram[0]);
+    show::end();
+    show::words(b"  slot 31", bank.cam[31], bank.ram[31]);
+    show::end();
 }

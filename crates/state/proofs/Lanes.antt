@@ -1,25 +1,38 @@
--- One turn of the loop over a lane: what is left to read. Assumes nothing.
-use Rattle.state.specs.Names.{◌≡◌, List, [], ◌∷◌, ◌++◌, ℕ, suc, ◌+◌, ◌*◌, ◌≤◌, length, slots, swapped, word_at}
-use Rattle.state.proofs.Names.{refl, sym, ◌∙◌, ap, ap₂, ◌-◌, ◌<◌, arith, take, lane_from}
-use mathlib.Core.List.{append_assoc}
-use native.Mathlib.Numerals.{add-one}
-use lib.ListN.{set}
-use lib.Seq.{take-suc-set, take_all}
+-- A lane by the number of each of its words. Assumes nothing.
+use Rattle.state.specs.Names.{◌≡◌, List, ◌∷◌, ℕ, zero, suc, ◌+◌, ◌*◌, ◌≤◌, length, get_or, slots, swapped, word_at}
+use Rattle.state.proofs.Names.{refl, sym, ◌∙◌, ap, arith, ◌<◌, lane_from}
+use Rattle.std.specs.Array.{IsFromFnResult, IsFromFnResultFrom}
+use Rattle.std.specs.Fn.{Called}
+use denote.Param.Members.{Mut}
+use mathlib.Core.Path.{subst}
+use native.Mathlib.Decide.{dec_le}
+use Rattle.std.specs.Prelude.{map}
+use Rattle.std.specs.List.{range_with_len}
+use Rattle.std.proofs.lemmas.List.FromFn.{fill_by_all}
 
-pub lane_turn : (s lane : List ℕ) (at i v : ℕ) → i < slots → length lane ≡ slots → v ≡ swapped (word_at s (at + 8 * i))
-    → take i lane ++ lane_from s at i (slots - i) ≡ take (i + 1) (set lane i v) ++ lane_from s at (i + 1) (slots - (i + 1))
-unfolding lane_from
-lane_turn s lane at i v h e ev =
-    let rest = lane_from s at (i + 1) (slots - (i + 1)) in
-    ap (λ (n : ℕ). take i lane ++ lane_from s at i n) (let d : slots - i ≡ suc (slots - (i + 1)) = omega arith in d)
-    ∙ ap (λ (x : ℕ). take i lane ++ (x ∷ rest)) (sym ev)
-    ∙ sym (append_assoc (take i lane) (v ∷ []) rest)
-    ∙ ap (λ (l : List ℕ). l ++ rest) (sym (take-suc-set lane i v (omega arith)) ∙ ap (λ (j : ℕ). take j (set lane i v)) (sym (add-one i)))
+-- an array that a function makes has at each index what every call of it gives
+made_by : {F : Type 0} {g : Mut F (ℕ × Unit {0}) ℕ} {f : F} (h : ℕ → ℕ) (ys : List ℕ) (i n : ℕ) → IsFromFnResultFrom g f ys i n
+    → ((k y : ℕ) (q : F) → Called g f (k, tt) y q → (q ≡ f) × (y ≡ h k)) → (j : ℕ) → i ≤ j → j < i + n → get_or ys j 0 ≡ h j
+made_by h ys i zero r step j a b = absurd (omega arith)
+made_by {F} {g} {f} h ys i (suc n) r step j a b =
+    let s = step i r.1 r.0 r.3 in
+    elim (dec_le (i + 1) j) [
+      | yes k ↦ made_by {f = f} h ys (i + 1) n (subst (λ (p : F). IsFromFnResultFrom g p ys (i + 1) n) s.0 r.4) step j k (omega arith)
+      | no k ↦ let e : j ≡ i = omega arith in ap (λ m. get_or ys m 0) e ∙ r.2.1 0 ∙ s.1 ∙ ap h (sym e)
+    ]
 
-pub lane_end : (s lane : List ℕ) (at i : ℕ) → slots ≤ i → length lane ≡ slots → lane ≡ take i lane ++ lane_from s at i (slots - i)
+pub made_all : {F : Type 0} {g : Mut F (ℕ × Unit {0}) ℕ} {f : F} (h : ℕ → ℕ) {ys : List ℕ} {n : ℕ} → IsFromFnResult g f ys n
+    → ((k y : ℕ) (q : F) → Called g f (k, tt) y q → (q ≡ f) × (y ≡ h k)) → (j : ℕ) → j < n → get_or ys j 0 ≡ h j
+made_all {F} {g} {f} h {ys} {n} r step j b = made_by {f = f} h ys 0 n r.each step j (omega arith) (omega arith)
+
+abbrev pub slot_word : List ℕ → ℕ → ℕ → ℕ
+slot_word s at k = swapped (word_at s (at + 8 * k))
+
+lane_is : (s : List ℕ) (at i n : ℕ) → lane_from s at i n ≡ map (slot_word s at) (range_with_len i n)
 unfolding lane_from
-lane_end s lane at i h e = sym (ap₂ (λ (l : List ℕ) (n : ℕ). l ++ lane_from s at i n) (take_all i lane (omega arith)) (let d : slots - i ≡ 0 = omega arith in d) ∙ append-none lane)
-  where
-    append-none : (l : List ℕ) → l ++ [] ≡ l
-    append-none [] = refl
-    append-none (x ∷ xs) = ap (λ (l : List ℕ). x ∷ l) (append-none xs)
+lane_is s at i zero = refl
+lane_is s at i (suc n) = ap (λ (l : List ℕ). slot_word s at i ∷ l) (lane_is s at (i + 1) n)
+
+pub lane_made : (s lane : List ℕ) (at : ℕ) → length lane ≡ slots → ((k : ℕ) → k < slots → get_or lane k 0 ≡ swapped (word_at s (at + 8 * k)))
+    → lane ≡ lane_from s at 0 slots
+lane_made s lane at long each = fill_by_all (slot_word s at) lane slots 0 long each ∙ sym (lane_is s at 0 slots)

@@ -1,5 +1,6 @@
 -- How many words each part of a state has. Assumes nothing.
-use Rattle.state.specs.Names.{◌≡◌, List, ◌++◌, ℕ, zero, suc, ◌+◌, ◌*◌, length, slots, Pending, Device, Bench}
+use Rattle.std.proofs.Common.{Option, Some, None}
+use Rattle.state.specs.Names.{◌≡◌, List, ◌++◌, ℕ, zero, suc, ◌+◌, ◌*◌, length, slots, Stall, Device, Bench}
 use Rattle.state.proofs.Names.{refl, arith, length-append, slot_words, pending_words, device_words, state_words, meter_words, bill_words}
 
 pub slots_length : (cam ram : List ℕ) (i n : ℕ) → length (slot_words cam ram i n) ≡ 2 * n
@@ -7,9 +8,9 @@ unfolding slot_words
 slots_length cam ram i zero = refl
 slots_length cam ram i (suc n) = let r = slots_length cam ram (i + 1) n in omega arith
 
-pub pending-length : (p : Pending) → length (pending_words p) ≡ 2
-pending-length Pending.Nothing = refl
-pending-length (Pending.Held k va a) = refl
+pub pending-length : (p : Option Stall) → length (pending_words p) ≡ 2
+pending-length None = refl
+pending-length (Some s) = refl
 
 pub device-length : (handed : ℕ) (d : Device) → length (device_words handed d) ≡ 73
 device-length handed d =

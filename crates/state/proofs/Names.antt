@@ -13,3 +13,5 @@ unfoldable pub use Rattle.state.specs.Parts.{lock_word}
 pub use Rattle.state.specs.State.{device_words, pending_words, state_words}
 unfoldable pub use Rattle.state.specs.State.{slot_words}
 pub use Rattle.wire.proofs.Placing.{written_fits}
+pub use Rattle.std.proofs.lemmas.Bool.Decides.{nat_tests}
+unfoldable pub use Rattle.page.specs.Pick.{◌and◌, ◌or◌}

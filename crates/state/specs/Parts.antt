@@ -1,6 +1,7 @@
 -- Parts of a state as words.
+use Rattle.std.specs.Prelude.{Option, Some, None}
 use Rattle.std.specs.Prelude.{◌/◌, ◌%◌, ◌∷◌, ◌++◌}
-use Rattle.state.specs.Names.{ℕ, List, [], ltb, pick, ◌and◌, Meters, Bill, LastRow, Entry, binary64, wide, halves}
+use Rattle.state.specs.Names.{ℕ, List, [], ltb, pick, ◌and◌, Meters, Bill, Entry, binary64, wide, halves}
 use Rattle.std.specs.Float.Ieee.{to_bits}
 
 -- CAM high, CAM low, RAM high, RAM low
@@ -18,9 +19,9 @@ meter_words m = m.fresh ∷ m.retries ∷ m.words ∷ []
 abbrev pub no_row : ℕ
 no_row = 4294967295
 
-abbrev pub row_word : LastRow → ℕ
-row_word LastRow.Never = no_row
-row_word (LastRow.At row) = row
+abbrev pub row_word : Option ℕ → ℕ
+row_word None = no_row
+row_word (Some row) = row
 
 -- the bits of the two figures, and the last rows
 abbrev pub bill_words : Bill → List ℕ

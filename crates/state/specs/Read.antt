@@ -1,8 +1,10 @@
 -- A bench from a handed-in state: register images and slots as they stand; and prices of a kind.
+use Rattle.std.specs.Prelude.{Option}
+use Rattle.std.specs.Prelude.{Some, None}
 use Rattle.std.specs.Prelude.{◌+◌, ◌*◌, ◌∷◌}
 use Rattle.state.specs.Names.{ℕ, zero, suc, Bool, List, [], eqb, leb, length, get_or, pick, ◌and◌, ◌or◌, physical, Meters, Bill}
-use Rattle.state.specs.Names.{Side, LastRow, Price, Prices, Bank, slots, Entry, Registers, Device, Bench, Float, swapped, word_at, low_at, high_at}
-use Rattle.state.specs.Names.{ltb, virtual, Fault, Pending, access_of}
+use Rattle.state.specs.Names.{Side, Price, Prices, Bank, slots, Entry, Registers, Device, Bench, Float, swapped, word_at, low_at, high_at}
+use Rattle.state.specs.Names.{ltb, virtual, Fault, Stall, stall, access_of}
 use Rattle.state.specs.Parts.{no_row}
 use Rattle.state.specs.Layout.{state_size, lock_offset, staged_offset, copied_offset, slots_offset, pending_offset, address_offset, meters_offset, rows_offset}
 
@@ -18,12 +20,12 @@ abbrev pub victim_taken : List ℕ → ℕ
 victim_taken s = narrowed (high_at s lock_offset)
 
 -- a pending fault by its status
-unfoldable pub pending_of : ℕ → ℕ → ℕ → Pending
+unfoldable pub pending_of : ℕ → ℕ → ℕ → Option Stall
 pending_of status access address =
-    pick (eqb status 1) (Pending.Held Fault.Translation (virtual address) (access_of access))
-    (pick (eqb status 2) (Pending.Held Fault.Miss (virtual address) (access_of access))
-    (pick (eqb status 4) (Pending.Held Fault.Permission (virtual address) (access_of access))
-    (pick (eqb status 8) (Pending.Held Fault.Prefetch (virtual address) (access_of access)) Pending.Nothing)))
+    pick (eqb status 1) (Some (stall Fault.Translation (virtual address) (access_of access)))
+    (pick (eqb status 2) (Some (stall Fault.Miss (virtual address) (access_of access)))
+    (pick (eqb status 4) (Some (stall Fault.Permission (virtual address) (access_of access)))
+    (pick (eqb status 8) (Some (stall Fault.Prefetch (virtual address) (access_of access))) None)))
 
 -- the pending statuses
 abbrev pub is_status : ℕ → Bool
@@ -67,7 +69,7 @@ abbrev pub meters_in : List ℕ → Meters
 meters_in s = record { fresh = word_at s meters_offset; retries = word_at s (meters_offset + 4); words = word_at s (meters_offset + 8) }
 
 unfoldable pub side_of : ℕ → Side
-side_of row = record { last = pick (eqb row no_row) LastRow.Never (LastRow.At row) }
+side_of row = record { last = pick (eqb row no_row) None (Some row) }
 
 -- the state's own figures are not looked at
 abbrev pub bill_in : List ℕ → Float → Float → Bill

@@ -1,6 +1,7 @@
 -- The state of a bench as 82 words.
+use Rattle.std.specs.Prelude.{Option, Some, None}
 use Rattle.std.specs.Prelude.{◌+◌, ◌*◌, ◌∷◌, ◌++◌}
-use Rattle.state.specs.Names.{ℕ, zero, suc, List, [], get_or, Access, slots, fault_bit, Registers, Pending, Device, Bench}
+use Rattle.state.specs.Names.{ℕ, zero, suc, List, [], get_or, Access, slots, fault_bit, Registers, Stall, Device, Bench}
 use Rattle.state.specs.Names.{halves, swapped}
 use Rattle.state.specs.Parts.{entry_words, lock_word, meter_words, bill_words}
 
@@ -19,9 +20,9 @@ access_number Access.Read = 0
 access_number Access.Write = 1
 
 -- status, access, two zero bytes; address
-abbrev pub pending_words : Pending → List ℕ
-pending_words Pending.Nothing = 0 ∷ 0 ∷ []
-pending_words (Pending.Held k va a) = (fault_bit k + 256 * access_number a) ∷ va.0 ∷ []
+abbrev pub pending_words : Option Stall → List ℕ
+pending_words None = 0 ∷ 0 ∷ []
+pending_words (Some s) = (fault_bit s.fault + 256 * access_number s.access) ∷ s.at.0 ∷ []
 
 -- registers, slots, the pending fault
 abbrev pub device_words : ℕ → Device → List ℕ

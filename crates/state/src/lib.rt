@@ -13,27 +13,32 @@ use bill::Bill;
 use lanes::SLOTS;
 use meters::Meters;
 use page::Access;
-use prices::{LastRow, Side};
-use registers::{Entry, Pending, Registers};
+use prices::Side;
+use registers::{Entry, Registers, Stall};
 use session::Bench;
 use unit::Device;
 
-// The words of a state.
-const WORDS: usize = 82;
-
 // The bytes of a state.
-pub const SIZE: usize = 328;
+pub const SIZE: usize = layout::END;
+
+// The words of a state.
+const WORDS: usize = SIZE / 4;
+
+// The word of a last row where none was read.
+const NO_ROW: u32 = u32::MAX;
+
+// The bits of every NaN.
+const NAN: u64 = 0x7FF8_0000_0000_0000;
 
 // The registers.
 fn register_words(r: Registers, lock: u32) -> [u32; 7]
     ensures { result ≡ register_words r lock }
 {
-    let base = r.base;
     let staged = entry_words(r.staged);
     let copied = entry_words(r.copied);
     [
         wire::halves(r.prefetch, r.control),
-        base.0,
+        r.base.0,
         lock,
         staged[0],
         staged[1],
@@ -43,15 +48,16 @@ fn register_words(r: Registers, lock: u32) -> [u32; 7]
 }
 
 // The slots in register form.
-fn put_slots<'b>(out: &mut [u8], at: usize, cam: &'b [u32; SLOTS], ram: &'b [u32; SLOTS])
+fn put_slots(out: &mut [u8], at: usize, cam: &[u32; SLOTS], ram: &[u32; SLOTS])
     requires { at + 256 ≤ length out.old }
     ensures { out.new ≡ placed out.old at (slot_words cam.now ram.now 0 slots) }
 {
-    let mut i: usize = 0;
-    while i < SLOTS {
-        let words = [wire::swapped(cam[i]), wire::swapped(ram[i])];
-        wire::put(out, at + 8 * i, &words);
-        i += 1;
+    for i in 0..SLOTS {
+        wire::put(
+            out,
+            at + layout::SLOT * i,
+            &[wire::swapped(cam[i]), wire::swapped(ram[i])],
+        );
     }
 }
 
@@ -59,21 +65,18 @@ fn put_slots<'b>(out: &mut [u8], at: usize, cam: &'b [u32; SLOTS], ram: &'b [u32
 fn access_number(a: Access) -> u8
     ensures { result ≡ access_number a }
 {
-    match a {
-        Access::Read => 0,
-        Access::Write => 1,
-    }
+    a as u8
 }
 
 // The pending fault.
-fn pending_words(p: Pending) -> [u32; 2]
+fn pending_words(p: Option<Stall>) -> [u32; 2]
     ensures { result ≡ pending_words p }
 {
     match p {
-        Pending::Nothing => [0, 0],
-        Pending::Held(k, va, a) => [
-            registers::fault_bit(k) as u32 + 256 * (access_number(a) as u32),
-            va.0,
+        None => [0, 0],
+        Some(s) => [
+            registers::fault_bit(s.fault) as u32 + 256 * (access_number(s.access) as u32),
+            s.at.0,
         ],
     }
 }
@@ -83,13 +86,10 @@ fn put_device(out: &mut [u8], at: usize, d: Device, handed: u32)
     requires { at + 292 ≤ length out.old }
     ensures { out.new ≡ placed out.old at (device_words handed d) }
 {
-    let r = d.registers;
-    let p = d.pending;
-    let head = register_words(r, lock_word(handed, d.bank.lock, d.bank.victim));
-    let last = pending_words(p);
-    wire::put(out, at, &head);
+    let lock = lock_word(handed, d.bank.lock, d.bank.victim);
+    wire::put(out, at, &register_words(d.registers, lock));
     put_slots(out, at + layout::SLOTS, &d.bank.cam, &d.bank.ram);
-    wire::put(out, at + layout::STATUS, &last);
+    wire::put(out, at + layout::STATUS, &pending_words(d.pending));
 }
 
 // The whole state where it has room.
@@ -97,12 +97,8 @@ fn put_all(out: &mut [u8], at: usize, b: Bench, handed: u32)
     requires { at + 328 ≤ length out.old }
     ensures { out.new ≡ placed out.old at (state_words handed b) }
 {
-    let d = b.device;
-    let m = b.meters;
-    let bill = b.bill;
-    let rest = rest_words(m, bill);
-    put_device(out, at, d, handed);
-    wire::put(out, at + layout::FRESH, &rest);
+    put_device(out, at, b.device, handed);
+    wire::put(out, at + layout::FRESH, &rest_words(b.meters, b.bill));
 }
 
 // The state of a bench at an offset, where there is room.
@@ -129,42 +125,32 @@ pub(crate) fn entry_words(e: Entry) -> [u32; 2]
 pub(crate) fn lock_word(handed: u32, lock: u8, victim: u8) -> u32
     ensures { result ≡ lock_word handed lock victim }
 {
-    if handed % 65536 >= 256 {
-        return handed;
+    if handed % 65536 < 256 && handed / 65536 < 256 {
+        wire::halves(lock as u16, victim as u16)
+    } else {
+        handed
     }
-    if handed / 65536 >= 256 {
-        return handed;
-    }
-    wire::halves(lock as u16, victim as u16)
 }
 
 // The bits of a figure, one pattern for every NaN.
+#[tactic(auto, using(crate::proofs::Figures::nan_bits))]
 fn bits(x: f64) -> u64
     ensures { result ≡ to_bits binary64 x }
 {
-    if x != x {
-        return 9221120237041090560;
-    }
-    f64::to_bits(x)
+    if x.is_nan() { NAN } else { x.to_bits() }
 }
 
 // The last row as a word, all ones where there is none.
 fn row_word(side: Side) -> u32
     ensures { result ≡ row_word side.last }
 {
-    let last = side.last;
-    match last {
-        LastRow::Never => 4294967295,
-        LastRow::At(row) => row,
-    }
+    side.last.unwrap_or(NO_ROW)
 }
 
 // The meters and the bill.
 pub fn rest_words(m: Meters, b: Bill) -> [u32; 9]
     ensures { result ≡ meter_words m ++ bill_words b }
 {
-    let onchip = b.onchip;
-    let external = b.external;
     let total = bits(b.total);
     let misses = bits(b.misses);
     [
@@ -175,7 +161,7 @@ pub fn rest_words(m: Meters, b: Bill) -> [u32; 9]
         (total / 4294967296) as u32,
         (misses % 4294967296) as u32,
         (misses / 4294967296) as u32,
-        row_word(onchip),
-        row_word(external),
+        row_word(b.onchip),
+        row_word(b.external),
     ]
 }

@@ -1,57 +1,46 @@
 // Numbers of a handed-in state as a device takes them: lock base, victim and the pending fault.
 ghost use Rattle.std.specs.Prelude.{◌≡◌, ◌≤◌};
 ghost use Rattle.state.specs.Names.{slots};
-ghost use Rattle.state.specs.Read.{narrowed, lock_taken, victim_taken, pending_of, is_status, is_state, entry_at, registers_in, lane_from, bank_in};
+ghost use Rattle.state.specs.Read.{narrowed, pending_of, is_status, is_state, entry_at, registers_in, lane_from, bank_in};
 ghost use Rattle.state.specs.Read.{meters_in, side_of, bill_in, device_in, bench_in, lock_in, price_of, prices_of};
 
-use crate::{SIZE, layout};
+use crate::{NO_ROW, SIZE, layout};
 use bank::Bank;
 use bill::Bill;
 use lanes::SLOTS;
 use meters::Meters;
 use page::{PhysicalAddress, VirtualAddress};
-use prices::{LastRow, Price, Prices, Side};
-use registers::{Entry, Fault, Pending, Registers};
+use prices::{Price, Prices, Side};
+use registers::{Entry, Fault, Registers, Stall};
 use session::Bench;
+use std::array;
 use unit::Device;
 
 // A number of a device's 8 bits, or the greatest one where it is more.
+#[tactic(auto, using(std::proofs::lemmas::Bool::Decides::nat_tests), unfolding(crate::specs::Read::narrowed, page::specs::Pick::pick))]
 fn narrow(x: u16) -> u8
     ensures { result ≡ narrowed x }
 {
-    if x < 256 {
-        return x as u8;
-    }
-    255
-}
-
-// The lock base of a state.
-pub(crate) fn lock_of(state: &[u8]) -> u8
-    ensures { result ≡ lock_taken state.now }
-{
-    narrow(wire::low_at(state, layout::LOCK))
-}
-
-// The victim of a state.
-pub(crate) fn victim_of(state: &[u8]) -> u8
-    ensures { result ≡ victim_taken state.now }
-{
-    narrow(wire::high_at(state, layout::LOCK))
+    u8::try_from(x).unwrap_or(u8::MAX)
 }
 
 // The pending fault of a status, an access and an address.
-pub(crate) fn pending_of(status: u8, access: u8, address: u32) -> Pending
+#[tactic(auto, using(std::proofs::lemmas::Bool::Decides::nat_tests), unfolding(crate::specs::Read::pending_of, page::specs::Pick::pick))]
+fn pending_of(status: u8, access: u8, address: u32) -> Option<Stall>
     ensures { result ≡ pending_of status access address }
 {
-    let va = VirtualAddress(address);
-    let a = calls::forms::access_of(access);
-    match status {
-        1 => Pending::Held(Fault::Translation, va, a),
-        2 => Pending::Held(Fault::Miss, va, a),
-        4 => Pending::Held(Fault::Permission, va, a),
-        8 => Pending::Held(Fault::Prefetch, va, a),
-        _ => Pending::Nothing,
-    }
+    let fault = match status {
+        1 => Fault::Translation,
+        2 => Fault::Miss,
+        4 => Fault::Permission,
+        8 => Fault::Prefetch,
+        _ => return None,
+    };
+    Some(Stall {
+        fault,
+        at: VirtualAddress(address),
+        access: calls::forms::access_of(access),
+    })
 }
 
 // A slot in register form.
@@ -85,24 +74,16 @@ fn lane_at(state: &[u8], at: usize) -> [u32; SLOTS]
     requires { at ≤ 32 }
     ensures { result ≡ lane_from state.now at 0 slots }
 {
-    let mut lane = [0u32; SLOTS];
-    let mut i: usize = 0;
-    while i < SLOTS {
-        lane[i] = wire::swapped(wire::word_at(state, at + 8 * i));
-        i += 1;
-    }
-    lane
+    array::from_fn(|i| wire::swapped(wire::word_at(state, at + layout::SLOT * i)))
 }
 
 // What a state keeps of a memory.
+#[tactic(auto, using(std::proofs::lemmas::Bool::Decides::nat_tests), unfolding(crate::specs::Read::side_of, page::specs::Pick::pick))]
 fn side_of(row: u32) -> Side
     ensures { result ≡ side_of row }
 {
-    if row == 4294967295 {
-        return Side::fresh();
-    }
     Side {
-        last: LastRow::At(row),
+        last: (row != NO_ROW).then_some(row),
     }
 }
 
@@ -111,8 +92,8 @@ fn bill_at(state: &[u8], total: f64, misses: f64) -> Bill
     ensures { result ≡ bill_in state.now total misses }
 {
     Bill {
-        total: total,
-        misses: misses,
+        total,
+        misses,
         onchip: side_of(wire::word_at(state, layout::ROW)),
         external: side_of(wire::word_at(state, layout::EXTERNAL_ROW)),
     }
@@ -136,8 +117,8 @@ fn bank_at(state: &[u8]) -> Bank
     Bank {
         cam: lane_at(state, layout::SLOTS),
         ram: lane_at(state, layout::RAM),
-        lock: lock_of(state),
-        victim: victim_of(state),
+        lock: narrow(wire::low_at(state, layout::LOCK)),
+        victim: narrow(wire::high_at(state, layout::LOCK)),
     }
 }
 
@@ -178,43 +159,31 @@ pub fn lock_at(state: &[u8]) -> u32
 fn status_ok(x: u8) -> bool
     ensures { result ≡ is_status x }
 {
-    match x {
-        0 => true,
-        1 => true,
-        2 => true,
-        4 => true,
-        8 => true,
-        _ => false,
-    }
+    matches!(x, 0 | 1 | 2 | 4 | 8)
 }
 
 // Whether the bytes are a state.
+#[tactic(auto, using(page::proofs::Picks::tests), unfolding(crate::specs::Read::is_state))]
 pub fn state_ok(state: &[u8]) -> bool
     ensures { result ≡ is_state state.now }
 {
-    if state.len() != SIZE {
-        return false;
-    }
-    if wire::byte_at(state, layout::ACCESS) > 1 {
-        return false;
-    }
-    if wire::byte_at(state, layout::ZERO) != 0 {
-        return false;
-    }
-    if wire::byte_at(state, layout::LAST_ZERO) != 0 {
-        return false;
-    }
-    status_ok(wire::byte_at(state, layout::STATUS))
+    state.len() == SIZE
+        && wire::byte_at(state, layout::ACCESS) <= 1
+        && wire::byte_at(state, layout::ZERO) == 0
+        && wire::byte_at(state, layout::LAST_ZERO) == 0
+        && status_ok(wire::byte_at(state, layout::STATUS))
 }
 
 // A price of a kind: flat, or by the row.
+// Kept: the C interface gives the kind as a number.
+#[tactic(auto, using(std::proofs::lemmas::Bool::Decides::nat_tests), unfolding(crate::specs::Read::price_of, page::specs::Pick::pick))]
 fn price_of(kind: u32, a: f64, b: f64) -> Price
     ensures { result ≡ price_of kind a b }
 {
-    if kind == 0 {
-        return Price::Flat(a);
+    match kind {
+        0 => Price::Flat(a),
+        _ => Price::Row { same: a, fresh: b },
     }
-    Price::Row { same: a, fresh: b }
 }
 
 // The prices of two kinds.

@@ -1,5 +1,7 @@
 -- A megabyte's table is fine enough for each of its pages, and has pages of their kinds. Assumes nothing.
-use Rattle.tables.specs.Names.{◌≡◌, Bool, false, List, ℕ, ◌/◌, ◌^◌, ◌or◌, eqb, low_bits, type_of, Kind, Mapping, Second, has_kind}
+use Rattle.std.proofs.Common.{Option, Some, None}
+use Rattle.walk.specs.declared.Table.{Table}
+use Rattle.tables.specs.Names.{◌≡◌, Bool, false, List, ℕ, ◌/◌, ◌^◌, ◌or◌, eqb, low_bits, type_of, Kind, Mapping, has_kind}
 use Rattle.tables.proofs.Names.{refl, sym, ◌∙◌, subst, true, true≢false, ◌∷◌, ◌≤◌, arith, lit≤, eq-eqb, and_yes, table_of, step_bits}
 use mathlib.Core.List.{[]}
 use borrow.Author.Tests.{eqb-true}
@@ -90,37 +92,37 @@ module _ (i : ℕ) (k : Kind) where
       by_first_lem r false t = let h = sym (or_no _ _ t) ∙ e in ((λ v s. none-behind m ms v s d.0 h), r h)
 
 -- the kinds of page that a table has; at the first level stand sections
-abbrev pub Allows : Second → Kind → Type 0
-Allows Second.Fine Kind.Section = ⊥
-Allows Second.Fine Kind.Large = Unit
-Allows Second.Fine Kind.Small = Unit
-Allows Second.Fine Kind.Tiny = Unit
-Allows Second.Coarse Kind.Section = ⊥
-Allows Second.Coarse Kind.Large = Unit
-Allows Second.Coarse Kind.Small = Unit
-Allows Second.Coarse Kind.Tiny = ⊥
-Allows Second.Absent Kind.Section = Unit
-Allows Second.Absent Kind.Large = ⊥
-Allows Second.Absent Kind.Small = ⊥
-Allows Second.Absent Kind.Tiny = ⊥
+abbrev pub Allows : Option Table → Kind → Type 0
+Allows (Some Table.Fine) Kind.Section = ⊥
+Allows (Some Table.Fine) Kind.Large = Unit
+Allows (Some Table.Fine) Kind.Small = Unit
+Allows (Some Table.Fine) Kind.Tiny = Unit
+Allows (Some Table.Coarse) Kind.Section = ⊥
+Allows (Some Table.Coarse) Kind.Large = Unit
+Allows (Some Table.Coarse) Kind.Small = Unit
+Allows (Some Table.Coarse) Kind.Tiny = ⊥
+Allows None Kind.Section = Unit
+Allows None Kind.Large = ⊥
+Allows None Kind.Small = ⊥
+Allows None Kind.Tiny = ⊥
 
 -- a mapping of megabyte i is of a kind that a table has
-abbrev pub KindFits : Second → ℕ → Mapping → Type 0
+abbrev pub KindFits : Option Table → ℕ → Mapping → Type 0
 KindFits t i m = m.at.0 / 2 ^ 20 ≡ i → Allows t m.kind
 
-fine_allows : (k : Kind) → (type_of k ≡ type_of Kind.Section → ⊥) → Allows Second.Fine k
+fine_allows : (k : Kind) → (type_of k ≡ type_of Kind.Section → ⊥) → Allows (Some Table.Fine) k
 fine_allows Kind.Section s = s refl
 fine_allows Kind.Large s = tt
 fine_allows Kind.Small s = tt
 fine_allows Kind.Tiny s = tt
 
-coarse_allows : (k : Kind) → (type_of k ≡ type_of Kind.Tiny → ⊥) → (type_of k ≡ type_of Kind.Section → ⊥) → Allows Second.Coarse k
+coarse_allows : (k : Kind) → (type_of k ≡ type_of Kind.Tiny → ⊥) → (type_of k ≡ type_of Kind.Section → ⊥) → Allows (Some Table.Coarse) k
 coarse_allows Kind.Section n s = s refl
 coarse_allows Kind.Large n s = tt
 coarse_allows Kind.Small n s = tt
 coarse_allows Kind.Tiny n s = n refl
 
-absent_allows : (k : Kind) → 20 ≤ low_bits k → Allows Second.Absent k
+absent_allows : (k : Kind) → 20 ≤ low_bits k → Allows None k
 absent_allows Kind.Section h = tt
 absent_allows Kind.Large h = omega arith
 absent_allows Kind.Small h = omega arith

@@ -1,35 +1,37 @@
 -- Where the tables lie. Assumes nothing.
-use Rattle.tables.specs.Names.{◌≡◌, List, ℕ, zero, suc, ◌+◌, ◌*◌, ◌-◌, ◌%◌, Mapping, Second}
+use Rattle.std.proofs.Common.{Option, Some, None}
+use Rattle.walk.specs.declared.Table.{Table}
+use Rattle.tables.specs.Names.{◌≡◌, List, ℕ, zero, suc, ◌+◌, ◌*◌, ◌-◌, ◌%◌, Mapping}
 use Rattle.tables.proofs.Names.{refl, sym, ap, ap₂, ◌∙◌, subst, ◌≤◌, arith, lit≤, table_of, start_after, table_end, table_start}
 use native.Mathlib.Nat.{le_refl}
 use native.Mathlib.Numerals.{add-one}
 use Rattle.tables.specs.Tables.{table_size, image_length}
 
 -- a table begins no earlier than the offset that it follows, less than its own size later, at a multiple of 4
-pub start-ge : (t : Second) (e : ℕ) → e ≤ start_after t e
-start-ge Second.Fine e = omega arith
-start-ge Second.Coarse e = omega arith
-start-ge Second.Absent e = le_refl e
+pub start-ge : (t : Option Table) (e : ℕ) → e ≤ start_after t e
+start-ge (Some Table.Fine) e = omega arith
+start-ge (Some Table.Coarse) e = omega arith
+start-ge None e = le_refl e
 
-pub start-le : (t : Second) (e : ℕ) → start_after t e ≤ e + 4095
-start-le Second.Fine e = omega arith
-start-le Second.Coarse e = omega arith
-start-le Second.Absent e = omega arith
+pub start-le : (t : Option Table) (e : ℕ) → start_after t e ≤ e + 4095
+start-le (Some Table.Fine) e = omega arith
+start-le (Some Table.Coarse) e = omega arith
+start-le None e = omega arith
 
-pub start_4 : (t : Second) (e : ℕ) → e % 4 ≡ 0 → start_after t e % 4 ≡ 0
-start_4 Second.Fine e h = omega arith
-start_4 Second.Coarse e h = omega arith
-start_4 Second.Absent e h = h
+pub start_4 : (t : Option Table) (e : ℕ) → e % 4 ≡ 0 → start_after t e % 4 ≡ 0
+start_4 (Some Table.Fine) e h = omega arith
+start_4 (Some Table.Coarse) e h = omega arith
+start_4 None e h = h
 
-pub size_le : (t : Second) → table_size t ≤ 4096
-size_le Second.Fine = lit≤ tt
-size_le Second.Coarse = lit≤ tt
-size_le Second.Absent = lit≤ tt
+pub size_le : (t : Option Table) → table_size t ≤ 4096
+size_le (Some Table.Fine) = lit≤ tt
+size_le (Some Table.Coarse) = lit≤ tt
+size_le None = lit≤ tt
 
-pub size_4 : (t : Second) → table_size t % 4 ≡ 0
-size_4 Second.Fine = refl
-size_4 Second.Coarse = refl
-size_4 Second.Absent = refl
+pub size_4 : (t : Option Table) → table_size t % 4 ≡ 0
+size_4 (Some Table.Fine) = refl
+size_4 (Some Table.Coarse) = refl
+size_4 None = refl
 
 module _ (n : ℕ) (ms : List Mapping) where
   pub end-start : (i : ℕ) → table_end n ms i ≤ table_start n ms i
@@ -70,11 +72,11 @@ module _ (n : ℕ) (ms : List Mapping) where
   end_4 (suc i) = omega (arith, start_4 (table_of ms i) (table_end n ms i) (end_4 i), size_4 (table_of ms i))
 
   -- the code's turn from one megabyte to the next
-  pub turn_start : (i e s : ℕ) (t : Second) → t ≡ table_of ms i → e ≡ table_end n ms i → s ≡ start_after t e → s ≡ table_start n ms i
+  pub turn_start : (i e s : ℕ) (t : Option Table) → t ≡ table_of ms i → e ≡ table_end n ms i → s ≡ start_after t e → s ≡ table_start n ms i
   unfolding table_start
   turn_start i e s t p q r = r ∙ ap₂ start_after p q
 
-  pub turn_end : (i s z : ℕ) (t : Second) → t ≡ table_of ms i → s ≡ table_start n ms i → z ≡ table_size t → s + z ≡ table_end n ms (i + 1)
+  pub turn_end : (i s z : ℕ) (t : Option Table) → t ≡ table_of ms i → s ≡ table_start n ms i → z ≡ table_size t → s + z ≡ table_end n ms (i + 1)
   turn_end i s z t p q r =
       ap₂ (λ (a b : ℕ). a + b) q (r ∙ ap table_size p) ∙ sym (end_next i) ∙ ap (table_end n ms) (sym (add-one i))
 

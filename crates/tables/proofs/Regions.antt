@@ -1,5 +1,8 @@
 -- Which words of a table stand for a mapping's region: one law over the number of low bits. Assumes nothing.
-use Rattle.tables.specs.Names.{◌≡◌, Bool, false, List, ℕ, ◌+◌, ◌*◌, ◌-◌, ◌/◌, ◌%◌, ◌^◌, eqb, upper, low_bits, Mapping, Held, holder, Second}
+use Rattle.std.proofs.Common.{Option, None}
+use Rattle.walk.specs.declared.Table.{Table}
+use Rattle.std.proofs.Common.{Some}
+use Rattle.tables.specs.Names.{◌≡◌, Bool, false, List, ℕ, ◌+◌, ◌*◌, ◌-◌, ◌/◌, ◌%◌, ◌^◌, eqb, upper, low_bits, Mapping, holder}
 use Rattle.tables.proofs.Names.{refl, sym, ap, ap₂, ◌∙◌, subst, true, ◌∷◌, ◌≤◌, ◌<◌, arith, dec_le, pow_pos, lit≤, eq-eqb, pick_yes, pick_no}
 use Rattle.tables.proofs.Names.{step_bits, second_word}
 use native.Mathlib.Nat.{mul-add-div_right, mul_assoc, mul-le-mul_right, mul-lt-mul_of_pos_right, le_of_mul-le-mul_right, add-mul, mod-lt, div-mul-le_self}
@@ -77,13 +80,13 @@ words-end s n r sn n20 h =
     subst (λ (k : ℕ). upper n r + (2 ^ n - 1) < 2 ^ k) e (upper_lt n (20 - n) r (2 ^ n - 1) (subst (λ (k : ℕ). r < 2 ^ k) (sym e) h) l) in
     subst (λ (k : ℕ). k ≤ 2 ^ 20) (sym (ends s n r 0 sn)) (omega arith)
 
-pub step-le : (t : Second) → step_bits t ≤ 20
-step-le Second.Fine = lit≤ tt
-step-le Second.Coarse = lit≤ tt
-step-le Second.Absent = lit≤ tt
+pub step-le : (t : Option Table) → step_bits t ≤ 20
+step-le (Some Table.Fine) = lit≤ tt
+step-le (Some Table.Coarse) = lit≤ tt
+step-le None = lit≤ tt
 
 -- word x of megabyte i's table stands for a mapping's region exactly where it is one of the region's words
-module _ (t : Second) (i x : ℕ) (m : Mapping) (fits : Fit (step_bits t) i m) (short : x * 2 ^ step_bits t < 2 ^ 20) where
+module _ (t : Option Table) (i x : ℕ) (m : Mapping) (fits : Fit (step_bits t) i m) (short : x * 2 ^ step_bits t < 2 ^ 20) where
   abbrev n : ℕ
   n = low_bits m.kind
 
@@ -140,7 +143,7 @@ module _ (t : Second) (i x : ℕ) (m : Mapping) (fits : Fit (step_bits t) i m) (
 
   -- so in the table of a list with one mapping more those words are the mapping's, and the others stay
   pub second_in : (ms : List Mapping) → word_in t m ≤ x → x < word_in t m + words_in t i m
-      → second_word (m ∷ ms) t i x ≡ page_word (Held.By m)
+      → second_word (m ∷ ms) t i x ≡ page_word (Some m)
   unfolding second_word holder
   second_in ms lo hi = ap page_word (pick_yes _ _ _ (held_in lo hi))
 

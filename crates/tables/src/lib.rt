@@ -5,32 +5,24 @@ pub mod words;
 ghost use Rattle.std.specs.Prelude.{◌≡◌};
 ghost use Rattle.tables.specs.Tables.{table_size, start_after};
 
-// The second-level table of a megabyte.
-#[derive(Clone, Copy)]
-pub enum Second {
-    Fine,
-    Coarse,
-    Absent,
-}
+use walk::Table;
 
 // The bytes of a table.
-pub fn table_size(t: Second) -> u32
+pub fn table_size(t: Option<Table>) -> u32
     ensures { result ≡ table_size t }
 {
-    match t {
-        Second::Fine => 4096,
-        Second::Coarse => 1024,
-        Second::Absent => 0,
-    }
+    t.map_or(0, |table| table.bytes())
 }
 
 // Where a table begins that follows an offset.
-pub fn start_after(t: Second, e: u32) -> u64
+pub fn start_after(t: Option<Table>, e: u32) -> u64
     ensures { result ≡ start_after t e }
 {
     match t {
-        Second::Fine => (e as u64 + 4095) / 4096 * 4096,
-        Second::Coarse => (e as u64 + 1023) / 1024 * 1024,
-        Second::Absent => e as u64,
+        Some(table) => {
+            let size = table.bytes() as u64;
+            (e as u64).div_ceil(size) * size
+        }
+        None => e as u64,
     }
 }

@@ -1,9 +1,12 @@
 -- Memories that hold the image read as its words. Assumes nothing.
+use Rattle.walk.specs.declared.Table.{Table}
+use Rattle.std.proofs.Common.{Option, None}
+use Rattle.std.proofs.Common.{Some}
 use Rattle.translates.specs.Names.{◌≡◌, true, List, ℕ, ◌+◌, ◌-◌, ◌≤◌, ◌<◌, length, take, drop, VirtualAddress, Lent, lent_ok, Mapping}
-use Rattle.translates.specs.Names.{Held, holder, image_length, image}
+use Rattle.translates.specs.Names.{holder, image_length, image}
 use Rattle.translates.proofs.Names.{refl, sym, ap, ap₂, ◌∙◌, suc, ◌*◌, ◌/◌, ◌%◌, ◌^◌, arith, lit<, length-take}
 use Rattle.translates.proofs.Names.{get_or, get_or-take, get_or-drop, upper, virtual, pick_yes, pick_by, type_of-lt}
-use Rattle.translates.proofs.Names.{place_in, word_of, Read, read_in, All, OnHeld, all-holder, Second, table_of, table_size, table_start}
+use Rattle.translates.proofs.Names.{place_in, word_of, read_in, All, OnHeld, all-holder, table_of, table_size, table_start}
 use Rattle.translates.proofs.Names.{section_word, first_by, first_word, page_word, address_of, second_word, in_tables, image_word}
 use Rattle.translates.proofs.Names.{bytes_by, end_next, end_last, Has, Standing}
 use mathlib.Core.Logic.{inl, inr}
@@ -26,19 +29,19 @@ use Rattle.translates.proofs.Over.{Stands}
 abbrev pub Phys : Mapping → Type 0
 Phys m = m.to.0 < 2 ^ 32
 
-page_fits : (m : Mapping) → Phys m → page_word (Held.By m) < 2 ^ 32
+page_fits : (m : Mapping) → Phys m → page_word (Some m) < 2 ^ 32
 page_fits m h = omega (arith, start-room m.kind m.to.0 h, type_of-lt m.kind)
 
-second_fits : (va : VirtualAddress) (h : Held) → OnHeld (λ m. Phys m × (Mappings.holds m va ≡ true)) h → page_word h < 2 ^ 32
-second_fits va (Held.By m) o = page_fits m o.0
-second_fits va Held.Nobody o = lit< tt
+second_fits : (va : VirtualAddress) (h : Option Mapping) → OnHeld (λ m. Phys m × (Mappings.holds m va ≡ true)) h → page_word h < 2 ^ 32
+second_fits va (Some m) o = page_fits m o.0
+second_fits va None o = lit< tt
 
-section_fits : (va : VirtualAddress) (h : Held) → OnHeld (λ m. Phys m × (Mappings.holds m va ≡ true)) h → section_word h < 2 ^ 32
+section_fits : (va : VirtualAddress) (h : Option Mapping) → OnHeld (λ m. Phys m × (Mappings.holds m va ≡ true)) h → section_word h < 2 ^ 32
 unfolding upper
-section_fits va (Held.By m) o = omega (arith, o.0)
-section_fits va Held.Nobody o = lit< tt
+section_fits va (Some m) o = omega (arith, o.0)
+section_fits va None o = lit< tt
 
-word_fits : (ms : List Mapping) → All Phys ms → (t : Second) (i j : ℕ) → second_word ms t i j < 2 ^ 32
+word_fits : (ms : List Mapping) → All Phys ms → (t : Option Table) (i j : ℕ) → second_word ms t i j < 2 ^ 32
 unfolding second_word
 word_fits ms phys t i j =
     second_fits (address_of t i j) (holder ms (address_of t i j)) (all-holder Phys ms (address_of t i j) phys)
@@ -53,13 +56,13 @@ module _ (n : ℕ) (ms : List Mapping) (phys : All Phys ms) (base : ℕ) (room :
   unfolding first_word
   first_fits i h = by_table (table_of ms i) refl
     where
-      ends : (t : Second) → table_of ms i ≡ t → table_start n ms i + table_size t ≤ image_length n ms
+      ends : (t : Option Table) → table_of ms i ≡ t → table_start n ms i + table_size t ≤ image_length n ms
       ends t e = omega (arith, ap table_size e, end_next n ms i, end_last n ms (suc i) (omega arith))
 
-      by_table : (t : Second) → table_of ms i ≡ t → first_by t (base + table_start n ms i) (holder ms (virtual (i * 2 ^ 20))) < 2 ^ 32
-      by_table Second.Fine e = omega (arith, ends Second.Fine e)
-      by_table Second.Coarse e = omega (arith, ends Second.Coarse e)
-      by_table Second.Absent e = section_fits (virtual (i * 2 ^ 20)) (holder ms (virtual (i * 2 ^ 20))) (all-holder Phys ms (virtual (i * 2 ^ 20)) phys)
+      by_table : (t : Option Table) → table_of ms i ≡ t → first_by t (base + table_start n ms i) (holder ms (virtual (i * 2 ^ 20))) < 2 ^ 32
+      by_table (Some Table.Fine) e = omega (arith, ends (Some Table.Fine) e)
+      by_table (Some Table.Coarse) e = omega (arith, ends (Some Table.Coarse) e)
+      by_table None e = section_fits (virtual (i * 2 ^ 20)) (holder ms (virtual (i * 2 ^ 20))) (all-holder Phys ms (virtual (i * 2 ^ 20)) phys)
 
   image_fits : (k : ℕ) → image_word n ms base k < 2 ^ 32
   unfolding image_word
@@ -117,7 +120,7 @@ module _ (n : ℕ) (ms : List Mapping) (phys : All Phys ms) (base : ℕ) (room :
   pub stands : Standing m base (image n ms base) → Stands (read_in m) (place_in m) n ms base
   stands (inl h) k fits =
       let p = part m.on m.onbase k h fits in
-      on_read m ok (base + 4 * k) p.0 ∙ ap (λ (w : ℕ). Read.Word w (place_in m (base + 4 * k))) p.1
+      on_read m ok (base + 4 * k) p.0 ∙ ap (λ (w : ℕ). Some (w, (place_in m (base + 4 * k)))) p.1
   stands (inr h) k fits =
       let p = part m.ext m.extbase k h fits in
-      ext-read m ok (base + 4 * k) p.0 ∙ ap (λ (w : ℕ). Read.Word w (place_in m (base + 4 * k))) p.1
+      ext-read m ok (base + 4 * k) p.0 ∙ ap (λ (w : ℕ). Some (w, (place_in m (base + 4 * k)))) p.1

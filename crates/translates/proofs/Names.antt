@@ -1,4 +1,5 @@
 -- What the proofs of this crate are written with.
+pub use Rattle.std.proofs.Common.{Option, Some, None}
 pub use lib.Dec.{lit<}
 pub use lib.ListN.{length-take}
 pub use lib.Seq.{get_or-drop, get_or-take}
@@ -24,11 +25,9 @@ unfoldable pub use Rattle.tables.specs.Tables.{table_end, table_of, table_start}
 pub use Rattle.tables.specs.Tables.{table_size}
 pub use Rattle.tables.specs.Words.{address_of, first_by, page_word, section_word, step_bits}
 unfoldable pub use Rattle.tables.specs.Words.{first_word, image_word, in_tables, second_word}
-pub use Rattle.tables.specs.declared.Second.{Second}
 pub use Rattle.translates.specs.Statements.{Gives, Has, ReadsInside, Standing}
 unfoldable pub use Rattle.walk.specs.Descriptors.{first_of, second_of}
 unfoldable pub use Rattle.walk.specs.Walk.{read_in, walk_from}
-pub use Rattle.walk.specs.declared.Read.{Read}
 pub use Rattle.walk.specs.declared.Table.{Table}
 pub use Rattle.walk.specs.declared.Walked.{Walked}
 unfoldable pub use Rattle.wire.specs.Spliced.{bytes_by}

@@ -1,6 +1,8 @@
 -- The image of an accepted list translates as the list (01, demand 3). Assumes nothing.
+use Rattle.std.proofs.Common.{Result, Ok}
+use Rattle.builder.specs.declared.BuildError.{BuildError}
 use Rattle.translates.specs.Names.{◌≡◌, true, List, ℕ, ◌+◌, ◌-◌, ◌≤◌, ◌<◌, length, take, drop, megabytes, limit, VirtualAddress, Lent, lent_ok}
-use Rattle.translates.specs.Names.{Mapping, mappings, holder, Built, image_length, image, answer_of, build_of, Bytes}
+use Rattle.translates.specs.Names.{Mapping, mappings, holder, image_length, image, answer_of, build_of, Bytes}
 use Rattle.translates.proofs.Names.{refl, sym, ap, ap₂, ◌∙◌, subst, Bool, false, ◌*◌, ◌/◌, ◌%◌, ◌^◌, arith, le_refl, ◌or◌, place_in}
 use Rattle.translates.proofs.Names.{Walked, first_of, read_in, walk_from, mapping_of, proper, All, Disjoint, table_of, table_start, Gives, ReadsInside, Has, Standing}
 use lib.Dec.{eqb}
@@ -40,7 +42,8 @@ phys_of rs h k =
     word_lt (take 4 (drop 4 (record_at rs k)))
     (bytes_take 4 (drop 4 (record_at rs k)) (bytes_drop 4 (record_at rs k) (bytes_take 12 (drop (12 * k) rs) (bytes_drop (12 * k) rs h))))
 
--- a list without bad or overlapping records, its image at a base that is a multiple of 4,096 and ends by 2^32, in memories that are not refused
+-- a list without bad or overlapping records, its image at a base that is a multiple of 4,096 and ends by 2^32, in
+-- memories that are not refused
 module _ (ms : List Mapping) (narrow : All Narrow ms) (apart : Disjoint ms) (phys : All Phys ms) (base : ℕ) (unit : base % 4096 ≡ 0)
     (room : base + image_length megabytes ms ≤ 2 ^ 32) (m : Lent) (ok : lent_ok m ≡ true) (standing : Standing m base (image megabytes ms base)) where
   words : Stands (read_in m) (place_in m) megabytes ms base
@@ -64,13 +67,14 @@ module _ (ms : List Mapping) (narrow : All Narrow ms) (apart : Disjoint ms) (phy
             (reads_inside megabytes ms base (place_in m) va (omega arith));
       }
 
--- what is read of an accepted list's image: its words, of a list without overlaps, at a base that is a multiple of 4,096
+-- what is read of an accepted list's image: its words, of a list without overlaps, at a base that is a multiple of
+-- 4,096
 pub record ImageRead (rs : List ℕ) (base : ℕ) (m : Lent) : Type 0 where
   pub words : Stands (read_in m) (place_in m) megabytes (mappings rs) base
   pub apart : Disjoint (mappings rs)
   pub unit : base % 4096 ≡ 0
 
-pub image-read : (rs : List ℕ) (base room len : ℕ) (m : Lent) → Bytes rs → answer_of rs base room ≡ Built.Length len → lent_ok m ≡ true
+pub image-read : (rs : List ℕ) (base room len : ℕ) (m : Lent) → Bytes rs → answer_of rs base room ≡ Ok len → lent_ok m ≡ true
     → Standing m base (image megabytes (mappings rs) base) → ImageRead rs base m
 image-read rs base room len m bytes e ok standing =
     let a = accepted rs base room len e in
@@ -90,10 +94,10 @@ image_translates rs base room len m bytes e ok standing =
 -- a build leaves the image of an accepted list
 pub leaves-image : LeavesImage
 unfolding build_of
-leaves-image rs base len before e = ap (λ (b : Built). leaves b (image megabytes (mappings rs) base) before) e
+leaves-image rs base len before e = ap (λ (b : Result ℕ BuildError). leaves b (image megabytes (mappings rs) base) before) e
 
 -- so the memory that was built in has it, lent at the base
-pub built-has : (rs : List ℕ) (base len : ℕ) (before : List ℕ) → answer_of rs base (length before) ≡ Built.Length len
+pub built-has : (rs : List ℕ) (base len : ℕ) (before : List ℕ) → answer_of rs base (length before) ≡ Ok len
     → Has (build_of rs base before).memory base base (image megabytes (mappings rs) base)
 built-has rs base len before e =
     let img : List ℕ = image megabytes (mappings rs) base in (

@@ -1,7 +1,10 @@
 -- The words that the builder writes, as the walk reads them: one law over the number of low bits. Assumes nothing.
-use Rattle.translates.specs.Names.{◌≡◌, ℕ, ◌+◌, ◌-◌, ◌≤◌, ◌<◌, Page, Found, Mapping, Held}
+use Rattle.std.proofs.Common.{Result, Ok, Err}
+use Rattle.walk.specs.declared.Unfound.{Unfound}
+use Rattle.std.proofs.Common.{Option, Some, None}
+use Rattle.translates.specs.Names.{◌≡◌, ℕ, ◌+◌, ◌-◌, ◌≤◌, ◌<◌, Page, Mapping}
 use Rattle.translates.proofs.Names.{refl, sym, ap, ap₂, ◌∙◌, subst, ◌*◌, ◌/◌, ◌%◌, ◌^◌, arith, mod-eq_of_lt, upper, pick, physical, low_bits, Kind}
-use Rattle.translates.proofs.Names.{type_of-lt, Table, first_of, second_of, OnHeld, Second, section_word, page_word}
+use Rattle.translates.proofs.Names.{type_of-lt, Table, first_of, second_of, OnHeld, section_word, page_word}
 use native.Mathlib.Nat.{add-sub_of_le}
 use lib.Pow.{pow_pos, pow-add, high}
 use Rattle.page.specs.Words.{type_of}
@@ -41,17 +44,17 @@ page k f a = record { kind = k; frame = physical f; access = a }
 abbrev pub page_for : Mapping → Page
 page_for m = page m.kind (upper (low_bits m.kind) m.to.0) m.access
 
-abbrev pub found_for : Held → Found
-found_for (Held.By m) = Found.Page (page_for m)
-found_for Held.Nobody = Found.NoPage
+abbrev pub found_for : Option Mapping → Result Page Unfound
+found_for (Some m) = Ok (page_for m)
+found_for None = Err Unfound.NoPage
 
 -- a page's word says the page's kind, and is read as the page
-pub page_type : (m : Mapping) → page_word (Held.By m) % 4 ≡ type_of m.kind
+pub page_type : (m : Mapping) → page_word (Some m) % 4 ≡ type_of m.kind
 unfolding upper
 page_type m =
     word_type (low_bits m.kind) (m.to.0 / 2 ^ low_bits m.kind) (m.access % 4) (type_of m.kind) (low_bits-ge m.kind) (omega arith) (type_of-lt m.kind)
 
-page-read : (m : Mapping) → m.access < 4 → page_of m.kind (page_word (Held.By m)) ≡ page_for m
+page-read : (m : Mapping) → m.access < 4 → page_of m.kind (page_word (Some m)) ≡ page_for m
 unfolding upper
 page-read m h =
     let q : ℕ = low_bits m.kind in
@@ -62,18 +65,18 @@ page-read m h =
     (word_access_lem q X (m.access % 4) (type_of m.kind) (low_bits-ge m.kind) acc (type_of-lt m.kind) ∙ mod-eq_of_lt h)
 
 -- what is known of the mapping that holds an address of a megabyte with a table
-abbrev pub Known : Second → Mapping → Type 0
+abbrev pub Known : Option Table → Mapping → Type 0
 Known t m = (m.access < 4) × Allows t m.kind
 
 -- a word that says a kind which the table has
-fine_kind : (k : Kind) (w : ℕ) → Allows Second.Fine k → w % 4 ≡ type_of k → second_of Table.Fine w ≡ Found.Page (page_of k w)
+fine_kind : (k : Kind) (w : ℕ) → Allows (Some Table.Fine) k → w % 4 ≡ type_of k → second_of Table.Fine w ≡ Ok (page_of k w)
 unfolding second_of
 fine_kind Kind.Section w a e = absurd a
 fine_kind Kind.Large w a e = sym (bits_01 _ _ _ _ w e)
 fine_kind Kind.Small w a e = sym (bits_10 _ _ _ _ w e)
 fine_kind Kind.Tiny w a e = sym (bits_11 _ _ _ _ w (λ q. omega (arith, q, e)) (λ q. omega (arith, q, e)) (λ q. omega (arith, q, e)))
 
-coarse_kind : (k : Kind) (w : ℕ) → Allows Second.Coarse k → w % 4 ≡ type_of k → second_of Table.Coarse w ≡ Found.Page (page_of k w)
+coarse_kind : (k : Kind) (w : ℕ) → Allows (Some Table.Coarse) k → w % 4 ≡ type_of k → second_of Table.Coarse w ≡ Ok (page_of k w)
 unfolding second_of
 coarse_kind Kind.Section w a e = absurd a
 coarse_kind Kind.Large w a e = sym (bits_01 _ _ _ _ w e)
@@ -81,20 +84,20 @@ coarse_kind Kind.Small w a e = sym (bits_10 _ _ _ _ w e)
 coarse_kind Kind.Tiny w a e = absurd a
 
 -- a second-level word is read as the page of the mapping that holds its address
-pub none_found : (u : Table) → second_of u 0 ≡ Found.NoPage
+pub none_found : (u : Table) → second_of u 0 ≡ Err Unfound.NoPage
 unfolding second_of pick
 none_found u = refl
 
-module _ (t : Second) (u : Table) (kinds : (k : Kind) (w : ℕ) → Allows t k → w % 4 ≡ type_of k → second_of u w ≡ Found.Page (page_of k w)) where
-  second-found : (h : Held) → OnHeld (Known t) h → second_of u (page_word h) ≡ found_for h
-  second-found (Held.By m) o = kinds m.kind (page_word (Held.By m)) o.1 (page_type m) ∙ ap Found.Page (page-read m o.0)
-  second-found Held.Nobody o = none_found u
+module _ (t : Option Table) (u : Table) (kinds : (k : Kind) (w : ℕ) → Allows t k → w % 4 ≡ type_of k → second_of u w ≡ Ok (page_of k w)) where
+  second-found : (h : Option Mapping) → OnHeld (Known t) h → second_of u (page_word h) ≡ found_for h
+  second-found (Some m) o = kinds m.kind (page_word (Some m)) o.1 (page_type m) ∙ ap Ok (page-read m o.0)
+  second-found None o = none_found u
 
-pub fine-found : (h : Held) → OnHeld (Known Second.Fine) h → second_of Table.Fine (page_word h) ≡ found_for h
-fine-found h o = second-found Second.Fine Table.Fine fine_kind h o
+pub fine-found : (h : Option Mapping) → OnHeld (Known (Some Table.Fine)) h → second_of Table.Fine (page_word h) ≡ found_for h
+fine-found h o = second-found (Some Table.Fine) Table.Fine fine_kind h o
 
-pub coarse-found : (h : Held) → OnHeld (Known Second.Coarse) h → second_of Table.Coarse (page_word h) ≡ found_for h
-coarse-found h o = second-found Second.Coarse Table.Coarse coarse_kind h o
+pub coarse-found : (h : Option Mapping) → OnHeld (Known (Some Table.Coarse)) h → second_of Table.Coarse (page_word h) ≡ found_for h
+coarse-found h o = second-found (Some Table.Coarse) Table.Coarse coarse_kind h o
 
 -- the words of the first level: a table's address, a section, or none
 pub first_fine : (w b : ℕ) → w ≡ b + 3 → b % 4096 ≡ 0 → first_of w ≡ First.Fine (physical b)
@@ -109,11 +112,11 @@ first-coarse w b e h =
     sym (bits_01 _ _ _ _ w (let z : w % 4 ≡ 1 = omega arith in z))
     ∙ ap (λ (z : ℕ). First.Coarse (physical z)) (let z : w / 2 ^ 10 * 2 ^ 10 ≡ b = omega arith in z)
 
-abbrev pub first_for : Held → First
-first_for (Held.By m) = First.Whole (page_for m)
-first_for Held.Nobody = First.Fault
+abbrev pub first_for : Option Mapping → First
+first_for (Some m) = First.Whole (page_for m)
+first_for None = First.Fault
 
-whole : (k : Kind) → Allows Second.Absent k → k ≡ Kind.Section
+whole : (k : Kind) → Allows None k → k ≡ Kind.Section
 whole Kind.Section h = refl
 whole Kind.Large h = absurd h
 whole Kind.Small h = absurd h
@@ -125,9 +128,9 @@ section_is X acc w h e =
     sym (bits_10 _ _ _ _ w (let z : w % 4 ≡ 2 = omega arith in z))
     ∙ ap₂ (λ (f a : ℕ). First.Whole (page Kind.Section f a)) (let z : w / 2 ^ 20 * 2 ^ 20 ≡ X * 2 ^ 20 = omega arith in z) (let z : w / 2 ^ 10 % 4 ≡ acc = omega arith in z)
 
-pub section_found : (h : Held) → OnHeld (Known Second.Absent) h → first_of (section_word h) ≡ first_for h
+pub section_found : (h : Option Mapping) → OnHeld (Known None) h → first_of (section_word h) ≡ first_for h
 unfolding first_of pick upper
-section_found (Held.By m) o =
+section_found (Some m) o =
     section_is (m.to.0 / 2 ^ 20) m.access _ o.0 refl
     ∙ ap (λ (k : Kind). First.Whole (page k (upper (low_bits k) m.to.0) m.access)) (sym (whole m.kind o.1))
-section_found Held.Nobody o = refl
+section_found None o = refl

@@ -1,19 +1,24 @@
--- What the image of an accepted list owes (01, demand 3): the plain walk over it finds what the list says, the same over a
--- page's whole range, and needs no word outside it.
+-- What the image of an accepted list owes (01, demand 3): the plain walk over it finds what the list says, the same
+-- over a page's whole range, and needs no word outside it.
+use Rattle.std.specs.Prelude.{Result, Err}
+use Rattle.walk.specs.declared.Unfound.{Unfound}
+use Rattle.walk.specs.declared.Page.{Page}
+use Rattle.std.specs.Prelude.{Ok}
+use Rattle.std.specs.Prelude.{Option, Some, None}
 use Rattle.std.specs.Prelude.{◌+◌, ◌-◌, ◌<◌, ◌≤◌, ◌≡◌, ◌++◌, ◌⊎◌}
 use Rattle.translates.specs.Names.{ℕ, true, List, length, take, drop, megabytes, limit, VirtualAddress}
-use Rattle.translates.specs.Names.{Lent, lent_ok, Source, Reads, Found, Uniform, physical_of, Mapping, Held, mappings, byte_of, holder}
-use Rattle.translates.specs.Names.{Built, image_length, image, answer_of, build_of, Bytes}
+use Rattle.translates.specs.Names.{Lent, lent_ok, Source, Reads, Uniform, physical_of, Mapping, mappings, byte_of, holder}
+use Rattle.translates.specs.Names.{image_length, image, answer_of, build_of, Bytes}
 use Rattle.walk.specs.Uniform.{look_in}
 
 -- what is found has the byte and the access of the mapping that holds the address; where none does, no page is found
-abbrev pub Gives : Held → VirtualAddress → Found → Type 0
-Gives (Held.By m) va (Found.Page p) = (physical_of p va ≡ byte_of m va) × (p.access ≡ m.access)
-Gives (Held.By m) va Found.NoPage = ⊥
-Gives (Held.By m) va Found.Missing = ⊥
-Gives Held.Nobody va (Found.Page p) = ⊥
-Gives Held.Nobody va Found.NoPage = Unit
-Gives Held.Nobody va Found.Missing = ⊥
+abbrev pub Gives : Option Mapping → VirtualAddress → Result Page Unfound → Type 0
+Gives (Some m) va (Ok p) = (physical_of p va ≡ byte_of m va) × (p.access ≡ m.access)
+Gives (Some m) va (Err Unfound.NoPage) = ⊥
+Gives (Some m) va (Err Unfound.Missing) = ⊥
+Gives None va (Ok p) = ⊥
+Gives None va (Err Unfound.NoPage) = Unit
+Gives None va (Err Unfound.Missing) = ⊥
 
 -- a word lies in the n bytes at base
 abbrev pub SourceInside : ℕ → ℕ → Source → Type 0
@@ -42,11 +47,11 @@ pub record Translates (m : Lent) (base : ℕ) (ms : List Mapping) : Type 0 where
 -- every accepted list, wherever its image stands in memories that are not refused
 abbrev pub ImageTranslates : Type 0
 ImageTranslates =
-    (rs : List ℕ) (base room len : ℕ) (m : Lent) → Bytes rs → answer_of rs base room ≡ Built.Length len → lent_ok m ≡ true →
+    (rs : List ℕ) (base room len : ℕ) (m : Lent) → Bytes rs → answer_of rs base room ≡ Ok len → lent_ok m ≡ true →
     Standing m base (image megabytes (mappings rs) base) → Translates m base (mappings rs)
 
 -- an accepted list's image is what a build leaves, and every later byte as it was
 abbrev pub LeavesImage : Type 0
 LeavesImage =
-    (rs : List ℕ) (base len : ℕ) (before : List ℕ) → answer_of rs base (length before) ≡ Built.Length len →
+    (rs : List ℕ) (base len : ℕ) (before : List ℕ) → answer_of rs base (length before) ≡ Ok len →
     (build_of rs base before).memory ≡ image megabytes (mappings rs) base ++ drop len before

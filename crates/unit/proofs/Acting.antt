@@ -3,9 +3,9 @@ use Rattle.unit.specs.Names.{◌≡◌, Bool, ℕ, ◌and◌, money_ok, command_
 use Rattle.unit.proofs.Names.{sym, ◌∙◌, ap, request_plan, write_plan, read_plan, drop_plan, shift_plan, in_range, told_of, request_of, write_of, read_of}
 use Rattle.unit.proofs.Names.{drop_of, shift_of, shift_from}
 use mathlib.Core.Path.{ap₂, subst}
-use Rattle.prices.specs.Prices.{prices_ok}
+use Rattle.plan.specs.declared.Tried.{Tried}
 use Rattle.bill.specs.Bill.{bill_ok}
-use Rattle.unit.specs.Acts.{Fitted, Alone, outcome_of}
+use Rattle.unit.specs.Acts.{Fitted, Alone, outcome_of, tried_of}
 use Rattle.unit.proofs.Planned.{reporting, request-done, write_done, read_done, drop-done, shift-done}
 use Rattle.unit.proofs.Fitting.{request_fits, write_fits, read_fits, drop_fits, shift_fits}
 
@@ -16,18 +16,18 @@ module _ (m : Lent) (p : Prices) (b : Bill) (d : Device) (x : Plan) where
   acts : (known : Plan) → x ≡ known → Fitted d known → (y o : Done) → (Fitted d x → y ≡ run x) → run known ≡ o → y ≡ o
   acts known e f y o a h = a (subst (Fitted d) (sym e) f) ∙ ap run e ∙ h
 
-  -- memories and prices, and the bill beside them
-  module _ (ok l money : Bool) (oe : ok ≡ in_range d) (le : l ≡ lent_ok m) (me : money ≡ prices_ok p) where
-    tested : (f : Bool → Bool → Bool → Plan) → f ok l (money and bill_ok b) ≡ f (in_range d) (lent_ok m) (money_ok p b)
+  -- by what was tested before the call
+  module _ (t : Tried) (te : t ≡ tried_of m p b d) where
+    tested : (f : Bool → Bool → Bool → Plan) → f t.device t.memories (t.prices and bill_ok t.bill) ≡ f (in_range d) (lent_ok m) (money_ok p b)
     unfolding money_ok
-    tested f = ap₂ (λ (u v : Bool). f u v (money and bill_ok b)) oe le ∙ ap (λ (u : Bool). f (in_range d) (lent_ok m) (u and bill_ok b)) me
+    tested f = ap (λ (u : Tried). f u.device u.memories (u.prices and bill_ok u.bill)) te
 
-    pub request_acts : (va : VirtualAddress) (a : Access) → x ≡ request_plan ok l (money and bill_ok b) d.pending va a
+    pub request_acts : (va : VirtualAddress) (a : Access) → x ≡ request_plan t.device t.memories (t.prices and bill_ok t.bill) d.pending va a
         → (y : Done) → (Fitted d x → y ≡ run x) → outcome_of y ≡ request_of m p b d va a
     request_acts va a e y h =
         ap outcome_of (acts _ (e ∙ tested (λ u v w. request_plan u v w d.pending va a)) (request_fits d (lent_ok m) (money_ok p b) d.pending va a) y _ h (request-done m p b d va a))
 
-    pub write_acts : (o v : ℕ) → x ≡ write_plan ok l (money and bill_ok b) d.registers.control d.pending (command_of o v)
+    pub write_acts : (o v : ℕ) → x ≡ write_plan t.device t.memories (t.prices and bill_ok t.bill) d.registers.control d.pending (command_of o v)
         → (y : Done) → (Fitted d x → y ≡ run x) → outcome_of y ≡ write_of m p b d o v
     write_acts o v e y h =
         ap outcome_of (acts _ (e ∙ tested (λ u i w. write_plan u i w d.registers.control d.pending (command_of o v)))

@@ -1,6 +1,11 @@
 -- A walk over memories that were tried, and an attempt that lacks a word: it says 3 of itself. Assumes nothing.
-use Rattle.unit.specs.Names.{◌≡◌, Bool, true, not, [], ◌∷◌, ℕ, eqb, ◌and◌, Place, Reads, word_count, last_place, is_missing, looked_up, Pending, is_prefetch, is_on, is_walking, page_at}
-use Rattle.unit.specs.Names.{shift_by, Shift, Access, VirtualAddress, Lent, lent_ok, Found, Walked, Bill, Prices, Matched, Fault, Device}
+use Rattle.decision.specs.declared.ShiftError.{ShiftError}
+use Rattle.std.proofs.Common.{Result, Ok, Err}
+use Rattle.walk.specs.declared.Unfound.{Unfound}
+use Rattle.walk.specs.declared.Page.{Page}
+use Rattle.std.proofs.Common.{Option, Some, None}
+use Rattle.unit.specs.Names.{◌≡◌, Bool, true, not, [], ◌∷◌, ℕ, eqb, ◌and◌, Place, Reads, word_count, last_place, is_missing, looked_up, stall, is_prefetch, is_on, is_walking, page_at}
+use Rattle.unit.specs.Names.{shift_by, Access, VirtualAddress, Lent, lent_ok, Walked, Bill, Prices, Fault, Device}
 use Rattle.unit.proofs.Names.{refl, sym, ◌∙◌, ap, not-true, pick_no, and_left, and_right, refuses, refused_with, look, attempt_of, lacks}
 use Rattle.unit.proofs.Names.{retry_lacks, prefetched, held_retried}
 use mathlib.Core.Bool.{false≢true}
@@ -15,14 +20,14 @@ use Rattle.unit.specs.Device.{concluded}
 use Rattle.unit.specs.Calls.{no_match, prefetch_ends}
 use Rattle.unit.proofs.Refusing.{last_same}
 
-matched_nothing : (x : Matched) → no_match x ≡ true → x ≡ Matched.Nothing
-matched_nothing (Matched.At i) h = absurd (false≢true h)
-matched_nothing Matched.Nothing h = refl
+matched_nothing : (x : Option ℕ) → no_match x ≡ true → x ≡ None
+matched_nothing (Some i) h = absurd (false≢true h)
+matched_nothing None h = refl
 
-found-missing : (f : Found) → is_missing f ≡ true → f ≡ Found.Missing
-found-missing (Found.Page p) h = absurd (false≢true h)
-found-missing Found.NoPage h = absurd (false≢true h)
-found-missing Found.Missing h = refl
+found-missing : (f : Result Page Unfound) → is_missing f ≡ true → f ≡ Err Unfound.Missing
+found-missing (Ok p) h = absurd (false≢true h)
+found-missing (Err Unfound.NoPage) h = absurd (false≢true h)
+found-missing (Err Unfound.Missing) h = refl
 
 none_read : (r : Reads) → eqb (word_count r) 0 ≡ true → last_place r ≡ Place.Nowhere
 none_read Reads.Nothing h = refl
@@ -53,7 +58,7 @@ module _ (m : Lent) (p : Prices) (b : Bill) (again : Bool) (d : Device) (va : Vi
 
 -- the fault that is pending, retried
 module _ (m : Lent) (p : Prices) (b : Bill) (d : Device) (k : Fault) (va : VirtualAddress) (a : Access) where
-  pub lacks_retry : retry_lacks m d (Pending.Held k va a) ≡ true → held_retried m p b d k va a ≡ refused_with d b 3
+  pub lacks_retry : retry_lacks m d (Some (stall k va a)) ≡ true → held_retried m p b d k va a ≡ refused_with d b 3
   lacks_retry h =
       let t = not (is_prefetch k) in
       pick_no _ _ _ (not-true (is_prefetch k) (and_left t (lacks m d va) h))
@@ -70,13 +75,13 @@ module _ (m : Lent) (p : Prices) (b : Bill) (d : Device) (v : ℕ) where
       let none = no_match (looked_up d.bank.cam (page_at v)) in
       let gone = is_missing (look m d (page_at v)).found in
       ap (prefetch_ends p b d v)
-      (prefetch-on (look m d (page_at v)) d.bank.cam (page_at v) Matched.Nothing (matched_nothing (looked_up d.bank.cam (page_at v)) (and_left none gone h))
+      (prefetch-on (look m d (page_at v)) d.bank.cam (page_at v) None (matched_nothing (looked_up d.bank.cam (page_at v)) (and_left none gone h))
       ∙ ap (prefetch_found (page_at v) (look m d (page_at v)).reads) (found-missing (look m d (page_at v)).found (and_right none gone h)))
 
 -- the shift report
 module _ (m : Lent) (d : Device) (va : VirtualAddress) where
   pub shift_last : lent_ok m ≡ true
-      → shift_by va (walk_within m d.registers.base.0 va.0).found ≡ refuses ((is_missing (look m d va).found, 3) ∷ []) Shift.Refused (shift_by va (look m d va).found)
+      → shift_by va (walk_within m d.registers.base.0 va.0).found ≡ refuses ((is_missing (look m d va).found, 3) ∷ []) (λ (k : ℕ). Err (ShiftError.Refused k)) (shift_by va (look m d va).found)
   shift_last h =
       last_same _ _ _ _ _ (ap (λ (w : Walked). shift_by va w.found) (look_ok m d va h))
       (λ q. ap (shift_by va) (found-missing (look m d va).found q))

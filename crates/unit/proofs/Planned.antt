@@ -1,8 +1,12 @@
 -- Each call is its plan, performed on the parts of the device. Assumes nothing.
+use Rattle.std.proofs.Common.{Option, Some, None}
+use Rattle.std.specs.Prelude.{ℤ}
+use Rattle.std.proofs.Common.{Result, Err}
+use Rattle.decision.specs.declared.ShiftError.{ShiftError}
 use Rattle.unit.specs.Names.{◌≡◌, Bool, true, false, not, [], ◌∷◌, ℕ, ◌/◌, ◌%◌, ◌^◌, eqb, leb, pick, ◌and◌, ◌or◌, limit, money_ok, slots, idle}
 use Rattle.unit.specs.Names.{is_prefetch, is_on, is_walking, with_prefetch, no_register, command_of, value_at, Setting, is_missing, page_at}
 use Rattle.unit.specs.Names.{prefetch_decided, prefetch_kept, shift_by, Said, Plan, Done, uncharged, performed, Place, last_place, Access, VirtualAddress, Lent, lent_ok}
-use Rattle.unit.specs.Names.{Walked, Bill, Prices, Fault, Pending, Answer, Tending, Command, Shift, Device, Outcome}
+use Rattle.unit.specs.Names.{Walked, Bill, Prices, Fault, Stall, Answer, Tending, Command, Device, Outcome}
 use Rattle.unit.proofs.Names.{refl, sym, ◌∙◌, ap, ◌<◌, arith, ltb-true, pick_yes, pick_no, pick_by, and_left, and_right, request_plan}
 use Rattle.unit.proofs.Names.{pending_plan, command_plan, write_plan, read_plan, drop_plan, shift_plan, Reason, Refusals, refuses, in_range}
 use Rattle.unit.proofs.Names.{refused_with, look, attempt_of, lacks, retry_lacks, request_of, write_of, read_of, drop_of, shift_of, shift_from, prefetched}
@@ -14,7 +18,7 @@ use borrow.Author.Tests.{eqb-true, eqb-false, lt-leb, eq-eqb, ne_eqb}
 use Rattle.page.proofs.Picks.{or_no}
 use Rattle.registers.specs.Table.{listed, control_command, lock_command, load_command, when_bit}
 use Rattle.registers.proofs.Rows.{by_offset, command_elsewhere, value_elsewhere}
-use Rattle.plan.specs.Plans.{setting_at, retry_plan}
+use Rattle.plan.specs.Plans.{setting_at, retry_plan, lent_refusal, prefetch_plan, acknowledge_plan}
 use Rattle.perform.specs.Performed.{ended_for, decided_for}
 use Rattle.unit.specs.Device.{cleared, told, told_refused, done_with}
 use Rattle.unit.specs.Acts.{done_by, done_told}
@@ -47,17 +51,20 @@ module _ (m : Lent) (p : Prices) (b : Bill) (d : Device) where
   abbrev say : ℕ → Done
   say n = run (Plan.Refused n)
 
+  -- a plan that goes on where nothing that is lent is refused
+  gate :
+      (f : Option ℕ → Plan) (rs : Refusals) (y : Done)
+      → ((k : ℕ) → f (Some k) ≡ Plan.Refused k)
+      → (l o : Bool)
+      → (l ≡ true → run (f None) ≡ refuses rs say y)
+      → run (f (lent_refusal l o)) ≡ refuses ((not l, 4) ∷ (not o, 9) ∷ rs) say y
+  unfolding pick refuses
+  gate f rs y r false o h = ap run (r 4)
+  gate f rs y r true false h = ap run (r 9)
+  gate f rs y r true true h = h refl
+
   -- tests as plans nest them are a list of refusals
   module _ (rs : Refusals) (x : Plan) (y : Done) where
-    gate :
-        (l o : Bool)
-        → (l ≡ true → run x ≡ refuses rs say y)
-        → (let k = pick l (pick o 0 9) 4 in run (pick (eqb k 0) x (Plan.Refused k))) ≡ refuses ((not l, 4) ∷ (not o, 9) ∷ rs) say y
-    unfolding pick refuses
-    gate false o h = refl
-    gate true false h = refl
-    gate true true h = h refl
-
     ready :
         (e s i on w : Bool)
         → e ≡ not s
@@ -186,21 +193,21 @@ module _ (m : Lent) (p : Prices) (b : Bill) (d : Device) where
 
   -- 7 and 3 of the acknowledge register
   retry_same :
-      (q : Pending) (go : Bool)
+      (q : Option Stall) (go : Bool)
       → lent_ok m ≡ true
       → run (pick go (pending_plan q) Plan.Done)
       ≡ refuses ((go and idle q, 7) ∷ (go and retry_lacks m d q, 3) ∷ []) say (done_by (pick go (retried m p b d q) (done_with b d)))
   unfolding pick ◌and◌ refuses
   retry_same q false h = refl
-  retry_same Pending.Nothing true h = refl
-  retry_same (Pending.Held k va a) true h = lastly (retry_lacks m d (Pending.Held k va a)) _ (held_retried m p b d k va a) (retry_ok k va a h) (lacks_retry m p b d k va a)
+  retry_same None true h = refl
+  retry_same (Some s) true h = lastly (retry_lacks m d (Some s)) _ (held_retried m p b d s.fault s.at s.access) (retry_ok s.fault s.at s.access h) (lacks_retry m p b d s.fault s.at s.access)
 
   acknowledge_same :
       (go : Bool)
       → obeyed (Command.Acknowledge go)
       ≡ refuses ((not (lent_ok m), 4) ∷ (not (money_ok p b), 9) ∷ (go and idle d.pending, 7) ∷ (go and retry_lacks m d d.pending, 3) ∷ [])
       say (done_by (carried m p b d (Command.Acknowledge go)))
-  acknowledge_same go = gate _ (pick go (pending_plan d.pending) Plan.Done) _ (lent_ok m) (money_ok p b) (retry_same d.pending go)
+  acknowledge_same go = gate (λ k. acknowledge_plan go k d.pending) _ _ (λ k. refl) (lent_ok m) (money_ok p b) (retry_same d.pending go)
 
   -- 8, 2, 7 and 3 of the prefetch register
   abbrev both : Bool
@@ -214,7 +221,7 @@ module _ (m : Lent) (p : Prices) (b : Bill) (d : Device) where
       say (done_by (carried m p b d (Command.Prefetch v)))
   prefetch_same v =
       rw (or-none (eqb (v / 2 ^ 14 % 2) 1), or-none (not both), or-none (prefetch_lacks m p b d v))
-      (gate _ _ _ (lent_ok m) (money_ok p b)
+      (gate (λ k. prefetch_plan v k d.registers.control d.pending) _ _ (λ k. refl) (lent_ok m) (money_ok p b)
       (λ h. ready _ (Plan.Attempt Access.Read Reason.Prefetch (page_at v)) _ _ _ _ _ _ (bit_clear (v / 2 ^ 14))
       (lastly (prefetch_lacks m p b d v) _ (prefetched m p b d v) (prefetch_ok v h) (lacks-prefetch m p b d v))))
 
@@ -301,7 +308,7 @@ module _ (m : Lent) (p : Prices) (b : Bill) (d : Device) where
       by false i = refl
 
   -- a shift report
-  abbrev pub reporting : Shift → Place → Done
+  abbrev pub reporting : Result ℤ ShiftError → Place → Done
   reporting s f = uncharged d.registers d.bank d.pending b (Said.Reported s) f
 
   pub shift-done : (va : VirtualAddress) → run m p b d (shift_plan (in_range d) (lent_ok m) va) ≡ reporting (shift_of m d va) (shift_from m d va)
@@ -311,7 +318,7 @@ module _ (m : Lent) (p : Prices) (b : Bill) (d : Device) where
       by : (ok v l : Bool) → lent_ok m ≡ l
           → let rs : Refusals = (not ok, 8) ∷ (v, 1) ∷ (not l, 4) ∷ (is_missing (look m d va).found, 3) ∷ [] in
           run m p b d (pick ok (pick v (Plan.Unreported 1) (pick l (Plan.Shift va) (Plan.Unreported 4))) (Plan.Unreported 8))
-          ≡ reporting (refuses rs Shift.Refused (shift_by va (look m d va).found)) (refuses rs (λ (k : ℕ). Place.Nowhere) (last_place (look m d va).reads))
+          ≡ reporting (refuses rs (λ (k : ℕ). Err (ShiftError.Refused k)) (shift_by va (look m d va).found)) (refuses rs (λ (k : ℕ). Place.Nowhere) (last_place (look m d va).reads))
       by false v l h = refl
       by true true l h = refl
       by true false false h = refl

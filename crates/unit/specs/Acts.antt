@@ -1,7 +1,13 @@
 -- A plan, done to a device: what it hands back, in parts and as each call hands it back.
 -- Internal, for the code: the machine that is signed is unit/specs/Calls.antt and Machine.antt.
+use Rattle.std.specs.Prelude.{ℤ}
+use Rattle.std.specs.Prelude.{Result, Err}
+use Rattle.decision.specs.declared.ShiftError.{ShiftError}
 use Rattle.std.specs.Prelude.{◌≡◌}
-use Rattle.unit.specs.Names.{Plan, Done, quietly, performed, Fit, Said, Acted, Lent, Bill, Prices, Answer, Shift, Device, Outcome, Told}
+use Rattle.plan.specs.declared.Tried.{Tried}
+use Rattle.prices.specs.Prices.{prices_ok}
+use Rattle.unit.specs.Device.{in_range}
+use Rattle.unit.specs.Names.{Plan, Done, quietly, performed, Fit, Said, Acted, Lent, lent_ok, Bill, Prices, Answer, Device, Outcome, Told}
 
 abbrev pub done_acted : Acted → Done
 done_acted x = record {
@@ -13,6 +19,10 @@ done_acted x = record {
   said = x.said;
   from = x.from;
 }
+
+-- what is tested before a call that may walk
+abbrev pub tried_of : Lent → Prices → Bill → Device → Tried
+tried_of m p b d = record { device = in_range d; memories = lent_ok m; prices = prices_ok p; bill = b }
 
 -- what a plan asks of a device
 abbrev pub Fitted : Device → Plan → Type 0
@@ -30,8 +40,8 @@ abbrev pub answer_in : Said → Answer
 answer_in (Said.Answered r) = r
 answer_in (Said.Reported s) = Answer.Done
 
-abbrev pub shift_in : Said → Shift
-shift_in (Said.Answered r) = Shift.Fault
+abbrev pub shift_in : Said → Result ℤ ShiftError
+shift_in (Said.Answered r) = Err ShiftError.Fault
 shift_in (Said.Reported s) = s
 
 abbrev pub told_of : Done → Told

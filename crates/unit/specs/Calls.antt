@@ -1,9 +1,13 @@
 -- Each call: its refusals in the paper's order, then what it does (01, "Registers", "When the unit says no").
+use Rattle.std.specs.Prelude.{ℤ}
+use Rattle.std.specs.Prelude.{Result, Err}
+use Rattle.decision.specs.declared.ShiftError.{ShiftError}
+use Rattle.std.specs.Prelude.{Option, Some, None}
 use Rattle.std.specs.Prelude.{◌/◌, ◌%◌, ◌^◌, ◌∷◌}
 use Rattle.unit.specs.Names.{ℕ, Bool, true, false, not, List, [], eqb, leb, pick, ◌and◌, ◌or◌, Place, word_count, last_place, is_missing, loaded}
 use Rattle.unit.specs.Names.{copied, money_ok, slots, looked_up, idle, is_prefetch, limit, is_on, is_walking, setting, with_prefetch, with_copied}
 use Rattle.unit.specs.Names.{words_of, entry_of, no_register, command_of, value_at, tended, Answer, billed, page_at, prefetch_decided, prefetch_kept}
-use Rattle.unit.specs.Names.{shift_by, Access, VirtualAddress, Lent, lent_ok, Bill, Prices, Matched, Fault, Pending, Decision, Shift, Command}
+use Rattle.unit.specs.Names.{shift_by, Access, VirtualAddress, Lent, lent_ok, Bill, Prices, Fault, Stall, Decision, Command}
 use Rattle.unit.specs.Names.{Device, Outcome, Told}
 use Rattle.unit.specs.Refusals.{Refusals, refuses}
 use Rattle.registers.specs.Offsets.{prefetch_at, acknowledge_at, lock_at, load_at}
@@ -15,9 +19,9 @@ one_of [] o = false
 one_of (k ∷ ks) o = eqb o k or one_of ks o
 
 -- no slot matches
-abbrev pub no_match : Matched → Bool
-no_match (Matched.At i) = false
-no_match Matched.Nothing = true
+abbrev pub no_match : Option ℕ → Bool
+no_match (Some i) = false
+no_match None = true
 
 -- refusal 3 of a request or a retry: it walks, and a descriptor that the walk needs is in neither memory
 unfoldable pub lacks : Lent → Device → VirtualAddress → Bool
@@ -64,9 +68,9 @@ is_untimely d o v =
     or (eqb o acknowledge_at and eqb (v % 2) 1 and idle d.pending)
 
 -- 3: a prefetch or a retry that walks
-abbrev pub retry_lacks : Lent → Device → Pending → Bool
-retry_lacks m d Pending.Nothing = false
-retry_lacks m d (Pending.Held k va a) = not (is_prefetch k) and lacks m d va
+abbrev pub retry_lacks : Lent → Device → Option Stall → Bool
+retry_lacks m d None = false
+retry_lacks m d (Some s) = not (is_prefetch s.fault) and lacks m d s.at
 
 unfoldable pub write_lacks : Lent → Device → ℕ → ℕ → Bool
 write_lacks m d o v =
@@ -104,9 +108,9 @@ prefetched m p b d v = prefetch_ends p b d v (prefetch_decided (look m d (page_a
 abbrev pub held_retried : Lent → Prices → Bill → Device → Fault → VirtualAddress → Access → Outcome
 held_retried m p b d k va a = pick (is_prefetch k) (done_with b (cleared d)) (attempt_of m p b true d va a)
 
-abbrev pub retried : Lent → Prices → Bill → Device → Pending → Outcome
-retried m p b d Pending.Nothing = done_with b d
-retried m p b d (Pending.Held k va a) = held_retried m p b d k va a
+abbrev pub retried : Lent → Prices → Bill → Device → Option Stall → Outcome
+retried m p b d None = done_with b d
+retried m p b d (Some s) = held_retried m p b d s.fault s.at s.access
 
 -- load stores the staged entry in the victim slot, copy reads that slot back
 abbrev pub with_loaded : Device → Device
@@ -155,8 +159,8 @@ shift_refusals m d va =
     ∷ (is_missing (look m d va).found, 3)
     ∷ []
 
-unfoldable pub shift_of : Lent → Device → VirtualAddress → Shift
-shift_of m d va = refuses (shift_refusals m d va) Shift.Refused (shift_by va (look m d va).found)
+unfoldable pub shift_of : Lent → Device → VirtualAddress → Result ℤ ShiftError
+shift_of m d va = refuses (shift_refusals m d va) (λ (k : ℕ). Err (ShiftError.Refused k)) (shift_by va (look m d va).found)
 
 -- and where the last word that its walk read lies, nowhere where it is refused (02, P6)
 unfoldable pub shift_from : Lent → Device → VirtualAddress → Place

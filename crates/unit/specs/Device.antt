@@ -1,11 +1,17 @@
 -- The device: fresh, in range, with parts set, and after an attempt (01, "The unit", "The walk").
+use Rattle.std.specs.Prelude.{None}
+use Rattle.page.specs.declared.Words.{Words}
+use Rattle.std.specs.Prelude.{ℤ}
+use Rattle.std.specs.Prelude.{Result}
+use Rattle.decision.specs.declared.ShiftError.{ShiftError}
+use Rattle.std.specs.Prelude.{Option}
 use Rattle.unit.specs.Names.{ℕ, Bool, ◌and◌, Place, word_count, last_place, walk_in, no_tally, fresh_bank, bank_ok, entry_filled, fresh_registers, registers_ok, pending_ok}
-use Rattle.unit.specs.Names.{Pending, decided, settled, tally_of, billed, Access, VirtualAddress, Lent, Walked, Bill, Prices, Bank, Fill, Answer}
-use Rattle.unit.specs.Names.{Decision, Shift, Registers, Device, Outcome, Told, Reported}
+use Rattle.unit.specs.Names.{decided, settled, tally_of, billed, Access, VirtualAddress, Lent, Walked, Bill, Prices, Bank, Answer}
+use Rattle.unit.specs.Names.{Decision, Registers, Device, Outcome, Told, Reported}
 
 -- a fresh device is all zero
 abbrev pub fresh_device : Device
-fresh_device = record { registers = fresh_registers; bank = fresh_bank; pending = Pending.Nothing }
+fresh_device = record { registers = fresh_registers; bank = fresh_bank; pending = None }
 
 -- every field is in its range; where one is not, every call answers 8
 unfoldable pub in_range : Device → Bool
@@ -19,7 +25,7 @@ abbrev pub set_bank : Device → Bank → Device
 set_bank d b = record { registers = d.registers; bank = b; pending = d.pending }
 
 abbrev pub cleared : Device → Device
-cleared d = record { registers = d.registers; bank = d.bank; pending = Pending.Nothing }
+cleared d = record { registers = d.registers; bank = d.bank; pending = None }
 
 -- what a call hands back: accepted with nothing to say, or refused, and then nothing changes
 abbrev pub told : Device → Answer → Told
@@ -31,7 +37,7 @@ told_refused d k = told d (Answer.Refused k)
 abbrev pub told_done : Device → Told
 told_done d = told d Answer.Done
 
-abbrev pub reported : Device → Shift → Place → Reported
+abbrev pub reported : Device → Result ℤ ShiftError → Place → Reported
 reported d s f = record { device = d; shift = s; from = f }
 
 -- a call that reads no word leaves the bill as it is, adds nothing to the meters, and comes from nowhere
@@ -49,7 +55,7 @@ abbrev pub look : Lent → Device → VirtualAddress → Walked
 look m d va = walk_in m d.registers.base.0 va.0
 
 -- the slots and the pending fault after a decision
-abbrev pub applied : Device → Fill → Answer → VirtualAddress → Access → Device
+abbrev pub applied : Device → Option Words → Answer → VirtualAddress → Access → Device
 applied d f r va a = record { registers = d.registers; bank = entry_filled d.bank f; pending = settled va a d.pending r }
 
 -- an attempt with its decision: again says whether it is a retry; it comes from where the last word that it read lies (02, P6)

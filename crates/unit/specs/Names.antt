@@ -1,8 +1,11 @@
 -- The types that the unit is written with. Others take them from here.
-pub use Rattle.decision.specs.Names.{Access, VirtualAddress, PhysicalAddress, Words, Lent, lent, lent_ok, Reads, Page, Found, Walked, Tally, Bill}
-pub use Rattle.decision.specs.Names.{Prices, Seen, Bank, Fill, Matched, Fault, Pending, Answer}
+pub use Rattle.decision.specs.declared.ShiftError.{ShiftError}
+pub use Rattle.std.specs.Prelude.{Result, Ok, Err}
+pub use Rattle.walk.specs.declared.Unfound.{Unfound}
+pub use Rattle.std.specs.Prelude.{Option, Some, None}
+pub use Rattle.decision.specs.Names.{Access, VirtualAddress, PhysicalAddress, Words, Lent, lent, lent_of, lent_ok, Reads, Page, Walked, Tally, Bill}
+pub use Rattle.decision.specs.Names.{Prices, Seen, Bank, Fault, Stall, stall, Answer}
 pub use Rattle.decision.specs.declared.Decision.{Decision}
-pub use Rattle.decision.specs.declared.Shift.{Shift}
 pub use Rattle.registers.specs.declared.Entry.{Entry}
 pub use Rattle.registers.specs.declared.Registers.{Registers}
 pub use Rattle.registers.specs.declared.Setting.{Setting}

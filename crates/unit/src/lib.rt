@@ -1,27 +1,28 @@
 #![tactic(auto)]
 // The device and its calls.
 ghost use Rattle.std.specs.Prelude.{◌≡◌};
-ghost use Rattle.unit.specs.Names.{lent, performed};
+ghost use Rattle.unit.specs.Names.{lent_of, performed};
 ghost use Rattle.unit.specs.Device.{fresh_device, in_range, reported};
-ghost use Rattle.unit.specs.Acts.{done_acted, answer_in, shift_in, outcome_of, told_of, Fitted, Alone};
+ghost use Rattle.unit.specs.Acts.{done_acted, tried_of, answer_in, shift_in, outcome_of, told_of, Fitted, Alone};
 ghost use Rattle.unit.specs.Calls.{request_of, write_of, read_of, drop_of, shift_of, shift_from};
 
 use bank::Bank;
+use bank::slots::Slots;
 use bill::Bill;
-use decision::{Said, Shift};
-use memory::Place;
+use decision::{Said, ShiftError};
+use memory::{Memories, Place};
 use meters::Tally;
 use page::{Access, PhysicalAddress, VirtualAddress};
-use plan::Plan;
+use plan::{Plan, Tried};
 use prices::{Price, Prices};
-use registers::{Answer, Pending, Registers};
+use registers::{Answer, Registers, Stall};
 
 // The registers, the slots, and perhaps one pending fault.
 #[derive(Clone, Copy)]
 pub struct Device {
     pub registers: Registers,
     pub bank: Bank,
-    pub pending: Pending,
+    pub pending: Option<Stall>,
 }
 
 // What a call that may walk hands back: from is where the last word of its walk lies, nowhere where it made none.
@@ -45,7 +46,7 @@ pub struct Told {
 #[derive(Clone, Copy)]
 pub struct Reported {
     pub device: Device,
-    pub shift: Shift,
+    pub shift: Result<i64, ShiftError>,
     pub from: Place,
 }
 
@@ -60,72 +61,50 @@ struct Acted {
 }
 
 // What is planned, done to a device.
-fn act<'a>(
-    d: Device,
-    plan: Plan,
-    on: &'a [u8],
-    onbase: PhysicalAddress,
-    ext: &'a [u8],
-    extbase: PhysicalAddress,
-    prices: Prices,
-    bill: Bill,
-) -> Acted
-    ensures { Fitted d plan → done_acted result ≡ performed (lent on.now onbase.0 ext.now extbase.0) prices bill d.registers d.bank d.pending plan }
+fn act(d: Device, plan: Plan, memories: &Memories, prices: Prices, bill: Bill) -> Acted
+    ensures { Fitted d plan → done_acted result ≡ performed (lent_of memories.now) prices bill d.registers d.bank d.pending plan }
 {
-    let r = d.registers;
-    let b = d.bank;
-    let p = d.pending;
-    let mut cam = b.cam;
-    let mut ram = b.ram;
-    let mut lows = bank::slots::lows(&cam);
-    let mut highs = bank::slots::highs(&cam);
+    let mut slots = Slots::of(d.bank);
     let x = perform::perform(
-        plan, &mut cam, &mut ram, &mut lows, &mut highs, r, b.lock, b.victim, p, bill, on, onbase,
-        ext, extbase, prices,
+        plan,
+        &mut slots,
+        d.registers,
+        d.pending,
+        bill,
+        memories,
+        prices,
     );
-    let registers = x.registers;
-    let pending = x.pending;
-    let charged = x.bill;
-    let tally = x.tally;
-    let said = x.said;
-    let from = x.from;
     Acted {
         device: Device {
-            registers: registers,
-            bank: Bank {
-                cam: cam,
-                ram: ram,
-                lock: x.lock,
-                victim: x.victim,
-            },
-            pending: pending,
+            registers: x.registers,
+            bank: slots.bank,
+            pending: x.pending,
         },
-        bill: charged,
-        tally: tally,
-        said: said,
-        from: from,
+        bill: x.bill,
+        tally: x.tally,
+        said: x.said,
+        from: x.from,
     }
 }
+
+// The prices of a call that charges nothing.
+const FREE: Prices = Prices {
+    onchip: Price::Flat(0.0),
+    external: Price::Flat(0.0),
+};
 
 // The same for a plan that reads no memory and charges nothing.
 fn act_alone(d: Device, plan: Plan) -> Acted
     ensures { Fitted d plan → Alone d plan (done_acted result) }
 {
     let none = [0u8; 1];
-    let free = Prices {
-        onchip: Price::Flat(0.0),
-        external: Price::Flat(0.0),
+    let memories = Memories {
+        on: &none,
+        onbase: PhysicalAddress(0),
+        ext: &none,
+        extbase: PhysicalAddress(0),
     };
-    act(
-        d,
-        plan,
-        &none,
-        PhysicalAddress(0),
-        &none,
-        PhysicalAddress(0),
-        free,
-        Bill::fresh(),
-    )
+    act(d, plan, &memories, FREE, Bill::fresh())
 }
 
 // The answer in what is said.
@@ -139,11 +118,11 @@ fn answer_of(said: Said) -> Answer
 }
 
 // The shift in what is said.
-fn shift_in(said: Said) -> Shift
+fn shift_in(said: Said) -> Result<i64, ShiftError>
     ensures { result ≡ shift_in said }
 {
     match said {
-        Said::Answered(_) => Shift::Fault,
+        Said::Answered(_) => Err(ShiftError::Fault),
         Said::Reported(s) => s,
     }
 }
@@ -152,17 +131,12 @@ fn shift_in(said: Said) -> Shift
 fn outcome_of(x: Acted) -> Outcome
     ensures { result ≡ outcome_of (done_acted x) }
 {
-    let device = x.device;
-    let bill = x.bill;
-    let tally = x.tally;
-    let said = x.said;
-    let from = x.from;
     Outcome {
-        device: device,
-        bill: bill,
-        tally: tally,
-        answer: answer_of(said),
-        from: from,
+        device: x.device,
+        bill: x.bill,
+        tally: x.tally,
+        answer: answer_of(x.said),
+        from: x.from,
     }
 }
 
@@ -170,11 +144,9 @@ fn outcome_of(x: Acted) -> Outcome
 fn told_of(x: Acted) -> Told
     ensures { result ≡ told_of (done_acted x) }
 {
-    let device = x.device;
-    let said = x.said;
     Told {
-        device: device,
-        answer: answer_of(said),
+        device: x.device,
+        answer: answer_of(x.said),
     }
 }
 
@@ -189,7 +161,7 @@ impl Device {
         Device {
             registers: Registers::fresh(),
             bank: Bank::fresh(),
-            pending: Pending::Nothing,
+            pending: None,
         }
     }
 
@@ -197,61 +169,58 @@ impl Device {
     pub fn in_range(self) -> bool
         ensures { result ≡ in_range self }
     {
-        let r = self.registers;
-        let b = self.bank;
-        let p = self.pending;
-        if !registers::registers_ok(r) {
-            return false;
+        registers::registers_ok(self.registers)
+            & registers::pending_ok(self.pending)
+            & self.bank.in_range()
+    }
+
+    // What is tested before a call that may walk.
+    fn tried(self, memories: &Memories, prices: Prices, bill: Bill) -> Tried
+        ensures { result ≡ tried_of (lent_of memories.now) prices bill self }
+    {
+        Tried {
+            device: self.in_range(),
+            memories: memories.ok(),
+            prices: prices::prices_ok(prices),
+            bill,
         }
-        if !registers::pending_ok(p) {
-            return false;
-        }
-        b.in_range()
     }
 
     // A request.
-    pub fn request<'a>(
+    pub fn request(
         self,
         va: VirtualAddress,
         a: Access,
-        on: &'a [u8],
-        onbase: PhysicalAddress,
-        ext: &'a [u8],
-        extbase: PhysicalAddress,
+        memories: &Memories,
         prices: Prices,
         bill: Bill,
     ) -> Outcome
-        ensures { result ≡ request_of (lent on.now onbase.0 ext.now extbase.0) prices bill self va a }
+        ensures { result ≡ request_of (lent_of memories.now) prices bill self va a }
     {
-        let p = self.pending;
-        let ok = self.in_range();
-        let memories = memory::memories_ok(on, onbase, ext, extbase);
-        let money = prices::prices_ok(prices);
-        let plan = plan::request(ok, memories, money, bill, p, va, a);
-        outcome_of(act(self, plan, on, onbase, ext, extbase, prices, bill))
+        let tried = self.tried(memories, prices, bill);
+        outcome_of(act(
+            self,
+            plan::request(tried, self.pending, va, a),
+            memories,
+            prices,
+            bill,
+        ))
     }
 
     // A register write.
-    pub fn write<'a>(
+    pub fn write(
         self,
         offset: u32,
         v: u16,
-        on: &'a [u8],
-        onbase: PhysicalAddress,
-        ext: &'a [u8],
-        extbase: PhysicalAddress,
+        memories: &Memories,
         prices: Prices,
         bill: Bill,
     ) -> Outcome
-        ensures { result ≡ write_of (lent on.now onbase.0 ext.now extbase.0) prices bill self offset v }
+        ensures { result ≡ write_of (lent_of memories.now) prices bill self offset v }
     {
-        let r = self.registers;
-        let p = self.pending;
-        let ok = self.in_range();
-        let memories = memory::memories_ok(on, onbase, ext, extbase);
-        let money = prices::prices_ok(prices);
-        let plan = plan::write(ok, memories, money, bill, r.control, p, offset, v);
-        outcome_of(act(self, plan, on, onbase, ext, extbase, prices, bill))
+        let tried = self.tried(memories, prices, bill);
+        let plan = plan::write(tried, self.registers.control, self.pending, offset, v);
+        outcome_of(act(self, plan, memories, prices, bill))
     }
 
     // A register read.
@@ -265,36 +234,19 @@ impl Device {
     pub fn drop(self) -> Told
         ensures { result ≡ drop_of self }
     {
-        let p = self.pending;
-        told_of(act_alone(self, plan::drop(self.in_range(), p)))
+        told_of(act_alone(self, plan::drop(self.in_range(), self.pending)))
     }
 
     // A shift report.
-    pub fn shift_report<'a>(
-        self,
-        va: VirtualAddress,
-        on: &'a [u8],
-        onbase: PhysicalAddress,
-        ext: &'a [u8],
-        extbase: PhysicalAddress,
-    ) -> Reported
-        ensures { result ≡ reported self (shift_of (lent on.now onbase.0 ext.now extbase.0) self va)
-            (shift_from (lent on.now onbase.0 ext.now extbase.0) self va) }
+    pub fn shift_report(self, va: VirtualAddress, memories: &Memories) -> Reported
+        ensures { result ≡ reported self (shift_of (lent_of memories.now) self va) (shift_from (lent_of memories.now) self va) }
     {
-        let memories = memory::memories_ok(on, onbase, ext, extbase);
-        let plan = plan::shift(self.in_range(), memories, va);
-        let free = Prices {
-            onchip: Price::Flat(0.0),
-            external: Price::Flat(0.0),
-        };
-        let x = act(self, plan, on, onbase, ext, extbase, free, Bill::fresh());
-        let device = x.device;
-        let said = x.said;
-        let from = x.from;
+        let plan = plan::shift(self.in_range(), memories.ok(), va);
+        let x = act(self, plan, memories, FREE, Bill::fresh());
         Reported {
-            device: device,
-            shift: shift_in(said),
-            from: from,
+            device: x.device,
+            shift: shift_in(x.said),
+            from: x.from,
         }
     }
 }

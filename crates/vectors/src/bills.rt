@@ -1,10 +1,10 @@
 // What `prices` and `bill` answer for values worked out by hand from the paper: the file `stdout` has the answers.
-// A bill is shown by the last rows of its two sides in hexadecimal, on-chip and external, 400000 where there is none, then by
-// whether the total and the misses are the figures that the case gives: 1 for yes, 0 for no.
+// A bill is shown by the last rows of its two sides in hexadecimal, on-chip and external, 400000 where there is none,
+// then by whether the total and the misses are the figures that the case gives: 1 for yes, 0 for no.
 use bill::{Bill, Seen};
 use memory::{Place, Source};
 use page::PhysicalAddress;
-use prices::{LastRow, Price, Prices, Side};
+use prices::{Price, Prices, Side};
 
 pub(crate) fn show_all() {
     figures();
@@ -17,13 +17,17 @@ pub(crate) fn show_all() {
 
 // A price is from 0 to 4,096, ends and minus zero allowed.
 fn figures() {
-    figure(1, 0.0);
-    figure(2, -0.0);
-    figure(3, 4096.0);
-    figure(4, 4096.000000000001);
-    figure(5, -1.0);
-    figure(6, 1.0 / 0.0);
-    figure(7, 0.0 / 0.0);
+    for (n, x) in [
+        (1, 0.0),
+        (2, -0.0),
+        (3, 4096.0),
+        (4, 4096.000000000001),
+        (5, -1.0),
+        (6, f64::INFINITY),
+        (7, f64::NAN),
+    ] {
+        figure(n, x);
+    }
 }
 
 // The number of a case, and whether its figure is a price.
@@ -43,8 +47,8 @@ fn bills() {
         }),
     );
     money(prices(), Bill::fresh());
-    money(prices(), with(0.0, 0.0 / 0.0));
-    money(prices(), with(1.0 / 0.0, 0.0));
+    money(prices(), with(0.0, f64::NAN));
+    money(prices(), with(f64::INFINITY, 0.0));
 }
 
 // Whether prices and a bill are allowed.
@@ -54,10 +58,11 @@ fn money(p: Prices, b: Bill) {
 
 // A fresh bill with other figures.
 fn with(total: f64, misses: f64) -> Bill {
-    let mut b = Bill::fresh();
-    b.total = total;
-    b.misses = misses;
-    b
+    Bill {
+        total,
+        misses,
+        ..Bill::fresh()
+    }
 }
 
 // A row price on chip, a flat one outside.
@@ -73,21 +78,15 @@ fn prices() -> Prices {
 
 // A bill, and the figures that it should have.
 fn shown(b: Bill, total: f64, misses: f64) {
-    let on = b.onchip;
-    let ext = b.external;
     show::text(b"bill");
-    show::numbers(row(on), row(ext));
+    show::numbers(row(b.onchip), row(b.external));
     show::numbers((b.total == total) as u64, (b.misses == misses) as u64);
     show::end();
 }
 
 // A side's last row, or 400000 where there is none.
 fn row(side: Side) -> u64 {
-    let last = side.last;
-    match last {
-        LastRow::Never => 0x400000,
-        LastRow::At(row) => row as u64,
-    }
+    side.last.map_or(0x400000, |row| row as u64)
 }
 
 // A word at an address, held at a place.
@@ -105,7 +104,8 @@ fn word(b: Bill, s: Source, p: Prices, total: f64) -> Bill {
     after
 }
 
-// Words one after another: a new row, the same, a flat price, another row, a word in neither memory, back to the first row.
+// Words one after another: a new row, the same, a flat price, another row, a word in neither memory, back to the
+// first row.
 fn words() {
     shown(Bill::fresh(), 0.0, 0.0);
     let a = onchip(onchip(Bill::fresh(), 0x20000400, 4.0), 0x200007FC, 5.5);

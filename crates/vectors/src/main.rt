@@ -1,5 +1,6 @@
 #![tactic(auto)]
-// What the parts, the unit, the builder, the audit, the comparison, CRC-32 and the recordings answer for inputs worked out by hand.
+// What the parts, the unit, the builder, the audit, the comparison, CRC-32 and the recordings answer for inputs
+// worked out by hand.
 mod bills;
 mod entries;
 mod foreign;

@@ -1,6 +1,7 @@
 // What `memory` answers for values worked out by hand from the paper: the file `stdout` has them, in hexadecimal.
 // A place is shown by two numbers: 1 and an index on chip, 2 and an index in the external memory, 0 and 0 for nowhere.
-use memory::Place;
+use crate::walks;
+use memory::Memories;
 use page::PhysicalAddress;
 
 pub(crate) fn show_all() {
@@ -13,13 +14,17 @@ pub(crate) fn show_all() {
 
 // Refusal 4, for one memory.
 fn sizes() {
-    one(0, 0);
-    one(4, 2);
-    one(6, 4);
-    one(131072, 0);
-    one(131076, 0);
-    one(4, 0xFFFFFFFC);
-    one(8, 0xFFFFFFFC);
+    for (length, base) in [
+        (0, 0),
+        (4, 2),
+        (6, 4),
+        (131072, 0),
+        (131076, 0),
+        (4, 0xFFFFFFFC),
+        (8, 0xFFFFFFFC),
+    ] {
+        one(length, base);
+    }
 }
 
 // A memory's length and base, and whether it is allowed.
@@ -32,76 +37,70 @@ fn one(length: u32, base: u32) {
     );
 }
 
-// Eight bytes at 1000 and twelve at other bases: refusal 4, addresses, parts.
-fn both<'a>(on: &'a [u8], ext: &'a [u8]) {
-    two(on, ext, 0x1008);
-    two(on, ext, 0x1004);
-    two(on, ext, 0xFF4);
-    two(on, ext, 0xFF8);
-    places(on, ext);
-    edges(on, ext);
-    part(on, ext, 0x2000, 0x1004);
-    part(on, ext, 0x2000, 0x2001);
-    part(on, ext, 0x2000, 0x2008);
-    part(on, ext, 0x2000, 0x2009);
-    part(on, ext, 0x2002, 0x1000);
+// Two memories at bases.
+fn lent<'a>(on: &'a [u8], onbase: u32, ext: &'a [u8], extbase: u32) -> Memories<'a> {
+    Memories {
+        on,
+        onbase: PhysicalAddress(onbase),
+        ext,
+        extbase: PhysicalAddress(extbase),
+    }
 }
 
-// The second memory's length and base, and whether it is allowed beside the first at 1000.
-fn two(on: &[u8], ext: &[u8], extbase: u32) {
+// Eight bytes at 1000 and twelve at other bases: refusal 4, addresses, parts.
+fn both(on: &[u8], ext: &[u8]) {
+    for extbase in [0x1008, 0x1004, 0xFF4, 0xFF8] {
+        two(&lent(on, 0x1000, ext, extbase));
+    }
+    places(on, ext);
+    edges(on, ext);
+    let apart = lent(on, 0x1000, ext, 0x2000);
+    for at in [0x1004, 0x2001, 0x2008, 0x2009] {
+        part(&apart, at);
+    }
+    part(&lent(on, 0x1000, ext, 0x2002), 0x1000);
+}
+
+// The second memory's length and base, and whether it is allowed beside the first.
+fn two(memories: &Memories) {
     show::text(b"two");
-    show::numbers(ext.len() as u64, extbase as u64);
-    show::verdict(memory::memories_ok(on, PhysicalAddress(0x1000), ext, PhysicalAddress(extbase)));
+    show::numbers(memories.ext.len() as u64, memories.extbase.0 as u64);
+    show::verdict(memories.ok());
 }
 
 // Addresses over eight bytes at 1000 and twelve at 1008, then over memories that meet.
 fn places(on: &[u8], ext: &[u8]) {
-    place(on, 0x1000, ext, 0x1008, 0xFFF);
-    place(on, 0x1000, ext, 0x1008, 0x1000);
-    place(on, 0x1000, ext, 0x1008, 0x1004);
-    place(on, 0x1000, ext, 0x1008, 0x1005);
-    place(on, 0x1000, ext, 0x1008, 0x1008);
-    place(on, 0x1000, ext, 0x1008, 0x100E);
-    place(on, 0x1000, ext, 0x1008, 0x1010);
-    place(on, 0x1000, ext, 0x1008, 0x1011);
-    place(on, 0x1000, ext, 0x1004, 0x1000);
+    let beside = lent(on, 0x1000, ext, 0x1008);
+    for at in [
+        0xFFF, 0x1000, 0x1004, 0x1005, 0x1008, 0x100E, 0x1010, 0x1011,
+    ] {
+        place(&beside, at);
+    }
+    place(&lent(on, 0x1000, ext, 0x1004), 0x1000);
 }
 
 // A memory without bytes at 1004; then the last four bytes below 2^32 and twelve at 0.
 fn edges(on: &[u8], ext: &[u8]) {
-    two(on, b"", 0x1004);
-    let four: &[u8] = b"four";
-    place(four, 0xFFFFFFFC, ext, 0, 0xFFFFFFFC);
-    place(four, 0xFFFFFFFC, ext, 0, 0xFFFFFFFD);
+    two(&lent(on, 0x1000, b"", 0x1004));
+    let last = lent(b"four", 0xFFFFFFFC, ext, 0);
+    place(&last, 0xFFFFFFFC);
+    place(&last, 0xFFFFFFFD);
 }
 
 // The second memory's base and an address; the address's place, with the memories tried for refusal 4, then not tried.
-fn place(on: &[u8], onbase: u32, ext: &[u8], extbase: u32, at: u32) {
-    show::words(b"place", extbase, at);
-    let b = PhysicalAddress(onbase);
-    let c = PhysicalAddress(extbase);
-    told(memory::locate(on, b, ext, c, PhysicalAddress(at)));
-    told(memory::locate_within(on, b, ext, c, PhysicalAddress(at)));
+fn place(memories: &Memories, at: u32) {
+    show::words(b"place", memories.extbase.0, at);
+    walks::place(memories.locate(PhysicalAddress(at)));
+    walks::place(memories.locate_within(PhysicalAddress(at)));
     show::end();
 }
 
-// A place.
-fn told(p: Place) {
-    match p {
-        Place::OnChip(k) => show::numbers(1, k as u64),
-        Place::External(k) => show::numbers(2, k as u64),
-        Place::Nowhere => show::numbers(0, 0),
-    }
-}
-
-// The second memory's base and an address; the length and word of the part there, with the memories tried for refusal 4,
-// then not tried.
-fn part<'a>(on: &'a [u8], ext: &'a [u8], extbase: u32, at: u32) {
-    show::words(b"part", extbase, at);
-    let b = PhysicalAddress(0x1000);
-    let c = PhysicalAddress(extbase);
-    bytes(memory::fetch(on, b, ext, c, PhysicalAddress(at)));
-    bytes(memory::fetch_within(on, b, ext, c, PhysicalAddress(at)));
+// The second memory's base and an address; the length and word of the part there, with the memories tried for refusal
+// 4, then not tried.
+fn part(memories: &Memories, at: u32) {
+    show::words(b"part", memories.extbase.0, at);
+    bytes(memories.fetch(PhysicalAddress(at)));
+    bytes(memories.fetch_within(PhysicalAddress(at)));
     show::end();
 }
 

@@ -2,31 +2,27 @@
 // file `stdout` has them, in hexadecimal.
 // A read is shown by its offset, then 1 and the value or 0 and the number of the refusal.
 // A write is shown by its offset and value, then a number for what it asks for and its value: 0 a refusal, 1 nothing,
-// 2 reset, 3 load, 4 copy, 5 prefetch, 6 acknowledge, 7 global flush, 8 entry flush; or by the lock base and the victim; or
-// by what it sets in fresh registers.
+// 2 reset, 3 load, 4 copy, 5 prefetch, 6 acknowledge, 7 global flush, 8 entry flush; or by the lock base and the
+// victim; or by what it sets in fresh registers.
+use bank::Bank;
+use bank::slots::Slots;
 use bill::Bill;
 use lanes::SLOTS;
-use page::{Access, PhysicalAddress, VirtualAddress};
+use memory::Memories;
+use page::{Access, PhysicalAddress, VirtualAddress, Words};
+use plan::Tried;
 use prices::{Price, Prices};
-use registers::{Answer, Command, Entry, Fault, Pending, Registers, Tending};
-
-// What a write leaves: the registers, the lock base, the victim, and the victim's CAM word.
-#[derive(Clone, Copy)]
-struct Left {
-    registers: Registers,
-    lock: u8,
-    victim: u8,
-    cam: u32,
-}
+use registers::{Answer, Command, Entry, Fault, Registers, Stall, Tending};
 
 pub(crate) fn show_all() {
-    let p = Pending::Held(Fault::Permission, VirtualAddress(0x3ABCDE), Access::Write);
-    table(p);
-    // Offsets without a register.
-    at(0x02, p);
-    at(0x51, p);
-    at(0x54, p);
-    at(0xFFFFFFFC, p);
+    let p = held(Fault::Permission, 0x3ABCDE, Access::Write);
+    // The registers in the order of Table 3, then offsets without a register.
+    for i in 0..21 {
+        at(4 * i, p);
+    }
+    for offset in [0x02, 0x51, 0x54, 0xFFFFFFFC] {
+        at(offset, p);
+    }
     faults();
     bits();
     form(large());
@@ -36,17 +32,17 @@ pub(crate) fn show_all() {
     ranges();
 }
 
-// The registers in the order of Table 3, with a fault pending.
-fn table(p: Pending) {
-    let mut offset: u32 = 0;
-    while offset < 0x54 {
-        at(offset, p);
-        offset += 4;
-    }
+// A fault that is pending.
+fn held(fault: Fault, va: u32, access: Access) -> Option<Stall> {
+    Some(Stall {
+        fault,
+        at: VirtualAddress(va),
+        access,
+    })
 }
 
 // A read at an offset, and a write of FFFF.
-fn at(offset: u32, p: Pending) {
+fn at(offset: u32, p: Option<Stall>) {
     read(offset, p);
     write(offset, 0xFFFF);
 }
@@ -71,26 +67,22 @@ fn last() -> Entry {
     }
 }
 
-// Registers with a value in each: the bench sheet's slot staged but for CAM high, the last tiny page copied but for RAM low.
-fn made(control: u16, base: u32, prefetch: u16, camhi: u16, ramlo: u16) -> Registers {
-    let mut r = Registers {
-        control,
-        base: PhysicalAddress(base),
-        prefetch,
+// Registers with a value in each, all in range: the bench sheet's slot staged, the last tiny page copied.
+fn filled() -> Registers {
+    Registers {
+        control: 0x27,
+        base: PhysicalAddress(0x20000080),
+        prefetch: 0x3FFF,
         staged: large(),
         copied: last(),
-    };
-    r.staged.camhi = camhi;
-    r.copied.ramlo = ramlo;
-    r
+    }
 }
 
 // A read at an offset, with lock base 31 and victim 5.
-fn read(offset: u32, p: Pending) {
+fn read(offset: u32, p: Option<Stall>) {
     show::text(b"read");
     show::number(offset as u64);
-    let r = made(0x27, 0x20000080, 0x3FFF, 0, 0xFE00);
-    told(registers::values::value_at(offset, r, 31, 5, p));
+    told(registers::values::value_at(offset, filled(), 31, 5, p));
 }
 
 // What a read answers.
@@ -104,25 +96,25 @@ fn told(a: Answer) {
 
 // Each fault and none; then the last address in range and the first that is not.
 fn faults() {
-    fault(Pending::Held(Fault::Translation, VirtualAddress(0xFFFFFF), Access::Read));
-    fault(Pending::Held(Fault::Miss, VirtualAddress(0x01007F), Access::Read));
-    fault(Pending::Held(Fault::Permission, VirtualAddress(0x0100FF), Access::Write));
-    fault(Pending::Held(Fault::Prefetch, VirtualAddress(0x500400), Access::Read));
-    fault(Pending::Nothing);
-    pending(Pending::Held(Fault::Miss, VirtualAddress(0xFFFFFF), Access::Read));
-    pending(Pending::Held(Fault::Miss, VirtualAddress(0x1000000), Access::Read));
+    fault(held(Fault::Translation, 0xFFFFFF, Access::Read));
+    fault(held(Fault::Miss, 0x01007F, Access::Read));
+    fault(held(Fault::Permission, 0x0100FF, Access::Write));
+    fault(held(Fault::Prefetch, 0x500400, Access::Read));
+    fault(None);
+    pending(held(Fault::Miss, 0xFFFFFF, Access::Read));
+    pending(held(Fault::Miss, 0x1000000, Access::Read));
 }
 
 // Whether a pending fault is in range.
-fn pending(p: Pending) {
+fn pending(p: Option<Stall>) {
     show::answer(b"pending", registers::pending_ok(p));
 }
 
 // Status, address high and address low.
-fn fault(p: Pending) {
-    read(0x14, p);
-    read(0x0C, p);
-    read(0x10, p);
+fn fault(p: Option<Stall>) {
+    for offset in [0x14, 0x0C, 0x10] {
+        read(offset, p);
+    }
 }
 
 // A write at an offset.
@@ -162,28 +154,32 @@ fn tend(t: Tending) {
 
 // Single bits of control, acknowledge, lock, load and the flushes.
 fn bits() {
-    write(0x08, 0x0007);
-    write(0x08, 0xFFFE);
-    write(0x18, 0xFFFE);
-    write(0x24, 0x7C50);
-    write(0x24, 0x7DFF);
-    write(0x24, 0x8000);
-    write(0x24, 0x0200);
-    write(0x28, 0x0000);
-    write(0x28, 0x0001);
-    write(0x28, 0x0002);
-    write(0x28, 0x0003);
-    write(0x28, 0x0004);
-    write(0x3C, 0xFFFE);
-    write(0x40, 0xFFFE);
+    for (offset, v) in [
+        (0x08, 0x0007),
+        (0x08, 0xFFFE),
+        (0x18, 0xFFFE),
+        (0x24, 0x7C50),
+        (0x24, 0x7DFF),
+        (0x24, 0x8000),
+        (0x24, 0x0200),
+        (0x28, 0x0000),
+        (0x28, 0x0001),
+        (0x28, 0x0002),
+        (0x28, 0x0003),
+        (0x28, 0x0004),
+        (0x3C, 0xFFFE),
+        (0x40, 0xFFFE),
+    ] {
+        write(offset, v);
+    }
 }
 
 // A slot in register form as CAM and RAM words and the address of its CAM, then the form of those words.
 fn form(e: Entry) {
-    let w = registers::words_of(e);
+    let w = Words::from(e);
     let va = registers::cam_address(e);
     show::triple(b"form", w.cam, w.ram, va.0);
-    entry(registers::entry_of(w));
+    entry(Entry::from(w));
 }
 
 // The four registers of an entry: CAM high and low, RAM high and low.
@@ -193,60 +189,46 @@ fn entry(e: Entry) {
     show::end();
 }
 
-// A write done to registers, with the bench sheet's words in slot 0, nothing locked and nothing pending.
-fn written(r: Registers, offset: u32, v: u16) -> Left {
-    let w = registers::words_of(large());
-    let mut cam = [0u32; SLOTS];
-    let mut ram = [0u32; SLOTS];
-    cam[0] = w.cam;
-    ram[0] = w.ram;
-    let mut lows = bank::slots::lows(&cam);
-    let mut highs = bank::slots::highs(&cam);
-    let none = [0u8; 1];
+// The bench sheet's words in slot 0, and nothing locked.
+fn sheet() -> Slots {
+    let mut slots = Slots::of(Bank::fresh());
+    slots.store(0, Words::from(large()));
+    slots
+}
+
+// The registers after a write, with nothing pending.
+fn written(slots: &mut Slots, r: Registers, offset: u32, v: u16) -> Registers {
+    let none = Memories {
+        on: &[0u8; 1],
+        onbase: PhysicalAddress(0),
+        ext: &[0u8; 1],
+        extbase: PhysicalAddress(0),
+    };
     let free = Prices {
         onchip: Price::Flat(0.0),
         external: Price::Flat(0.0),
     };
-    let idle = Pending::Nothing;
     let bill = Bill::fresh();
-    let x = perform::perform(
-        plan::write(true, true, true, bill, r.control, idle, offset, v),
-        &mut cam,
-        &mut ram,
-        &mut lows,
-        &mut highs,
-        r,
-        0,
-        0,
-        idle,
+    let tried = Tried {
+        device: true,
+        memories: true,
+        prices: true,
         bill,
-        &none,
-        PhysicalAddress(0),
-        &none,
-        PhysicalAddress(0),
-        free,
-    );
-    let at = x.victim as usize % SLOTS;
-    let after = x.registers;
-    Left {
-        registers: after,
-        lock: x.lock,
-        victim: x.victim,
-        cam: cam[at],
-    }
+    };
+    let plan = plan::write(tried, r.control, None, offset, v);
+    perform::perform(plan, slots, r, None, bill, &none, free).registers
 }
 
 // Registers after a write that sets one: base, control, and the staged entry.
 fn set(r: Registers, offset: u32, v: u16) -> Registers {
-    let left = written(r, offset, v);
-    let after = left.registers;
+    let after = written(&mut sheet(), r, offset, v);
     show::words(b" set", after.base.0, after.control as u32);
     entry(after.staged);
     after
 }
 
-// Base and entry from fresh registers, half by half, then control; then whether the unit is on and whether it walks, 1 for
-// yes, and the entry that copy read back.
+// Base and entry from fresh registers, half by half, then control; then whether the unit is on and whether it walks,
+// 1 for yes, and the entry that copy read back.
 fn settings() {
     let a = set(set(Registers::fresh(), 0x1C, 0x2000), 0x20, 0x0080);
     let b = set(set(a, 0x1C, 0x1000), 0x2C, 0);
@@ -259,10 +241,15 @@ fn settings() {
 
 // The bench sheet's words in slot 0, after a write with an entry staged: lock base, victim, and the victim's CAM word.
 fn tended(staged: Entry, offset: u32, v: u16) {
-    let mut r = Registers::fresh();
-    r.staged = staged;
-    let k = written(r, offset, v);
-    show::triple(b" slots", k.lock as u32, k.victim as u32, k.cam);
+    let mut slots = sheet();
+    let r = Registers {
+        staged,
+        ..Registers::fresh()
+    };
+    written(&mut slots, r, offset, v);
+    let victim = slots.bank.victim;
+    let w = slots.words(victim as usize % SLOTS);
+    show::triple(b" slots", slots.bank.lock as u32, victim as u32, w.cam);
 }
 
 // A lock; the flushes with another page staged; an entry flush with the page's tag.
@@ -270,30 +257,77 @@ fn tendings() {
     tended(large(), 0x24, 0x7C50);
     tended(last(), 0x3C, 1);
     tended(last(), 0x40, 1);
-    let tag = Entry {
-        camhi: 0,
-        camlo: 0x0400,
-        ramhi: 0,
-        ramlo: 0,
-    };
-    tended(tag, 0x40, 1);
+    tended(
+        Entry {
+            camhi: 0,
+            camlo: 0x0400,
+            ramhi: 0,
+            ramlo: 0,
+        },
+        0x40,
+        1,
+    );
 }
 
-// Registers are in range as above; not with control 2F or 40, base 20000040, prefetch 4000, CAM high 4 or read RAM low 0380.
+// Registers are in range as above; not with control 2F or 40, base 20000040, prefetch 4000, CAM high 4 or read RAM
+// low 0380.
 fn ranges() {
-    range(0x27, 0x27, 0x20000080, 0x3FFF, 0, 0xFE00);
-    range(0x2F, 0x2F, 0x20000080, 0x3FFF, 0, 0xFE00);
-    range(0x40, 0x40, 0x20000080, 0x3FFF, 0, 0xFE00);
-    range(0x20000040, 0x27, 0x20000040, 0x3FFF, 0, 0xFE00);
-    range(0x4000, 0x27, 0x20000080, 0x4000, 0, 0xFE00);
-    range(4, 0x27, 0x20000080, 0x3FFF, 4, 0xFE00);
-    range(0x0380, 0x27, 0x20000080, 0x3FFF, 0, 0x0380);
+    let good = filled();
+    range(0x27, good);
+    range(
+        0x2F,
+        Registers {
+            control: 0x2F,
+            ..good
+        },
+    );
+    range(
+        0x40,
+        Registers {
+            control: 0x40,
+            ..good
+        },
+    );
+    range(
+        0x20000040,
+        Registers {
+            base: PhysicalAddress(0x20000040),
+            ..good
+        },
+    );
+    range(
+        0x4000,
+        Registers {
+            prefetch: 0x4000,
+            ..good
+        },
+    );
+    range(
+        4,
+        Registers {
+            staged: Entry {
+                camhi: 4,
+                ..large()
+            },
+            ..good
+        },
+    );
+    range(
+        0x0380,
+        Registers {
+            copied: Entry {
+                ramlo: 0x0380,
+                ..last()
+            },
+            ..good
+        },
+    );
     show::answer(b"fresh", registers::registers_ok(Registers::fresh()));
 }
 
 // The value that a case is about, and whether its registers are in range.
-fn range(n: u64, control: u16, base: u32, prefetch: u16, camhi: u16, ramlo: u16) {
+fn range(n: u64, r: Registers) {
     show::text(b"range");
     show::number(n);
-    show::verdict(registers::registers_ok(made(control, base, prefetch, camhi, ramlo)));
+    show::verdict(registers::registers_ok(r));
 }

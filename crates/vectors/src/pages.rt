@@ -4,10 +4,9 @@ use page::{Access, Kind, PhysicalAddress, VirtualAddress};
 pub(crate) fn show_all() {
     kinds();
     // Access bits 0x permit nothing, 10 reading, 11 both.
-    right(0);
-    right(1);
-    right(2);
-    right(3);
+    for bits in 0..4 {
+        right(bits);
+    }
     slots();
     // A valid word 0405, preserved 040D.
     flush(0x0405);
@@ -44,10 +43,9 @@ fn right(bits: u32) {
 fn slots() {
     slot(Kind::Large, 0x10020000, 3, 0x012345);
     slot(Kind::Tiny, 0xFFFFFFFF, 2, 0xFFFFFF);
-    word(0x0405, 0x010000);
-    word(0x0405, 0x01FFFF);
-    word(0x0405, 0x00FFFF);
-    word(0x0405, 0x020000);
+    for va in [0x010000, 0x01FFFF, 0x00FFFF, 0x020000] {
+        word(0x0405, va);
+    }
     word(0x0401, 0x010000);
     word(0xFFFFFFFF, 0xFFFFFFFF);
 }

@@ -1,7 +1,8 @@
-// What `parting` answers for pairs of images worked out by hand from the paper: the file `stdout` has it, in hexadecimal.
-// A line has whose the part is, where it begins and how many words differ, or 4 where the call is refused; then how many bytes the part has
-// and its first word, 0 where it has none. The signed image has the words 11, 22, 33, 44 and 55, and is 14 bytes long, but where it is said.
-use parting::{Comparison, Owner};
+// What `parting` answers for pairs of images worked out by hand from the paper: the file `stdout` has it, in
+// hexadecimal. A line has whose the part is, where it begins and how many words differ, or 4 where the call is
+// refused; then how many bytes the part has and its first word, 0 where it has none. The signed image has the words
+// 11, 22, 33, 44 and 55, and is 14 bytes long, but where it is said.
+use parting::{Owner, Parting};
 
 pub(crate) fn show_all() {
     let mut signed = [0u8; 20];
@@ -17,11 +18,11 @@ pub(crate) fn show_all() {
 fn alike(signed: [u8; 20]) {
     let new = signed;
     compared(b"equal", &new, &signed);
-    compared(b"new shorter", &new[0..12], &signed);
-    compared(b"signed shorter", &new, &signed[0..12]);
-    compared(b"new empty", &new[0..0], &signed);
-    compared(b"signed empty", &new, &signed[0..0]);
-    compared(b"both empty", &new[0..0], &signed[0..0]);
+    compared(b"new shorter", &new[..12], &signed);
+    compared(b"signed shorter", &new, &signed[..12]);
+    compared(b"new empty", b"", &signed);
+    compared(b"signed empty", &new, b"");
+    compared(b"both empty", b"", b"");
 }
 
 // The highest byte of word 1, then also the lowest of word 4; the part is the new image's, from word 1 on.
@@ -34,23 +35,25 @@ fn differing(signed: [u8; 20]) {
     compared(b"the same, exchanged", &signed, &new);
 }
 
-// Word 1 differs and the lengths do too: a part of the new image, up to its own end; words past the shorter one's end are not counted.
+// Word 1 differs and the lengths do too: a part of the new image, up to its own end; words past the shorter one's end
+// are not counted.
 fn lengths(signed: [u8; 20]) {
     let mut new = signed;
     wire::put(&mut new, 4, &[0x23, 0x34]);
-    compared(b"words 1 and 2, new shorter", &new[0..12], &signed);
-    compared(b"words 1 and 2, signed shorter", &new, &signed[0..8]);
+    compared(b"words 1 and 2, new shorter", &new[..12], &signed);
+    compared(b"words 1 and 2, signed shorter", &new, &signed[..8]);
 }
 
 // A length that is no multiple of 4, of the one or the other, whatever the words.
 fn refusals(signed: [u8; 20]) {
     let new = signed;
-    compared(b"new of 19 bytes", &new[0..19], &signed);
-    compared(b"signed of 3 bytes", &new, &signed[0..3]);
-    compared(b"both of 18 bytes", &new[0..18], &signed[0..18]);
+    compared(b"new of 19 bytes", &new[..19], &signed);
+    compared(b"signed of 3 bytes", &new, &signed[..3]);
+    compared(b"both of 18 bytes", &new[..18], &signed[..18]);
 }
 
-// 200 words of zeros (hexadecimal 320 bytes), and others: word 63, at FC; then words 64, 127, 128 and the last too; then the first alone.
+// 200 words of zeros (hexadecimal 320 bytes), and others: word 63, at FC; then words 64, 127, 128 and the last too;
+// then the first alone.
 fn long() {
     let signed = [0u8; 800];
     let mut new = [0u8; 800];
@@ -75,19 +78,19 @@ fn compared<'a>(label: &[u8], new: &'a [u8], signed: &'a [u8]) {
 }
 
 // An answer of the second call.
-fn said(c: Comparison) {
-    match c {
-        Comparison::BadLength => show::text(b": 4"),
-        Comparison::Parted(o, start, words) => {
-            named(o);
-            show::numbers(start as u64, words as u64);
+fn said(parting: Option<Parting>) {
+    match parting {
+        None => show::text(b": 4"),
+        Some(p) => {
+            named(p.owner);
+            show::numbers(p.start as u64, p.words as u64);
         }
     }
 }
 
 // Whose a part is.
-fn named(o: Owner) {
-    match o {
+fn named(owner: Owner) {
+    match owner {
         Owner::New => show::text(b": new"),
         Owner::Signed => show::text(b": signed"),
     }

@@ -1,40 +1,42 @@
-// What `crc` and `recording` answer for bytes worked out by hand from the paper: the file `stdout` has it, in hexadecimal but for the paper's
-// numbers. A line of the writer or the reader has the number, 0 where nothing is refused, and what stands beside it: the bytes written, for 12
-// the bytes needed, for 16 the index of the call or block; and whether the lent memory, of EE, is as it should be in every byte. A call is
-// three words: kind, offset or access as the second byte, two zero bytes; address; value. So a drop is 4, 0, 0. A block is the word of the
-// number of its calls and, from bit 16 on, of its own; 504 bytes of calls and zeros; and the check of these 508 bytes.
-use parting::Comparison;
-use recording::{Flaw, Progress, Taken, Written};
+// What `crc` and `recording` answer for bytes worked out by hand from the paper: the file `stdout` has it, in
+// hexadecimal but for the paper's numbers. A line of the writer or the reader has the number, 0 where nothing is
+// refused, and what stands beside it: the bytes written, for 12 the bytes needed, for 16 the index of the call or
+// block; and whether the lent memory, of EE, is as it should be in every byte. A call is three words: kind, offset or
+// access as the second byte, two zero bytes; address; value. So a drop is 4, 0, 0. A block is the word of the number
+// of its calls and, from bit 16 on, of its own; 504 bytes of calls and zeros; and the check of these 508 bytes.
+ghost use Rattle.std.specs.Prelude.{◌≤◌, length};
+
+use recording::{Flaw, Progress, RecordingError};
 
 pub(crate) fn show_all() {
     checks();
     let calls = drops();
-    recordings(calls);
-    alone(calls);
-    lengths(calls);
-    first_fields();
-    last_fields();
-    let m = blocks(calls);
+    recordings(&calls);
+    alone(&calls);
+    lengths(&calls);
+    fields();
+    let m = blocks(&calls);
     turned(m);
     headings(m);
     bodies(m);
-    ends(m);
-    behind(m, calls);
-    parts(m, calls);
-    carried(m);
-    misplaced(m);
-    most(calls);
+    ends(&m);
+    behind(m, &calls);
+    parts(m, &calls);
+    carried(&m);
+    misplaced(&m);
+    most(&calls);
 }
 
-// Checks: what is published for nine digits, no bytes, a letter and 32 zeros; FF, with which FFFFFF00 moves down by eight bits and is turned; as
-// many zeros as a block's check is of; and seven bytes, eight (nine are above), sixteen and seventeen, as they are taken eight at a time.
+// Checks: what is published for nine digits, no bytes, a letter and 32 zeros; FF, with which FFFFFF00 moves down by
+// eight bits and is turned; as many zeros as a block's check is of; and seven bytes, eight (nine are above), sixteen
+// and seventeen, as they are taken eight at a time.
 fn checks() {
     let zeros = [0u8; 508];
     checked(b"123456789", b"123456789");
-    checked(b"no bytes", &zeros[0..0]);
+    checked(b"no bytes", &zeros[..0]);
     checked(b"a", b"a");
     checked(b"FF", &[0xFF]);
-    checked(b"32 zero bytes", &zeros[0..32]);
+    checked(b"32 zero bytes", &zeros[..32]);
     checked(b"508 zero bytes", &zeros);
     checked(b"1234567", b"1234567");
     checked(b"12345678", b"12345678");
@@ -51,29 +53,19 @@ fn checked(label: &[u8], bytes: &[u8]) {
 // The bytes of 43 drops, one more than a block holds.
 fn drops() -> [u8; 516] {
     let mut list = [0u8; 516];
-    let mut i: u32 = 0;
-    while i < 43 {
-        let next = with_drop(list, i);
-        list = next;
-        i += 1;
+    for i in 0..43 {
+        wire::put(&mut list, 12 * i, &[4, 0, 0]);
     }
     list
 }
 
-// Calls with a drop as one of them.
-fn with_drop(list: [u8; 516], i: u32) -> [u8; 516] {
-    let mut out = list;
-    wire::put(&mut out, 12 * (i as usize), &[4, 0, 0]);
-    out
-}
-
-// Drops in no block, in one and in two, the first of which is that of 42; then a write of 1234 at offset 10, a read at FC, a request to write
-// at FFFFFFFE, a drop, and a shift report at 00123456.
-fn recordings(calls: [u8; 516]) {
-    recorded(b"no calls", &calls[0..0], 0);
-    recorded(b"one drop", &calls[0..12], 512);
-    recorded(b"42 drops", &calls[0..504], 512);
-    recorded(b"43 drops", &calls, 1024);
+// Drops in no block, in one and in two, the first of which is that of 42; then a write of 1234 at offset 10, a read
+// at FC, a request to write at FFFFFFFE, a drop, and a shift report at 00123456.
+fn recordings(calls: &[u8; 516]) {
+    recorded(b"no calls", &calls[..0], 0);
+    recorded(b"one drop", &calls[..12], 512);
+    recorded(b"42 drops", &calls[..504], 512);
+    recorded(b"43 drops", calls, 1024);
     let mut kinds = [0u8; 60];
     wire::put(&mut kinds, 0, &[0x1001, 0, 0x1234, 0xFC02, 0, 0]);
     wire::put(&mut kinds, 24, &[0x0103, 0xFFFFFFFE, 0, 4, 0, 0]);
@@ -81,17 +73,19 @@ fn recordings(calls: [u8; 516]) {
     recorded(b"every kind", &kinds, 512);
 }
 
-// Calls written in 1,024 bytes, what stands then at two blocks, and what is read back from as many bytes as the recording should have.
-fn recorded(label: &[u8], calls: &[u8], bytes: usize) {
+// Calls written in 1,024 bytes, what stands then at two blocks, and what is read back from as many bytes as the
+// recording should have.
+fn recorded(label: &[u8], calls: &[u8], bytes: usize)
+    requires { bytes ≤ 1024 }
+{
     let mut m = [0xEEu8; 1024];
     show::text(label);
     answered(recording::write(calls, &mut m));
     show::end();
-    framed(&m[0..512]);
-    framed(&m[512..1024]);
-    if bytes <= 1024 {
-        read(b" read back", &m[0..bytes], calls);
-    }
+    let (first, second) = m.split_at(512);
+    framed(first);
+    framed(second);
+    read(b" read back", &m[..bytes], calls);
 }
 
 // The first three words of a block, and its check.
@@ -101,91 +95,88 @@ fn framed(b: &[u8]) {
     show::line(b" check", wire::word_at(b, 508) as u64);
 }
 
-// Single blocks: as in the recording of 43 drops; the last number that there is; then nothing, as the number, the calls or the room are not as said.
-fn alone(calls: [u8; 516]) {
-    single(b"block 1 of one drop:", 1, &calls[0..12], 512);
-    single(b"block FFFF of 42 drops:", 0xFFFF, &calls[0..504], 512);
-    single(b"block 10000 of one drop:", 0x10000, &calls[0..12], 512);
-    single(b"block 0 of 43 drops:", 0, &calls, 512);
-    single(b"block 0 of 11 bytes:", 0, &calls[0..11], 512);
-    single(b"block 0 in 511 bytes:", 0, &calls[0..12], 511);
+// Single blocks: as in the recording of 43 drops; the last number that there is; then nothing, as the number, the
+// calls or the room are not as said.
+fn alone(calls: &[u8; 516]) {
+    single(b"block 1 of one drop:", 1, &calls[..12], 512);
+    single(b"block FFFF of 42 drops:", 0xFFFF, &calls[..504], 512);
+    single(b"block 10000 of one drop:", 0x10000, &calls[..12], 512);
+    single(b"block 0 of 43 drops:", 0, calls, 512);
+    single(b"block 0 of 11 bytes:", 0, &calls[..11], 512);
+    single(b"block 0 in 511 bytes:", 0, &calls[..12], 511);
 }
 
 // A block written in the first bytes of 512.
-fn single(label: &[u8], number: usize, calls: &[u8], room: usize) {
+fn single(label: &[u8], number: usize, calls: &[u8], room: usize)
+    requires { room ≤ 512 }
+{
     let mut m = [0xEEu8; 512];
-    single_in(number, calls, &mut m, room);
+    recording::write_block(number, calls, &mut m[..room]);
     show::text(label);
     framed(&m);
 }
 
-// A block written in the first bytes of a memory.
-fn single_in(number: usize, calls: &[u8], m: &mut [u8], room: usize) {
-    if room <= m.len() {
-        recording::write_block(number, calls, &mut m[0..room]);
+// What the writer refuses for a length: a call that lacks a byte, the first or the second; then room that lacks one;
+// and both, which is 16.
+fn lengths(calls: &[u8; 516]) {
+    unwritten(b"11 bytes", &calls[..11], 1024);
+    unwritten(b"23 bytes", &calls[..23], 1024);
+    unwritten(b"one drop in 511 bytes", &calls[..12], 511);
+    unwritten(b"43 drops in 1,023 bytes", calls, 1023);
+    unwritten(b"11 bytes in none", &calls[..11], 0);
+}
+
+// Calls that the writer refuses for their kind, for the bytes behind it, or for the value or address of a write; a
+// write's highest value is accepted. Then calls that it refuses for a field that their kind does not use, and a
+// request for an access over 1.
+fn fields() {
+    let calls: [(&[u8], [u32; 3]); 16] = [
+        (b"kind 0", [0, 0, 0]),
+        (b"kind 6", [6, 0, 0]),
+        (b"third byte 1", [0x00010004, 0, 0]),
+        (b"fourth byte 1", [0x01000004, 0, 0]),
+        (b"write of FFFF", [0x1001, 0, 0xFFFF]),
+        (b"write of 10000", [0x1001, 0, 0x10000]),
+        (b"write with an address", [0x1001, 1, 0]),
+        (b"read with an address", [0x1002, 1, 0]),
+        (b"read with a value", [0x1002, 0, 1]),
+        (b"request with access 2", [0x0203, 0, 0]),
+        (b"request with a value", [0x0103, 0, 1]),
+        (b"drop with an access", [0x0104, 0, 0]),
+        (b"drop with an address", [4, 1, 0]),
+        (b"drop with a value", [4, 0, 1]),
+        (b"shift with an access", [0x0105, 0, 0]),
+        (b"shift with a value", [5, 0, 1]),
+    ];
+    for (label, call) in calls {
+        second(label, &call);
     }
 }
 
-// What the writer refuses for a length: a call that lacks a byte, the first or the second; then room that lacks one; and both, which is 16.
-fn lengths(calls: [u8; 516]) {
-    unwritten(b"11 bytes", &calls[0..11], 1024);
-    unwritten(b"23 bytes", &calls[0..23], 1024);
-    unwritten(b"one drop in 511 bytes", &calls[0..12], 511);
-    unwritten(b"43 drops in 1,023 bytes", &calls, 1023);
-    unwritten(b"11 bytes in none", &calls[0..11], 0);
-}
-
-// Calls that the writer refuses for their kind, for the bytes behind it, or for the value or address of a write; a write's highest value is accepted.
-fn first_fields() {
-    second(b"kind 0", 0, 0, 0);
-    second(b"kind 6", 6, 0, 0);
-    second(b"third byte 1", 0x00010004, 0, 0);
-    second(b"fourth byte 1", 0x01000004, 0, 0);
-    second(b"write of FFFF", 0x1001, 0, 0xFFFF);
-    second(b"write of 10000", 0x1001, 0, 0x10000);
-    second(b"write with an address", 0x1001, 1, 0);
-}
-
-// Calls that the writer refuses for a field that their kind does not use, and a request for an access over 1.
-fn last_fields() {
-    second(b"read with an address", 0x1002, 1, 0);
-    second(b"read with a value", 0x1002, 0, 1);
-    second(b"request with access 2", 0x0203, 0, 0);
-    second(b"request with a value", 0x0103, 0, 1);
-    second(b"drop with an access", 0x0104, 0, 0);
-    second(b"drop with an address", 4, 1, 0);
-    second(b"drop with a value", 4, 0, 1);
-    second(b"shift with an access", 0x0105, 0, 0);
-    second(b"shift with a value", 5, 0, 1);
-}
-
 // A call of three words behind a drop, so call 1, written.
-fn second(label: &[u8], first: u32, address: u32, value: u32) {
+fn second(label: &[u8], call: &[u32; 3]) {
     let mut calls = [0u8; 24];
-    wire::put(&mut calls, 0, &[4, 0, 0, first, address, value]);
+    wire::put(&mut calls, 0, &[4, 0, 0]);
+    wire::put(&mut calls, 12, call);
     unwritten(label, &calls, 1024);
 }
 
 // Calls written in the first bytes of 1,024, what was answered, and whether all bytes are as before.
-fn unwritten(label: &[u8], calls: &[u8], room: usize) {
+fn unwritten(label: &[u8], calls: &[u8], room: usize)
+    requires { room ≤ 1024 }
+{
     let before = [0xEEu8; 1024];
     let mut m = before;
     show::text(label);
-    write_in(calls, &mut m, room);
-    show::answer(b" unchanged", same(&m, &before));
+    answered(recording::write(calls, &mut m[..room]));
+    show::answer(b" unchanged", m == before);
 }
 
-// Calls written in the first bytes of a memory, and what was answered.
-fn write_in(calls: &[u8], m: &mut [u8], room: usize) {
-    if room <= m.len() {
-        answered(recording::write(calls, &mut m[0..room]));
-    }
-}
-
-// The two blocks of 43 drops, which are damaged below: block 1, with the number at 512, its drop at 516 and zeros from 528 up to 1,020.
-fn blocks(calls: [u8; 516]) -> [u8; 1024] {
+// The two blocks of 43 drops, which are damaged below: block 1, with the number at 512, its drop at 516 and zeros
+// from 528 up to 1,020.
+fn blocks(calls: &[u8]) -> [u8; 1024] {
     let mut m = [0u8; 1024];
-    recording::write(&calls, &mut m);
+    let _ = recording::write(calls, &mut m);
     m
 }
 
@@ -193,11 +184,19 @@ fn blocks(calls: [u8; 516]) -> [u8; 1024] {
 fn damaged(m: [u8; 1024], at: usize, words: &[u32]) -> [u8; 1024] {
     let mut out = m;
     wire::put(&mut out, at, words);
-    let first = crc::crc32(&out[0..508]);
-    wire::put(&mut out, 508, &[first]);
-    let last = crc::crc32(&out[512..1020]);
-    wire::put(&mut out, 1020, &[last]);
+    let (first, last) = out.split_at_mut(512);
+    put_check(first);
+    put_check(last);
     out
+}
+
+// The check of a block put right.
+fn put_check(block: &mut [u8])
+    requires { 512 ≤ length block.old }
+{
+    let (body, _) = block.split_at(508);
+    let check = crc::crc32(body);
+    wire::put(block, 508, &[check]);
 }
 
 // The drop made a shift report, which by itself is a call, and the check CA4F9B3E made odd; neither check is put right.
@@ -231,51 +230,50 @@ fn bodies(m: [u8; 1024]) {
 }
 
 // Block 1 without its last byte, and with its first alone.
-fn ends(m: [u8; 1024]) {
-    refused(b"511 bytes at the end", &m[0..1023], 42);
-    refused(b"one byte at the end", &m[0..513], 42);
+fn ends(m: &[u8; 1024]) {
+    refused(b"511 bytes at the end", &m[..1023], 42);
+    refused(b"one byte at the end", &m[..513], 42);
 }
 
-// Block 0 with 41 calls, the last of its drops taken away at 496: block 1 may not follow it, and by itself it is a recording.
-fn behind(m: [u8; 1024], calls: [u8; 516]) {
+// Block 0 with 41 calls, the last of its drops taken away at 496: block 1 may not follow it, and by itself it is a
+// recording.
+fn behind(m: [u8; 1024], calls: &[u8; 516]) {
     let fewer = damaged(damaged(m, 0, &[41]), 496, &[0]);
     refused(b"behind 41 calls", &fewer, 41);
-    read(b"41 calls alone", &fewer[0..512], &calls[0..492]);
+    let (first, _) = fewer.split_at(512);
+    read(b"41 calls alone", first, &calls[..492]);
 }
 
-// Each block alone; block 0 with its first drop made a shift report; room that lacks a byte; and no room for a bad block, which is 16.
-fn parts(m: [u8; 1024], calls: [u8; 516]) {
-    read(b"block 0 alone", &m[0..512], &calls[0..504]);
-    unread(b"block 1 alone", &m[512..1024], 520);
+// Each block alone; block 0 with its first drop made a shift report; room that lacks a byte; and no room for a bad
+// block, which is 16.
+fn parts(m: [u8; 1024], calls: &[u8; 516]) {
     let mut other = m;
     wire::put(&mut other, 4, &[5]);
+    let (first, second) = m.split_at(512);
+    read(b"block 0 alone", first, &calls[..504]);
+    unread(b"block 1 alone", second, 520);
     unread(b"a bit of block 0 turned", &other, 520);
     unread(b"43 drops in 515 bytes", &m, 515);
-    unread(b"block 1 alone in none", &m[512..1024], 0);
+    unread(b"block 1 alone in none", second, 0);
 }
 
 // A recording that is refused for block 1, and what is wrong with that behind one block of so many calls.
-fn refused(label: &[u8], r: &[u8], calls: usize) {
+fn refused(label: &[u8], r: &[u8], calls: usize)
+    requires { 512 ≤ length r.now }
+{
     unread(label, r, 520);
-    if r.len() >= 512 {
-        taken(b" taken", Progress { blocks: 1, calls }, &r[512..]);
-    }
+    taken(b" taken", Progress { blocks: 1, calls }, &r[512..]);
 }
 
 // A recording read into the first bytes of 520, what was answered, and whether all bytes are as before.
-fn unread(label: &[u8], r: &[u8], room: usize) {
+fn unread(label: &[u8], r: &[u8], room: usize)
+    requires { room ≤ 520 }
+{
     let before = [0xEEu8; 520];
     let mut m = before;
     show::text(label);
-    read_in(r, &mut m, room);
-    show::answer(b" unchanged", same(&m, &before));
-}
-
-// A recording read into the first bytes of a memory, and what was answered.
-fn read_in(r: &[u8], m: &mut [u8], room: usize) {
-    if room <= m.len() {
-        answered(recording::read(r, &mut m[0..room]));
-    }
+    answered(recording::read(r, &mut m[..room]));
+    show::answer(b" unchanged", m == before);
 }
 
 // A recording read into 520 bytes, what was answered, and whether they are these calls then and EE behind them.
@@ -285,15 +283,15 @@ fn read(label: &[u8], r: &[u8], calls: &[u8]) {
     wire::put_bytes(&mut meant, 0, calls);
     show::text(label);
     answered(recording::read(r, &mut m));
-    show::answer(b" the same", same(&m, &meant));
+    show::answer(b" the same", m == meant);
 }
 
 // An answer of the writer or the reader.
-fn answered(w: Written) {
+fn answered(w: Result<usize, RecordingError>) {
     match w {
-        Written::Length(n) => numbered(0, n),
-        Written::Bad(i) => numbered(16, i),
-        Written::TooShort(n) => numbered(12, n),
+        Ok(n) => numbered(0, n),
+        Err(RecordingError::Bad(i)) => numbered(16, i),
+        Err(RecordingError::TooShort(n)) => numbered(12, n),
     }
 }
 
@@ -304,41 +302,32 @@ fn numbered(k: u64, n: usize) {
     show::number(n as u64);
 }
 
-// Whether two memories of as many whole words are equal.
-fn same(a: &[u8], b: &[u8]) -> bool {
-    let c = parting::compare(a, b);
-    match c {
-        Comparison::BadLength => return false,
-        Comparison::Parted(_, _, words) => return words == 0,
-    }
-}
-
 // The blocks of 43 drops taken one after another, each with its calls, and a block behind the last.
-fn carried(m: [u8; 1024]) {
-    let one = taken(b"block 0", Progress::start(), &m[0..512]);
-    called(&m[0..512]);
+fn carried(m: &[u8; 1024]) {
+    let one = taken(b"block 0", Progress::start(), &m[..512]);
+    called(&m[..512]);
     let two = taken(b"block 1 behind it", one, &m[512..1024]);
     called(&m[512..1024]);
     taken(b"block 1 again", two, &m[512..1024]);
 }
 
 // Blocks whose number is not the next.
-fn misplaced(m: [u8; 1024]) {
+fn misplaced(m: &[u8; 1024]) {
     taken(
         b"block 0 behind block 0",
         Progress {
             blocks: 1,
             calls: 42,
         },
-        &m[0..512],
+        &m[..512],
     );
     taken(b"block 1 at the start", Progress::start(), &m[512..1024]);
 }
 
 // The block of the last number behind as many full blocks (calls 29FFD6), and a block more.
-fn most(calls: [u8; 516]) {
+fn most(calls: &[u8; 516]) {
     let mut m = [0u8; 512];
-    recording::write_block(65535, &calls[0..504], &mut m);
+    recording::write_block(65535, &calls[..504], &mut m);
     let all = taken(
         b"block FFFF behind FFFF blocks",
         Progress {
@@ -358,20 +347,20 @@ fn called(b: &[u8]) {
     show::end();
 }
 
-// A block taken behind what is carried, and what is carried on: blocks and calls; or the start, where something is wrong.
+// A block taken behind what is carried, and what is carried on: blocks and calls; or the start, where something is
+// wrong.
 fn taken(label: &[u8], p: Progress, block: &[u8]) -> Progress {
     show::text(label);
     show::text(b":");
-    let t = p.take(block);
-    match t {
-        Taken::Next(q) => {
+    match p.take(block) {
+        Ok(q) => {
             show::numbers(q.blocks as u64, q.calls as u64);
             show::end();
-            return q;
+            q
         }
-        Taken::Refused(f) => {
+        Err(f) => {
             named(f);
-            return Progress::start();
+            Progress::start()
         }
     }
 }

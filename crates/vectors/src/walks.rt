@@ -1,106 +1,102 @@
 // What `walk` answers for values worked out by hand from the paper: the file `stdout` has them, in hexadecimal.
-// A line has the base of the walk and the virtual address; then how many words were read and for each its address and its
-// place: 1 and an index on chip, 2 and an index in the external memory; then what was found: 1, the page's type bits, its
-// base, its access bits and the physical address; 0 where there is no page; 2 where a word is missing.
+// A line has the base of the walk and the virtual address; then how many words were read and for each its address and
+// its place: 1 and an index on chip, 2 and an index in the external memory; then what was found: 1, the page's type
+// bits, its base, its access bits and the physical address; 0 where there is no page; 2 where a word is missing.
 // The next line has the answer where the memories are not tried for refusal 4.
-use memory::{Place, Reads, Source};
+use memory::{Memories, Place, Reads, Source};
 use page::{PhysicalAddress, VirtualAddress};
-use walk::{Found, Page, Walked};
+use walk::{Page, Unfound, Walked};
 
 pub(crate) fn show_all() {
     let image = image();
-    let zero = [0u8; 16];
-    walks(&image, &zero);
-    few(&image, &zero);
+    walks(&image);
     distance(0x10022345, 0x012345, 0x10010000);
     distance(0, 0xFFFC00, -16776192);
     distance(0xFFFFFFFF, 0, 4294967295);
 }
 
-// Words of list A's image, placed at 20000000: words of the first table; words 16, 18 and 31 of the coarse table at word
-// 256, and beside them a tiny and a small one; word 1 of the fine table at word 1024, and beside it a small and a large one, with
-// bits above the type that are ignored.
+// Words of list A's image, placed at 20000000: words of the first table; words 16, 18 and 31 of the coarse table at
+// word 256, and beside them a tiny and a small one; word 1 of the fine table at word 1024, and beside it a small and
+// a large one, with bits above the type that are ignored.
 fn image() -> [u8; 8192] {
-    let m = put(
-        put(put([0u8; 8192], 0, 0x20000401), 3, 0x11200802),
-        5,
-        0x20001003,
-    );
-    let m = put(
-        put(put(m, 272, 0x10020031), 274, 0x10020031),
-        287,
-        0x10020031,
-    );
-    let m = put(put(m, 288, 0x10030033), 289, 0x10031022);
-    put(
-        put(put(m, 1025, 0x10000C33), 1027, 0x10002C32),
-        1028,
-        0x1004F021,
-    )
+    let mut m = [0u8; 8192];
+    for (i, w) in [
+        (0, 0x20000401),
+        (3, 0x11200802),
+        (5, 0x20001003),
+        (272, 0x10020031),
+        (274, 0x10020031),
+        (287, 0x10020031),
+        (288, 0x10030033),
+        (289, 0x10031022),
+        (1025, 0x10000C33),
+        (1027, 0x10002C32),
+        (1028, 0x1004F021),
+    ] {
+        put(&mut m, i, w);
+    }
+    m
 }
 
-// An image with one of its words set.
-fn put(m: [u8; 8192], i: usize, w: u32) -> [u8; 8192] {
-    let mut out = m;
-    let at = i % 2048 * 4;
-    out[at] = (w % 256) as u8;
-    out[at + 1] = (w / 256 % 256) as u8;
-    out[at + 2] = (w / 65536 % 256) as u8;
-    out[at + 3] = (w / 16777216) as u8;
-    out
+// One of an image's words set.
+fn put(m: &mut [u8], i: u16, w: u32) {
+    wire::put(m, 4 * (i as usize), &[w]);
 }
 
-// The bench sheet's addresses, with the image as the external memory; then a coarse table's tiny word, which is no page,
-// its small one, and a fine table's small and large ones.
-// Then the image as the on-chip memory, walks from other bases, and refusal 4.
-fn walks<'a>(image: &'a [u8], zero: &'a [u8]) {
-    walked(zero, 0x1000, image, 0x20000000, 0x20000000, 0x010000);
-    walked(zero, 0x1000, image, 0x20000000, 0x20000000, 0x012345);
-    walked(zero, 0x1000, image, 0x20000000, 0x20000000, 0x01FFFF);
-    walked(zero, 0x1000, image, 0x20000000, 0x20000000, 0x3ABCDE);
-    walked(zero, 0x1000, image, 0x20000000, 0x20000000, 0x5007FF);
-    walked(zero, 0x1000, image, 0x20000000, 0x20000000, 0x500800);
-    walked(zero, 0x1000, image, 0x20000000, 0x20000000, 0xFFFFFF);
-    walked(zero, 0x1000, image, 0x20000000, 0x20000000, 0x020000);
-    walked(zero, 0x1000, image, 0x20000000, 0x20000000, 0x021234);
-    walked(zero, 0x1000, image, 0x20000000, 0x20000000, 0x500C00);
-    walked(zero, 0x1000, image, 0x20000000, 0x20000000, 0x501000);
-    walked(image, 0x20000000, zero, 0x1000, 0x20000000, 0x012345);
-    walked(image, 0x20000000, zero, 0x1000, 0x2000007F, 0x012345);
-    walked(image, 0x20000000, zero, 0x1000, 0x20000080, 0x012345);
-    walked(image, 0x20000000, zero, 0x1000, 0x1000, 0x012345);
-    walked(image, 0x20000000, zero, 0x1000, 0x30000000, 0x012345);
-    walked(image, 0x20000000, zero, 0x20000000, 0x20000000, 0x3ABCDE);
-}
-
-// The image's first 64 bytes.
-fn few<'a>(image: &'a [u8; 8192], zero: &'a [u8]) {
-    let whole = &image[..];
-    let first = &whole[0..64];
-    walked(first, 0x20000000, zero, 0x1000, 0x20000000, 0x3ABCDE);
-    walked(first, 0x20000000, zero, 0x1000, 0x20000000, 0x012345);
+// The bench sheet's addresses, with the image as the external memory; then a coarse table's tiny word, which is no
+// page, its small one, and a fine table's small and large ones.
+// Then the image as the on-chip memory, walks from other bases, and refusal 4; and the image's first 64 bytes.
+fn walks(image: &[u8; 8192]) {
+    let outside = Memories {
+        on: &[0u8; 16],
+        onbase: PhysicalAddress(0x1000),
+        ext: image,
+        extbase: PhysicalAddress(0x20000000),
+    };
+    for va in [
+        0x010000, 0x012345, 0x01FFFF, 0x3ABCDE, 0x5007FF, 0x500800, 0xFFFFFF, 0x020000, 0x021234,
+        0x500C00, 0x501000,
+    ] {
+        walked(&outside, 0x20000000, va);
+    }
+    let onchip = Memories {
+        on: image,
+        onbase: outside.extbase,
+        ext: outside.on,
+        extbase: outside.onbase,
+    };
+    for base in [0x20000000, 0x2000007F, 0x20000080, 0x1000, 0x30000000] {
+        walked(&onchip, base, 0x012345);
+    }
+    let meeting = Memories {
+        extbase: onchip.onbase,
+        ..onchip
+    };
+    walked(&meeting, 0x20000000, 0x3ABCDE);
+    let few = Memories {
+        on: &image[..64],
+        ..onchip
+    };
+    walked(&few, 0x20000000, 0x3ABCDE);
+    walked(&few, 0x20000000, 0x012345);
 }
 
 // A walk, then the same with the memories not tried for refusal 4.
-fn walked<'a>(on: &'a [u8], onbase: u32, ext: &'a [u8], extbase: u32, base: u32, va: u32) {
+fn walked(memories: &Memories, base: u32, va: u32) {
     let from = PhysicalAddress(base);
     let at = VirtualAddress(va);
     show::words(b"walk", base, va);
-    let b = PhysicalAddress(onbase);
-    let c = PhysicalAddress(extbase);
-    told(walk::walk(on, b, ext, c, from, at), va);
-    told(walk::walk_within(on, b, ext, c, from, at), va);
+    told(walk::walk(memories, from, at), va);
+    told(walk::walk_within(memories, from, at), va);
 }
 
 // The words that a walk read and what it found.
 fn told(w: Walked, va: u32) {
-    let reads = w.reads;
-    words(reads);
-    let found = w.found;
-    match found {
-        Found::Page(p) => page(p, va),
-        Found::NoPage => show::value(0),
-        Found::Missing => show::value(2),
+    words(w.reads);
+    match w.found {
+        Ok(p) => page(p, va),
+        Err(Unfound::NoPage) => show::value(0),
+        Err(Unfound::Missing) => show::value(2),
     }
 }
 
@@ -119,18 +115,16 @@ fn words(reads: Reads) {
 
 // A page and the physical address.
 fn page(p: Page, va: u32) {
-    let kind = p.kind;
     let physical = walk::descriptors::physical(p, VirtualAddress(va));
-    show::numbers(1, page::type_of(kind) as u64);
+    show::numbers(1, page::type_of(p.kind) as u64);
     show::numbers(p.frame.0 as u64, p.access as u64);
     show::value(physical.0 as u64);
 }
 
 // A word's address and the place that holds it.
 fn source(s: Source) {
-    let at = s.place;
     show::number(s.at.0 as u64);
-    place(at);
+    place(s.place);
 }
 
 // A place: 1 and an offset on chip, 2 and an offset in the external memory.

@@ -1,5 +1,7 @@
 -- What the descriptors give. Assumes nothing.
-use Rattle.walk.specs.Names.{◌≡◌, false, ℕ, ◌/◌, ◌%◌, ◌^◌, ◌<◌, low_bits, Kind, VirtualAddress, Page, First, Found, Table}
+use Rattle.std.proofs.Common.{Result, Ok, Err}
+use Rattle.walk.specs.declared.Unfound.{Unfound}
+use Rattle.walk.specs.Names.{◌≡◌, false, ℕ, ◌/◌, ◌%◌, ◌^◌, ◌<◌, low_bits, Kind, VirtualAddress, Page, First, Table}
 use Rattle.walk.proofs.Names.{refl, sym, ◌∙◌, subst, arith, ne_eqb, pick_no, first_of, page_of, second_of, physical_of, Room}
 use Rattle.walk.proofs.Names.{ProperFirst, Proper, is_missing}
 use lib.Dec.{lit≤, lit<}
@@ -13,10 +15,10 @@ use Rattle.walk.specs.Distances.{ProperPage}
 use Rattle.walk.specs.Repeated.{word_bits}
 
 -- in a coarse table a word that is neither large nor small is no page
-pub coarse-none : (w : ℕ) → (w % 4 ≡ 1 → ⊥) → (w % 4 ≡ 2 → ⊥) → Found.NoPage ≡ second_of Table.Coarse w
+pub coarse-none : (w : ℕ) → (w % 4 ≡ 1 → ⊥) → (w % 4 ≡ 2 → ⊥) → Err Unfound.NoPage ≡ second_of Table.Coarse w
 unfolding second_of
 coarse-none w x y =
-    pick_by (λ (f : Found). Found.NoPage ≡ f) _ _ _ (λ _. refl)
+    pick_by (λ (f : Result Page Unfound). Err Unfound.NoPage ≡ f) _ _ _ (λ _. refl)
     (λ _. sym (pick_no _ _ _ (ne_eqb _ _ x) ∙ pick_no _ _ _ (ne_eqb _ _ y)))
 
 word_bits_lem : (t : Table) → word_bits t ≤ 12
@@ -24,9 +26,9 @@ word_bits_lem Table.Coarse = lit≤ tt
 word_bits_lem Table.Fine = lit≤ tt
 
 -- what holds of no page, and of the page of each kind that a word may say in a table, holds of what it says
-module _ (P : Found → Type 0) (w : ℕ) (none : P Found.NoPage) where
+module _ (P : Result Page Unfound → Type 0) (w : ℕ) (none : P (Err Unfound.NoPage)) where
   abbrev Pages : Table → Type 0
-  Pages t = (k : Kind) → word_bits t ≤ low_bits k → w % 4 ≡ type_of k → P (Found.Page (page_of k w))
+  Pages t = (k : Kind) → word_bits t ≤ low_bits k → w % 4 ≡ type_of k → P (Ok (page_of k w))
 
   tiny_by : (t : Table) → Pages t → w % 4 ≡ 3 → P (tiny_in t w)
   tiny_by Table.Coarse page e = none
@@ -41,12 +43,12 @@ module _ (P : Found → Type 0) (w : ℕ) (none : P Found.NoPage) where
       (λ z. tiny_by t page (omega (arith, eqb-false (w % 4) 0 x, eqb-false (w % 4) 1 y, eqb-false (w % 4) 2 z)))))
 
 -- a page has at least the addresses of a word of its table, and the word says its kind by its two lowest bits
-abbrev PageSaid : Table → ℕ → Found → Type 0
-PageSaid t w (Found.Page p) = (word_bits t ≤ low_bits p.kind) × (w % 4 ≡ type_of p.kind)
-PageSaid t w Found.NoPage = Unit
-PageSaid t w Found.Missing = Unit
+abbrev PageSaid : Table → ℕ → Result Page Unfound → Type 0
+PageSaid t w (Ok p) = (word_bits t ≤ low_bits p.kind) × (w % 4 ≡ type_of p.kind)
+PageSaid t w (Err Unfound.NoPage) = Unit
+PageSaid t w (Err Unfound.Missing) = Unit
 
-pub second_says : (t : Table) (w : ℕ) (p : Page) → second_of t w ≡ Found.Page p → (word_bits t ≤ low_bits p.kind) × (w % 4 ≡ type_of p.kind)
+pub second_says : (t : Table) (w : ℕ) (p : Page) → second_of t w ≡ Ok p → (word_bits t ≤ low_bits p.kind) × (w % 4 ≡ type_of p.kind)
 second_says t w p e = subst (PageSaid t w) e (second_by (PageSaid t w) w tt t (λ k h e. (h, e)))
 
 -- a first-level word's table ends below 2^32
@@ -84,7 +86,7 @@ module _ (p : Page) (va : VirtualAddress) where
 
 -- a second-level word is not missing
 pub second-there : (t : Table) (w : ℕ) → false ≡ is_missing (second_of t w)
-second-there t w = second_by (λ (f : Found). false ≡ is_missing f) w refl t (λ _ _ _. refl)
+second-there t w = second_by (λ (f : Result Page Unfound). false ≡ is_missing f) w refl t (λ _ _ _. refl)
 
 -- a first-level word that gives a page gives a section
 abbrev pub SectionFirst : First → Type 0

@@ -1,6 +1,5 @@
 -- What the proofs of this crate are written with.
-pub use borrow.Author.Rules.{rules}
-pub use borrow.Author.Tests.{eq-eqb, ne_eqb}
+pub use borrow.Author.Tests.{ne_eqb}
 pub use mathlib.Core.Path.{◌∙◌, ap, ap₂, refl, subst, sym}
 pub use native.Mathlib.Omega.{arith}
 pub use Rattle.page.proofs.Picks.{pick_no, pick_yes}

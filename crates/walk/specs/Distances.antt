@@ -1,6 +1,7 @@
 -- What the laws of the descriptors speak of (01, "The walk").
-use Rattle.std.specs.Prelude.{◌<◌, ◌≡◌}
-use Rattle.walk.specs.Names.{Bool, true, false, upper, low_bits, Page, First, Found}
+use Rattle.std.specs.Prelude.{Result, Ok, Err, ◌<◌, ◌≡◌}
+use Rattle.walk.specs.declared.Unfound.{Unfound}
+use Rattle.walk.specs.Names.{Bool, true, false, upper, low_bits, Page, First}
 
 -- a page starts at its frame and has two bits of access
 abbrev pub ProperPage : Page → Type 0
@@ -14,13 +15,13 @@ ProperFirst (First.Coarse t) = Unit
 ProperFirst (First.Fine t) = Unit
 
 -- a page that was found does
-abbrev pub Proper : Found → Type 0
-Proper (Found.Page p) = ProperPage p
-Proper Found.NoPage = Unit
-Proper Found.Missing = Unit
+abbrev pub Proper : Result Page Unfound → Type 0
+Proper (Ok p) = ProperPage p
+Proper (Err Unfound.NoPage) = Unit
+Proper (Err Unfound.Missing) = Unit
 
 -- a word is missing
-abbrev pub is_missing : Found → Bool
-is_missing (Found.Page p) = false
-is_missing Found.NoPage = false
-is_missing Found.Missing = true
+abbrev pub is_missing : Result Page Unfound → Bool
+is_missing (Ok p) = false
+is_missing (Err Unfound.NoPage) = false
+is_missing (Err Unfound.Missing) = true

@@ -2,16 +2,14 @@
 ghost use Rattle.std.specs.Prelude.{◌≡◌};
 ghost use Rattle.walk.specs.Descriptors.{section_of, first_of, page_of, second_of, physical_of, distance_of};
 
-use crate::{First, Found, Page, Table};
+use crate::{First, Page, Table, Unfound};
 use page::{Kind, PhysicalAddress, VirtualAddress};
 
 // A page's upper bits and an address's lower ones.
 pub fn physical(p: Page, va: VirtualAddress) -> PhysicalAddress
     ensures { result ≡ physical_of p va }
 {
-    let kind = p.kind;
-    let frame = p.frame;
-    page::join(kind, frame, va)
+    page::join(p.kind, p.frame, va)
 }
 
 // Physical minus virtual.
@@ -25,23 +23,23 @@ pub fn distance(p: PhysicalAddress, v: VirtualAddress) -> i64
 fn section_of(w: u32) -> Page
     ensures { result ≡ section_of w }
 {
-    let frame = page::page_start(Kind::Section, w);
     Page {
         kind: Kind::Section,
-        frame: PhysicalAddress(frame),
+        frame: PhysicalAddress(page::page_start(Kind::Section, w)),
         access: w / 1024 % 4,
     }
 }
 
 // What a first-level word says.
+#[tactic(auto, unfolding(crate::specs::Descriptors::first_of, crate::specs::Names::pick, page::specs::Low::upper))]
 pub fn decode_first(w: u32) -> First
     ensures { result ≡ first_of w }
 {
     match w % 4 {
-        0 => return First::Fault,
-        1 => return First::Coarse(PhysicalAddress(w / 1024 * 1024)),
-        2 => return First::Whole(section_of(w)),
-        _ => return First::Fine(PhysicalAddress(w / 4096 * 4096)),
+        0 => First::Fault,
+        1 => First::Coarse(PhysicalAddress(w / 1024 * 1024)),
+        2 => First::Whole(section_of(w)),
+        _ => First::Fine(PhysicalAddress(w / 4096 * 4096)),
     }
 }
 
@@ -49,29 +47,22 @@ pub fn decode_first(w: u32) -> First
 fn page_of(kind: Kind, w: u32) -> Page
     ensures { result ≡ page_of kind w }
 {
-    let frame = page::page_start(kind, w);
     Page {
-        kind: kind,
-        frame: PhysicalAddress(frame),
+        kind,
+        frame: PhysicalAddress(page::page_start(kind, w)),
         access: w / 16 % 4,
     }
 }
 
 // What a second-level word says: a coarse table has no tiny page.
-pub fn decode_second(table: Table, w: u32) -> Found
+#[tactic(auto, unfolding(crate::specs::Descriptors::second_of, crate::specs::Names::pick))]
+pub fn decode_second(table: Table, w: u32) -> Result<Page, Unfound>
     ensures { result ≡ second_of table w }
 {
-    match table {
-        Table::Coarse => match w % 4 {
-            1 => return Found::Page(page_of(Kind::Large, w)),
-            2 => return Found::Page(page_of(Kind::Small, w)),
-            _ => return Found::NoPage,
-        },
-        Table::Fine => match w % 4 {
-            0 => return Found::NoPage,
-            1 => return Found::Page(page_of(Kind::Large, w)),
-            2 => return Found::Page(page_of(Kind::Small, w)),
-            _ => return Found::Page(page_of(Kind::Tiny, w)),
-        },
+    match (w % 4, table) {
+        (1, _) => Ok(page_of(Kind::Large, w)),
+        (2, _) => Ok(page_of(Kind::Small, w)),
+        (3, Table::Fine) => Ok(page_of(Kind::Tiny, w)),
+        _ => Err(Unfound::NoPage),
     }
 }

@@ -1,5 +1,4 @@
 -- What the proofs of this crate are written with.
-pub use borrow.Author.Rules.{rules}
 pub use borrow.Author.Tests.{le-leb, leb-true, lt-leb}
 pub use lib.ListN.{length-append, length-drop, take-append-drop}
 pub use lib.Seq.{length-take-le}

@@ -1,5 +1,5 @@
 -- Words read from their bytes. Assumes nothing.
-use Rattle.wire.specs.Names.{◌≡◌, ◌≤◌, List, ◌++◌, ℕ, zero, suc, ◌+◌, ◌-◌, ◌*◌, ◌/◌, ◌%◌, ◌^◌, get_or, length, take, drop}
+use Rattle.wire.specs.Names.{◌≡◌, ◌≤◌, List, ◌++◌, ℕ, zero, suc, ◌+◌, ◌-◌, ◌*◌, ◌/◌, ◌%◌, ◌^◌, get_or, leb, length, take, drop}
 use Rattle.wire.proofs.Names.{◌<◌, ◌∙◌, sym, ap, dec_le, le-leb, pick_yes, arith, length-drop, lt-leb, pick_no, word_bytes, word_of}
 use mathlib.Core.Path.{subst}
 use lib.Dec.{lit<}
@@ -12,6 +12,25 @@ use Rattle.wire.specs.Words.{little_endian, word_at, Bytes}
 pub word_none : (s : List ℕ) (at : ℕ) → length s < at + 4 → word_at s at ≡ 0
 unfolding word_of
 word_none s at h = let a = length-take 4 (drop at s) in let b = length-drop at s in pick_no _ _ _ (lt-leb 4 (length (take 4 (drop at s))) (omega arith))
+
+-- a part's word is that of its first four bytes
+pub word_first : (l : List ℕ) → word_of l ≡ word_of (take 4 l)
+unfolding word_of
+word_first l = elim (dec_le 4 (length l)) [
+  | yes h ↦
+      let e₀ : get_or (take 4 l) 0 0 ≡ get_or l 0 0 = get_or-take 4 l 0 0 (lit< tt) in
+      let e₁ : get_or (take 4 l) 1 0 ≡ get_or l 1 0 = get_or-take 4 l 1 0 (lit< tt) in
+      let e₂ : get_or (take 4 l) 2 0 ≡ get_or l 2 0 = get_or-take 4 l 2 0 (lit< tt) in
+      let e₃ : get_or (take 4 l) 3 0 ≡ get_or l 3 0 = get_or-take 4 l 3 0 (lit< tt) in
+      let a = pick_yes (leb 4 (length l)) (little_endian (get_or l 0 0) (get_or l 1 0) (get_or l 2 0) (get_or l 3 0)) 0 (le-leb 4 (length l) h) in
+      let b =
+      pick_yes (leb 4 (length (take 4 l))) (little_endian (get_or (take 4 l) 0 0) (get_or (take 4 l) 1 0) (get_or (take 4 l) 2 0) (get_or (take 4 l) 3 0)) 0
+      (le-leb 4 (length (take 4 l)) (omega (arith, length-take 4 l))) in
+      cc
+  | no h ↦
+      pick_no _ _ _ (lt-leb 4 (length l) (omega arith))
+      ∙ sym (pick_no _ _ _ (lt-leb 4 (length (take 4 l)) (omega (arith, length-take 4 l))))
+]
 
 -- a word is what its four bytes say
 pub word_value : (x : ℕ) → x < 2 ^ 32 → little_endian (x % 256) (x / 256 % 256) (x / 65536 % 256) (x / 16777216 % 256) ≡ x

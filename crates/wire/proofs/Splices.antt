@@ -1,12 +1,11 @@
 -- Words written into a memory, by the byte. Assumes nothing.
 use Rattle.wire.specs.Names.{◌≡◌, List, [], ◌∷◌, ◌++◌, ℕ, zero, suc, ◌+◌, ◌*◌, ◌-◌, ◌/◌, ◌%◌, ◌≤◌, length, take, drop, get_or}
-use Rattle.wire.proofs.Names.{refl, sym, ap, ap₂, ◌∙◌, append_assoc, ◌<◌, arith, dec_le, add-one, length-append, length-drop, take-append-drop}
+use Rattle.wire.proofs.Names.{refl, sym, ap, ap₂, ◌∙◌, append_assoc, ◌<◌, arith, dec_le, length-append, length-drop, take-append-drop}
 use Rattle.wire.proofs.Names.{length-take-le, le-leb, pick_yes, word_bytes, bytes_of, placed, words_put, spliced, run_put}
 use Rattle.wire.proofs.Placing.{written_fits}
 use mathlib.Core.List.{append-nil}
-use native.Mathlib.Numerals.{add-two, add-three}
-use lib.ListN.{set, get_or-append}
-use lib.Seq.{sets-eq, get_or-append-add, get_or-take, get_or-drop, ext_get_or}
+use lib.ListN.{get_or-append}
+use lib.Seq.{get_or-append-add, get_or-take, get_or-drop, ext_get_or}
 use Rattle.wire.specs.Spliced.{bytes_by}
 
 -- byte i of the words of f
@@ -162,13 +161,6 @@ pub spliced_same : (l : List ℕ) (a k : ℕ) (f h : ℕ → ℕ) → a + 4 * k 
 spliced_same l a k f h fits e =
     sym (spliced-none (spliced l a f k) (a + 4 * 0) f)
     ∙ spliced_twice l a k 0 0 k f f h fits (omega arith) (omega arith) (λ j c d. absurd (omega arith)) (λ j c. absurd (omega arith)) (λ j c d. (d, e j d))
-
--- four stores, one after the other
-pub put_four : (l : List ℕ) (at a b c d : ℕ) → at + 4 ≤ length l
-    → set (set (set (set l at a) (at + 1) b) (at + 2) c) (at + 3) d ≡ take at l ++ (a ∷ b ∷ c ∷ d ∷ drop (at + 4) l)
-put_four l at a b c d h =
-    simp (add-one, add-two, add-three)
-    (sets-eq (a ∷ b ∷ c ∷ d ∷ []) l at h ∙ append_assoc (take at l) (a ∷ b ∷ c ∷ d ∷ []) (drop (at + 4) l))
 
 -- a word is the low 32 bits of a number
 pub low_bytes : (x q : ℕ) → word_bytes (x + 4294967296 * q) ≡ word_bytes x

@@ -5,6 +5,6 @@ pub returns-then-victim-lock : goal.returns-then-victim-lock
 unfolding next_slot
 returns-then-victim-lock c = sym (pick_yes _ _ _ (lt-ltb _ _ c.if-victim-lock.true))
 
-pub returns : goal.returns
+pub returns-else-victim-lock : goal.returns-else-victim-lock
 unfolding next_slot
-returns c = sym (pick_no _ _ _ (le-ltb _ _ c.if-victim-lock.false))
+returns-else-victim-lock c = sym (pick_no _ _ _ (le-ltb _ _ c.if-victim-lock.false))

@@ -5,6 +5,6 @@ pub returns-then-at-lt-SLOTS : goal.returns-then-at-lt-SLOTS
 unfolding next_victim
 returns-then-at-lt-SLOTS c = sym (pick_yes _ _ _ (lt-ltb _ _ c.if-at-lt-SLOTS.true))
 
-pub returns : goal.returns
+pub returns-else-at-lt-SLOTS : goal.returns-else-at-lt-SLOTS
 unfolding next_victim
-returns c = sym (pick_no _ _ _ (le-ltb _ _ c.if-at-lt-SLOTS.false))
+returns-else-at-lt-SLOTS c = sym (pick_no _ _ _ (le-ltb _ _ c.if-at-lt-SLOTS.false))

@@ -1,56 +1,22 @@
-use Rattle.calls.proofs.Names.{refl, sym, ◌∙◌, ap, and_yes, and_no, eq-eqb, ne_eqb, arith, is_good, good_calls, all_good}
-use borrow.Author.Tests.{not-true, not-false}
-use Rattle.calls.proofs.Rest.{calls-none, calls-all, good_next, bad_next}
+use Rattle.std.proofs.lemmas.Iterator.{YieldsList-from_slice}
+use Rattle.std.proofs.lemmas.Iterator.Search.{all_from_yields_List}
+use Rattle.std.specs.List.{list_all}
+use Rattle.std.specs.Simd.{first_chunks}
+use Rattle.calls.specs.Names.{◌≡◌, ◌%◌, length, false}
+use Rattle.calls.proofs.Names.{refl, sym, ◌∙◌, ap, and_yes, and_no, eq-eqb, ne_eqb, arith, call_of, is_good, all_good, nat_tests, rules}
+use Rattle.calls.specs.Records.{call_size, call_count}
+use Rattle.calls.proofs.Rest.{good_pieces}
 use Rattle.calls.proofs.all_good.Goals as goal
 
-pub returns-then-calls-ne0 : goal.returns-then-calls-ne0
+pub returns-then-is_empty : goal.returns-then-is_empty
 unfolding all_good
-returns-then-calls-ne0 c = sym (and_no _ _ (ne_eqb _ _ c.if-calls-ne0.true))
-
-pub count-n-requires : goal.count-n-requires
-count-n-requires c = tt
-
-pub loop-i-init : goal.loop-i-init
-loop-i-init c = (omega arith, refl)
-
-pub overflow_mul-i : goal.overflow_mul-i
-overflow_mul-i c = omega arith
-
-pub decode-requires : goal.decode-requires
-decode-requires c = tt
-
-pub is_good-requires : goal.is_good-requires
-is_good-requires c = tt
-
-pub returns-then-not-is_good : goal.returns-then-not-is_good
-unfolding all_good
-returns-then-not-is_good c =
+returns-then-is_empty c =
     let l = c.args.calls.now in
-    sym
-    (and_yes _ _ (eq-eqb _ _ c.if-calls-ne0.false)
-    ∙ sym (ap good_calls (calls-all l _ _ c.count-n.ensures))
-    ∙ c.loop-i.invariant.1
-    ∙ bad_next l _ c.loop-i.i c.loop-i-test.true (sym (ap is_good c.decode.ensures) ∙ sym c.is_good.ensures ∙ not-true _ c.if-not-is_good.true-raw))
+    let e : c.all.result ≡ list_all (λ r. is_good (call_of r)) c.as_chunks.result.0.now =
+    all_from_yields_List _ _ _ _ c.all.ensures.ran (YieldsList-from_slice c.as_chunks.result.0.now cc) (λ x b q k. search rules) in
+    let z : length l % call_size ≡ 0 = grind (arith, nat_tests) in
+    e ∙ ap (list_all (λ r. is_good (call_of r))) c.as_chunks.ensures.front ∙ good_pieces l 0 (call_count l) (omega arith) ∙ sym (and_yes _ _ (eq-eqb _ _ z))
 
-pub overflow_add-i : goal.overflow_add-i
-overflow_add-i c = omega arith
-
-pub loop-i-smaller : goal.loop-i-smaller
-loop-i-smaller c = omega arith
-
-pub loop-i-preserved : goal.loop-i-preserved
-loop-i-preserved c = (
-  omega arith,
-  c.loop-i.invariant.1 ∙ good_next c.args.calls.now _ c.loop-i.i c.loop-i-test.true
-      (sym (ap is_good c.decode.ensures) ∙ sym c.is_good.ensures ∙ not-false _ c.if-not-is_good.false-raw),
-)
-
-pub returns : goal.returns
+pub returns-else-is_empty : goal.returns-else-is_empty
 unfolding all_good
-returns c =
-    let l = c.args.calls.now in
-    sym
-    (and_yes _ _ (eq-eqb _ _ c.if-calls-ne0.false)
-    ∙ sym (ap good_calls (calls-all l _ _ c.count-n.ensures))
-    ∙ c.loop-i.invariant.1
-    ∙ ap good_calls (calls-none l _ c.loop-i.i (omega (arith, c.loop-i-test.false))))
+returns-else-is_empty c = let n : length c.args.calls.now % call_size ≡ 0 → ⊥ = grind (arith, nat_tests) in let f : c.is_empty.result ≡ false = search rules in f ∙ sym (and_no _ _ (ne_eqb _ _ n))

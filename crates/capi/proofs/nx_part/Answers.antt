@@ -1,12 +1,11 @@
-use Rattle.capi.specs.Names.{length, Comparison, ran, words_put}
+use Rattle.capi.specs.Names.{length, Option, Parting, ran, words_put}
 use Rattle.capi.proofs.Names.{rules, ap, sym, ◌∙◌, comparison_said, part_ran}
 use Rattle.page.proofs.Picks.{pick_yes, pick_no}
-use borrow.Author.Tests.{not-true, not-false}
 use Rattle.capi.proofs.nx_part.Goals as goal
 
 pub returns-then-not-room : goal.returns-then-not-room
 unfolding part_ran
-returns-then-not-room c = sym (pick_no _ _ _ (sym c.room.ensures ∙ not-true _ c.if-not-room.true-raw))
+returns-then-not-room c = sym (pick_no _ _ _ (sym c.room.ensures ∙ c.if-not-room.true))
 
 pub returns : goal.returns
 unfolding part_ran
@@ -15,5 +14,5 @@ returns c =
     ap (ran 24)
     (c.put.ensures
     ∙ ap (words_put x.out.now 0)
-    (c.comparison_words-words.ensures ∙ ap (λ (y : Comparison). comparison_said y (length x.new.now)) c.compare.ensures))
-    ∙ sym (pick_yes _ _ _ (sym c.room.ensures ∙ not-false _ c.if-not-room.false-raw))
+    (c.comparison_words-words.ensures ∙ ap (λ (y : Option Parting). comparison_said y (length x.new.now)) c.compare.ensures))
+    ∙ sym (pick_yes _ _ _ (sym c.room.ensures ∙ c.if-not-room.false))

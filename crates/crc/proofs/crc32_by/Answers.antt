@@ -1,52 +1,28 @@
-use Rattle.crc.proofs.Names.{arith, ◌∙◌}
-use Rattle.crc.proofs.Registers.{begins, goes_on, byte-taken, ends}
+use Rattle.std.proofs.Common.{subst}
+use lib.Seq.{take_all}
+use Rattle.std.proofs.lemmas.List.Sums.{fold_more}
+use Rattle.std.proofs.lemmas.Grind.{common_steps}
+use Rattle.std.specs.List.{fold}
+use Rattle.std.specs.Simd.{first_chunks}
+use Rattle.crc.specs.Names.{ℕ, ◌≡◌, ◌/◌, ◌*◌, length, take, drop, bit_xor}
+use Rattle.crc.proofs.Names.{arith, ◌∙◌, sym, ap, IsTable, byte_step, crc_from, crc32, ones}
+use Rattle.crc.proofs.Registers.{in_pieces}
 use Rattle.crc.proofs.crc32_by.Goals as goal
 
-pub returns-then-t-lt-SIZE : goal.returns-then-t-lt-SIZE
-returns-then-t-lt-SIZE c = λ h. absurd (omega (arith, h.long, c.if-t-lt-SIZE.true))
+pub loop-b-preserved : goal.loop-b-preserved
+loop-b-preserved c = λ h. grind (arith, common_steps, fold_more, c.loop-b.invariant h, c.eight-c.ensures h)
 
-pub loop-i-init : goal.loop-i-init
-loop-i-init c = (omega arith, λ _. begins c.args.bytes.now)
-
-pub overflow_sub-n : goal.overflow_sub-n
-overflow_sub-n c = omega arith
-
-pub eight-c-requires : goal.eight-c-requires
-eight-c-requires c = omega arith
-
-pub overflow_add-i : goal.overflow_add-i
-overflow_add-i c = omega arith
-
-pub loop-i-smaller : goal.loop-i-smaller
-loop-i-smaller c = omega arith
-
-pub loop-i-preserved : goal.loop-i-preserved
-loop-i-preserved c =
-    let at = c.loop-i in
-    (omega arith, λ h. goes_on 8 c.args.bytes.now at.i at.c c.eight-c.result (at.invariant.1 h) (c.eight-c.ensures h))
-
-pub loop-i-2-init : goal.loop-i-2-init
-loop-i-2-init c = c.loop-i.invariant
-
-pub bounds-bytes-i : goal.bounds-bytes-i
-bounds-bytes-i c = omega arith
-
-pub one-c-requires : goal.one-c-requires
-one-c-requires c = omega arith
-
-pub overflow_add-i-in-loop-i-2 : goal.overflow_add-i-in-loop-i-2
-overflow_add-i-in-loop-i-2 c = omega arith
-
-pub loop-i-2-smaller : goal.loop-i-2-smaller
-loop-i-2-smaller c = omega arith
-
-pub loop-i-2-preserved : goal.loop-i-2-preserved
-loop-i-2-preserved c =
-    let l = c.args.bytes.now in
-    let at = c.loop-i-2 in
-    (omega arith, λ h. goes_on 1 l at.i at.c c.one-c.result (at.invariant.1 h) (c.one-c.ensures h ∙ byte-taken at.c l at.i (omega arith)))
+pub loop-b-2-preserved : goal.loop-b-2-preserved
+loop-b-2-preserved c = λ h. grind (arith, common_steps, fold_more, c.loop-b-2.invariant h, c.one-c.ensures h)
 
 pub returns : goal.returns
-returns c =
-    let at = c.loop-i-2 in
-    λ h. ends c.args.bytes.now at.i at.c (omega (arith, c.loop-i-2-test.false)) (at.invariant.1 h)
+returns c = λ h.
+    let p = c.as_chunks in
+    let l = c.args.bytes.now in
+    let a = c.loop-b in
+    let b = c.loop-b-2 in
+    let t : IsTable c.in-Some.t.now = subst IsTable (sym c.in-Some.ensures.cases.same) (let e : take 2048 c.args.t.now ≡ c.args.t.now = take_all 2048 c.args.t.now (omega (arith, h.long)) in subst IsTable (sym e) h) in
+    let first : a.c ≡ fold crc_from ones (first_chunks 8 (length l / 8) l) =
+    a.invariant t ∙ ap (fold crc_from ones) (take_all _ _ c.loop-b-test.false ∙ p.ensures.front) in
+    let then : b.c ≡ fold byte_step a.c (drop (length l / 8 * 8) l) = b.invariant t ∙ ap (fold byte_step a.c) (take_all _ _ c.loop-b-2-test.false ∙ p.ensures.back) in
+    ap (λ (x : ℕ). bit_xor x ones) (then ∙ ap (λ (x : ℕ). fold byte_step x (drop (length l / 8 * 8) l)) first) ∙ in_pieces (length l / 8) l

@@ -1,4 +1,10 @@
 -- What the definitions of this crate are written with.
+pub use Rattle.audit.specs.declared.ListError.{ListError}
+pub use Rattle.audit.specs.declared.ImageError.{ImageError}
+pub use Rattle.builder.specs.declared.BuildError.{BuildError}
+pub use Rattle.std.specs.Prelude.{Result, Ok, Err}
+pub use Rattle.records.specs.declared.Denial.{Denial}
+pub use Rattle.std.specs.Prelude.{Option, Some, None}
 pub use Rattle.std.specs.Prelude.{◌%◌, ◌*◌, ◌++◌, ◌+◌, ◌-◌, ◌<◌, ◌∷◌, ◌≡◌}
 unfoldable pub use Rattle.audit.specs.Check.{check_of, image_ok, table_in}
 pub use Rattle.audit.specs.Check.{verdict_number, verdict_value}
@@ -7,14 +13,11 @@ pub use Rattle.audit.specs.List.{inventory_number, inventory_value}
 unfoldable pub use Rattle.audit.specs.List.{list_of}
 pub use Rattle.audit.specs.Pages.{pages_in}
 pub use Rattle.audit.specs.Statements.{AcceptedExactly}
-pub use Rattle.audit.specs.declared.Inventory.{Inventory}
-pub use Rattle.audit.specs.declared.Verdict.{Verdict}
 pub use Rattle.bill.specs.Bill.{f1, fresh_bill}
 unfoldable pub use Rattle.bill.specs.Bill.{money_ok}
 unfoldable pub use Rattle.builder.specs.Build.{answer_of, build_of, room_ok}
 pub use Rattle.builder.specs.Build.{built_number, built_value}
 unfoldable pub use Rattle.builder.specs.Image.{image}
-pub use Rattle.builder.specs.declared.Built.{Built}
 pub use Rattle.coherence.specs.Agreement.{plain}
 pub use Rattle.coherence.specs.Sessions.{Admitted, BilledCall, after, asked, asks}
 pub use Rattle.coherence.specs.Started.{StartedInAnyOrder, TurnsOn, start}
@@ -38,9 +41,9 @@ unfoldable pub use Rattle.records.specs.Meanings.{meaning}
 pub use Rattle.records.specs.Meanings.{meaning_number, meaning_values}
 unfoldable pub use Rattle.records.specs.Refusals.{bad, overlapping}
 pub use Rattle.records.specs.Refusals.{begun}
-pub use Rattle.records.specs.declared.Meaning.{Meaning}
 pub use Rattle.registers.specs.Answers.{is_prefetch, is_refusal}
-pub use Rattle.registers.specs.declared.Pending.{Pending}
+pub use Rattle.registers.specs.declared.Stall.{Stall}
+pub use Rattle.registers.specs.Answers.{stall}
 unfoldable pub use Rattle.tables.specs.Tables.{image_length}
 pub use Rattle.translates.specs.ListA.{base_a, records_a}
 pub use Rattle.translates.specs.Statements.{Standing}

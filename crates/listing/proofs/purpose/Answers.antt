@@ -3,15 +3,15 @@ use Rattle.listing.proofs.Names.{purpose_of, sym, ◌∙◌, subst, pick_yes, pi
 use Rattle.listing.proofs.Comments.{purpose_from, purpose_to, purpose_is}
 use Rattle.listing.proofs.Turns.{line_fits}
 use Rattle.listing.proofs.purpose.Goals as goal
+use Rattle.listing.proofs.purpose.Goals.{then-text-gt-LONGEST-via-then-text-gt-LONGEST, then-text-gt-LONGEST-via-else-text-gt-LONGEST+then-line-eq0}
 
 pub returns-then-text-gt-LONGEST : goal.returns-then-text-gt-LONGEST
 unfolding purpose_of
-returns-then-text-gt-LONGEST c = sym (pick_yes _ _ _ (or_yes _ _ (lt-ltb _ _ c.if-text-gt-LONGEST.true)))
-
-pub returns-then-line-eq0 : goal.returns-then-line-eq0
-unfolding purpose_of
-returns-then-line-eq0 c =
-    sym (pick_yes _ _ _ (or_no _ _ (le-ltb _ _ c.if-text-gt-LONGEST.false) ∙ eq-eqb _ _ c.if-line-eq0.true))
+returns-then-text-gt-LONGEST c = elim c.then-text-gt-LONGEST.branch [
+  | then-text-gt-LONGEST-via-then-text-gt-LONGEST w ↦ sym (pick_yes _ _ _ (or_yes _ _ (lt-ltb _ _ w.if-text-gt-LONGEST.true)))
+  | then-text-gt-LONGEST-via-else-text-gt-LONGEST+then-line-eq0 w ↦
+      sym (pick_yes _ _ _ (or_no _ _ (le-ltb _ _ w.if-text-gt-LONGEST.false) ∙ eq-eqb _ _ w.if-line-eq0.true))
+]
 
 pub returns-then-at-text : goal.returns-then-at-text
 unfolding purpose_of

@@ -1,14 +1,13 @@
 use Rattle.listing.proofs.Names.{read_text, sym, ◌∙◌, pick_yes, pick_no, or_yes, or_no, lt-ltb, le-ltb}
 use Rattle.listing.proofs.read.Goals as goal
+use Rattle.listing.proofs.read.Goals.{then-records-via-then-records, then-records-via-else-records+then-lines-lt-MOST}
 
 pub returns-then-records : goal.returns-then-records
 unfolding read_text
-returns-then-records c = sym (pick_yes _ _ _ (or_yes _ _ (lt-ltb _ _ c.if-records.true)))
-
-pub returns-then-lines-lt-MOST : goal.returns-then-lines-lt-MOST
-unfolding read_text
-returns-then-lines-lt-MOST c =
-    sym (pick_yes _ _ _ (or_no _ _ (le-ltb _ _ c.if-records.false) ∙ lt-ltb _ _ c.if-lines-lt-MOST.true))
+returns-then-records c = elim c.then-records.branch [
+  | then-records-via-then-records w ↦ sym (pick_yes _ _ _ (or_yes _ _ (lt-ltb _ _ w.if-records.true)))
+  | then-records-via-else-records+then-lines-lt-MOST w ↦ sym (pick_yes _ _ _ (or_no _ _ (le-ltb _ _ w.if-records.false) ∙ lt-ltb _ _ w.if-lines-lt-MOST.true))
+]
 
 pub returns-then-text-gt-LONGEST : goal.returns-then-text-gt-LONGEST
 unfolding read_text

@@ -6,12 +6,12 @@ use native.Mathlib.Omega.{arith}
 use Prim.Native.Nat.{ℕ, ◌^◌, ◌<◌}
 use Rattle.page.proofs.join.Goals as goal
 
-pub overflow_sub-x : goal.overflow_sub-x
-overflow_sub-x c = let a = c.args in
+pub overflow_sub-result : goal.overflow_sub-result
+overflow_sub-result c = let a = c.args in
     omega (arith, c.page_start-2.ensures, upper-le (low_bits a.k) a.va.0)
 
-pub overflow_add-x : goal.overflow_add-x
-overflow_add-x c =
+pub overflow_add-result : goal.overflow_add-result
+overflow_add-result c =
     let k = c.args.k in
     record {
       fits = subst (λ (s : ℕ). s < 2 ^ 32)

@@ -11,7 +11,7 @@ returns-then-not-may_run c = sym (pick_no _ _ _ (sym c.may_run.ensures ∙ not-t
 pub run_all-requires : goal.run_all-requires
 run_all-requires c =
     let x = c.args in let e = sym c.may_run.ensures ∙ not-false _ c.if-not-may_run.false-raw in
-    record { good = run-good x.calls.now x.onkind x.extkind _ e; room = run_fits x.calls.now x.onkind x.extkind _ e }
+    record { good = run-good x.calls.now x.priced.onkind x.priced.extkind _ e; room = run_fits x.calls.now x.priced.onkind x.priced.extkind _ e }
 
 pub returns : goal.returns
 unfolding run_with

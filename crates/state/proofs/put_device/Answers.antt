@@ -11,6 +11,6 @@ returns c =
     three l c.put.new.out c.put_slots.new.out _ (register_words d.registers (lock_word x.handed d.bank.lock d.bank.victim))
     (slot_words d.bank.cam d.bank.ram 0 32) (pending_words d.pending) x.at
     refl (slots_length d.bank.cam d.bank.ram 0 32) (pending-length d.pending) c.requires c.put.auto.out c.put_slots.auto.out
-    (c.put.ensures ∙ ap (λ (ws : List ℕ). words_put l x.at ws) (c.register_words-head.ensures ∙ ap (λ (w : ℕ). register_words d.registers w) c.lock_word.ensures))
+    (c.put.ensures ∙ ap (λ (ws : List ℕ). words_put l x.at ws) (c.register_words.ensures ∙ ap (λ (w : ℕ). register_words d.registers w) c.lock_word-lock.ensures))
     c.put_slots.ensures
-    (c.put-2.ensures ∙ ap (λ (ws : List ℕ). words_put c.put_slots.new.out (x.at + 284) ws) c.pending_words-last.ensures)
+    (c.put-2.ensures ∙ ap (λ (ws : List ℕ). words_put c.put_slots.new.out (x.at + 284) ws) c.pending_words.ensures)

@@ -1,17 +1,11 @@
-use Rattle.wire.proofs.Names.{bytes_of, placed, arith}
-use Rattle.wire.proofs.Splices.{put_four}
-use lib.ListN.{length-set}
+use Rattle.wire.specs.Names.{[], ◌∷◌, ◌+◌}
+use Rattle.wire.proofs.Names.{refl, sym, ◌∙◌, arith, bytes_of}
+use Rattle.wire.proofs.Pastes.{stored, words-pasted}
 use Rattle.wire.proofs.put_word.Goals as goal
 
-pub bounds-out-at-2 : goal.bounds-out-at-2
-bounds-out-at-2 c = simp length-set (omega arith)
-
-pub bounds-out-at-3 : goal.bounds-out-at-3
-bounds-out-at-3 c = simp length-set (omega arith)
-
-pub bounds-out-at-4 : goal.bounds-out-at-4
-bounds-out-at-4 c = simp length-set (omega arith)
-
 pub returns : goal.returns
-unfolding placed bytes_of
-returns c = put_four _ _ _ _ _ _ c.requires
+unfolding bytes_of
+returns c =
+    let x = c.args in
+    stored x.out.now c.copy_from_slice.new.self _ x.at (x.at + 4) (omega arith) (c.copy_from_slice.ensures.after ∙ c.to_le_bytes.ensures) refl
+    ∙ sym (words-pasted x.out.now x.at (x.w ∷ []))

@@ -1,21 +1,20 @@
-use Rattle.wire.specs.Names.{length, take, drop, ◌-◌, ℕ, ◌+◌, ◌*◌, ◌≡◌}
-use Rattle.wire.proofs.Names.{leb-true, word_of, sym, ◌∙◌, ap, arith}
-use Rattle.wire.proofs.Reading.{word_none}
-use borrow.Author.Tests.{leb-false, not-true, not-false}
+use Rattle.std.proofs.Common.{inl, inr}
+use Rattle.wire.specs.Names.{drop, length, ◌<◌, ◌+◌, ◌-◌}
+use Rattle.wire.proofs.Names.{word_of, sym, ◌∙◌, ap, arith, length-drop}
+use Rattle.wire.proofs.Reading.{word_first, word_none}
+use Rattle.std.proofs.lemmas.List.{take_all}
 use Rattle.wire.proofs.word_at.Goals as goal
 
-pub returns-then-not-room : goal.returns-then-not-room
-returns-then-not-room c =
-    let x = c.args in sym (word_none x.s.now x.at (leb-false (x.at + 4 * 1) (length x.s.now) (sym c.room.ensures ∙ not-true _ c.if-not-room.true-raw)))
+pub returns-in-Some : goal.returns-in-Some
+returns-in-Some c =
+    let x = c.args in
+    c.word_of.ensures
+    ∙ ap word_of (c.in-Some.ensures.lookup.0.2 ∙ take_all (length x.s.now - x.at) (drop x.at x.s.now) (omega (arith, length-drop x.at x.s.now)))
+    ∙ word_first (drop x.at x.s.now)
 
-pub overflow_add-at : goal.overflow_add-at
-overflow_add-at c =
-    let x = c.args in let h = leb-true (x.at + 4 * 1) (length x.s.now) (sym c.room.ensures ∙ not-false _ c.if-not-room.false-raw) in omega (arith, h)
-
-pub slice_bounds-word_of-end : goal.slice_bounds-word_of-end
-slice_bounds-word_of-end c =
-    let x = c.args in let h = leb-true (x.at + 4 * 1) (length x.s.now) (sym c.room.ensures ∙ not-false _ c.if-not-room.false-raw) in omega (arith, h)
-
-pub returns : goal.returns
-returns c =
-    c.word_of.ensures ∙ ap (λ (n : ℕ). word_of (take n (drop c.args.at c.args.s.now))) (let e : c.args.at + 4 - c.args.at ≡ 4 = omega arith in e)
+pub returns-in-None : goal.returns-in-None
+returns-in-None c =
+    let x = c.args in
+    let past : length x.s.now < x.at + 4 =
+    elim c.in-None.ensures.lookup.0 [ inl h ↦ omega (arith, h) | inr h ↦ absurd (omega (arith, h)) ] in
+    sym (word_none x.s.now x.at past)

@@ -6,38 +6,16 @@ use Rattle.wire.proofs.Splices.{rest-bytes, words_fit}
 use Rattle.builder.proofs.image.write_first.Goals as goal
 
 pub loop-k-init : goal.loop-k-init
-loop-k-init c = (omega arith, refl, λ x h. absurd (omega arith))
-
-pub offset_bounds-firsts-k : goal.offset_bounds-firsts-k
-offset_bounds-firsts-k c = omega arith
-
-pub bounds-firsts-k : goal.bounds-firsts-k
-bounds-firsts-k c = omega (arith, c.requires.words)
-
-pub based-requires : goal.based-requires
-based-requires c = tt
-
-pub offset_bounds-words-k : goal.offset_bounds-words-k
-offset_bounds-words-k c = omega arith
-
-pub overflow_add-k : goal.overflow_add-k
-overflow_add-k c = omega arith
-
-pub loop-k-smaller : goal.loop-k-smaller
-loop-k-smaller c = omega arith
+loop-k-init c = record { long = refl; written = λ x h. absurd (omega arith) }
 
 pub loop-k-preserved : goal.loop-k-preserved
 loop-k-preserved c =
     let l = c.loop-k in
-    let a = c.args in (
-      omega arith,
-      simp length-set l.invariant.1,
-      words_more (λ (x : ℕ). based a.base (get_or a.firsts.now x 0) % 4294967296) l.words l.k _ (omega arith)
-          (ap (λ (x : ℕ). x % 4294967296) c.based.ensures) l.invariant.2,
-    )
-
-pub put-requires : goal.put-requires
-put-requires c = tt
+    let a = c.args in
+    record {
+      long = simp length-set l.invariant.long;
+      written = words_more (λ (x : ℕ). based a.base (get_or a.firsts.now x 0) % 4294967296) l.words l.k _ (omega (arith, l.invariant.long)) c.based.ensures l.invariant.written;
+    }
 
 pub returns : goal.returns
 returns c =
@@ -45,5 +23,5 @@ returns c =
     let pre = c.requires in
     let l = c.loop-k in
     c.put.ensures
-    ∙ words_fit a.out.now 0 megabytes l.words (λ (x : ℕ). based a.base (get_or a.firsts.now x 0)) l.invariant.1 (omega (arith, pre.room))
-    (λ j h. ap word_bytes (l.invariant.2 j (omega (arith, c.loop-k-test.false))) ∙ rest-bytes (based a.base (get_or a.firsts.now j 0)))
+    ∙ words_fit a.out.now 0 megabytes l.words (λ (x : ℕ). based a.base (get_or a.firsts.now x 0)) l.invariant.long (omega (arith, pre.room))
+    (λ j h. ap word_bytes (l.invariant.written j (omega (arith, c.loop-k-test.false))) ∙ rest-bytes (based a.base (get_or a.firsts.now j 0)))

@@ -4,10 +4,6 @@ use Rattle.builder.proofs.image.write_mappings.Given as goal
 
 abbrev pub invariant-loop-j : goal.invariant-loop-j
 invariant-loop-j l =
-    (l.j ≤ length (mappings l.records)) × (length l.out ≡ length l.initial.out)
-    × (Firsts (mappings l.records) l.firsts → image_length megabytes (mappings l.records) ≤ length l.initial.out → (base : ℕ) (a : List ℕ) → length a ≡ length l.initial.out
+    Firsts (mappings l.records) l.firsts → image_length megabytes (mappings l.records) ≤ length l.initial.out → (base : ℕ) (a : List ℕ) → length a ≡ length l.initial.out
     → l.initial.out ≡ spliced a 0 (part_word megabytes (mappings l.records) [] base) (image_length megabytes (mappings l.records) / 4)
-    → l.out ≡ spliced a 0 (part_word megabytes (mappings l.records) (drop l.j (mappings l.records)) base) (image_length megabytes (mappings l.records) / 4))
-
-abbrev pub decreases-loop-j : goal.decreases-loop-j
-decreases-loop-j l = l.j
+    → l.out ≡ spliced a 0 (part_word megabytes (mappings l.records) (drop l.j (mappings l.records)) base) (image_length megabytes (mappings l.records) / 4)

@@ -1,4 +1,4 @@
-use Rattle.calls.specs.Names.{pick, ℕ, virtual, Call}
+use Rattle.calls.specs.Names.{pick, ℕ, virtual, Call, Access, Option, Some}
 use Rattle.calls.proofs.Names.{◌∙◌, ap, pick_no, ne_eqb, call_by, write_by, read_by, request_by, drop_by}
 use Rattle.calls.proofs.Good.{write_known, read_known, request_known, drop_known, last_known, alike}
 use Rattle.calls.proofs.forms.known.Goals as goal
@@ -16,7 +16,7 @@ returns-in-2 c =
 pub returns-in-3 : goal.returns-in-3
 unfolding call_by pick
 returns-in-3 c =
-    let x = c.args in λ g. ap (Call.Request (virtual x.address)) c.access_of.ensures ∙ alike _ (request_by x.byte x.address x.value) _
+    let x = c.args in λ g. ap (λ (a : Access). Some (Call.Request (virtual x.address) a)) c.access_of.ensures ∙ alike _ (request_by x.byte x.address x.value) _
     (ap (λ (k : ℕ). call_by k x.byte x.address x.value) c.in-3.is) (request_known _ _ _) g
 
 pub returns-in-4 : goal.returns-in-4

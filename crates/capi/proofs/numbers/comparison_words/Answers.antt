@@ -1,13 +1,9 @@
-use Rattle.capi.specs.Names.{Comparison}
-use Rattle.capi.proofs.Names.{rules, ◌∙◌, ap, sym, comparison_said}
+use Rattle.capi.specs.Names.{Option, Parting}
+use Rattle.capi.proofs.Names.{◌∙◌, ap, sym, comparison_said}
 use Rattle.capi.proofs.numbers.comparison_words.Goals as goal
 
-pub returns-in-BadLength : goal.returns-in-BadLength
-returns-in-BadLength c =
-    c.parting_words.ensures
-    ∙ sym (ap (λ (x : Comparison). comparison_said x c.args.len) c.in-BadLength.is)
+pub returns-in-None : goal.returns-in-None
+returns-in-None c = c.parting_words.ensures ∙ sym (ap (λ (x : Option Parting). comparison_said x c.args.len) c.in-None.is)
 
-pub returns-in-Parted : goal.returns-in-Parted
-returns-in-Parted c =
-    c.parting_words-in-Parted.ensures
-    ∙ sym (ap (λ (x : Comparison). comparison_said x c.args.len) c.in-Parted.is)
+pub returns-in-Some : goal.returns-in-Some
+returns-in-Some c = c.parting_words-in-Some.ensures ∙ sym (ap (λ (x : Option Parting). comparison_said x c.args.len) c.in-Some.is)

@@ -15,6 +15,6 @@ unfolding hex_number
 returns-then-prefixed c =
     c.written.ensures ∙ ap hex_digits (part_to_end c.args.w.now 2) ∙ sym (pick_yes _ _ _ (sym c.prefixed.ensures ∙ c.if-prefixed.true))
 
-pub returns : goal.returns
+pub returns-else-prefixed : goal.returns-else-prefixed
 unfolding hex_number
-returns c = c.written-2.ensures ∙ sym (pick_no _ _ _ (sym c.prefixed.ensures ∙ c.if-prefixed.false))
+returns-else-prefixed c = c.written-else-prefixed.ensures ∙ sym (pick_no _ _ _ (sym c.prefixed.ensures ∙ c.if-prefixed.false))

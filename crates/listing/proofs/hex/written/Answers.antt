@@ -1,10 +1,10 @@
-use Rattle.listing.proofs.Names.{hex_digits, sym, ◌∙◌, pick_yes, pick_no, eq-eqb, ne_eqb}
+use Rattle.listing.proofs.Names.{hex_digits, sym, ◌∙◌, pick_yes, pick_no}
 use Rattle.listing.proofs.hex.written.Goals as goal
 
-pub returns-then-w-eq0 : goal.returns-then-w-eq0
+pub returns-then-is_empty : goal.returns-then-is_empty
 unfolding hex_digits
-returns-then-w-eq0 c = sym (pick_yes _ _ _ (eq-eqb _ _ c.if-w-eq0.true))
+returns-then-is_empty c = sym (pick_yes _ _ _ (sym c.is_empty.ensures ∙ c.if-is_empty.true))
 
-pub returns : goal.returns
+pub returns-else-is_empty : goal.returns-else-is_empty
 unfolding hex_digits
-returns c = c.digits.ensures ∙ sym (pick_no _ _ _ (ne_eqb _ _ c.if-w-eq0.false))
+returns-else-is_empty c = c.digits.ensures ∙ sym (pick_no _ _ _ (sym c.is_empty.ensures ∙ c.if-is_empty.false))

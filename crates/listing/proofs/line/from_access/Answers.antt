@@ -1,35 +1,21 @@
-use Rattle.listing.proofs.Names.{from_access, sym, ◌∙◌, pick_yes, eq-eqb}
-use Rattle.listing.proofs.Says.{access_bad, access_on}
-use Rattle.listing.proofs.Runs.{from_to, to_fits, word-is, rest-is, word_none, word_some}
+use Rattle.listing.specs.Names.{ℕ, List, eqb, length}
+use Rattle.listing.proofs.Names.{from_access, after_access, sym, ap, ◌∙◌, pick_yes}
+use Rattle.listing.proofs.Says.{access_on}
 use Rattle.listing.proofs.line.from_access.Goals as goal
 
-pub returns-then-from-to : goal.returns-then-from-to
+pub returns-then-is_empty : goal.returns-then-is_empty
 unfolding from_access
-returns-then-from-to c =
-    sym (pick_yes _ _ _ (eq-eqb _ _ (word_none c.args.line.now c.word-s.result c.word-s.ensures c.if-from-to.true)))
+returns-then-is_empty c = sym (pick_yes _ _ _ (ap (λ (s : List ℕ). eqb (length s) 0) (sym c.word.ensures.first) ∙ sym c.is_empty.ensures ∙ c.if-is_empty.true))
 
-pub slice_bounds-access_named-count : goal.slice_bounds-access_named-count
-slice_bounds-access_named-count c = from_to _ _ c.word-s.ensures
-
-pub slice_bounds-access_named-start : goal.slice_bounds-access_named-start
-slice_bounds-access_named-start c = from_to _ _ c.word-s.ensures
-
-pub slice_bounds-access_named-end : goal.slice_bounds-access_named-end
-slice_bounds-access_named-end c = to_fits _ _ c.word-s.ensures
-
-pub returns-then-a-eq0 : goal.returns-then-a-eq0
-returns-then-a-eq0 c =
-    access_bad c.args.line.now _ _ (word-is _ _ c.word-s.ensures) (rest-is _ _ c.word-s.ensures) _ _ _ _ (word_some _ _ c.word-s.ensures c.if-from-to.false)
-    c.access_named-a.ensures c.if-a-eq0.true
-
-pub slice_bounds-ended-count : goal.slice_bounds-ended-count
-slice_bounds-ended-count c = to_fits _ _ c.word-s.ensures
-
-pub slice_bounds-ended-start : goal.slice_bounds-ended-start
-slice_bounds-ended-start c = to_fits _ _ c.word-s.ensures
+pub returns-in_default : goal.returns-in_default
+returns-in_default c =
+    let x = c.args in
+    ap (λ a. after_access x.k x.v x.p a c.word.result.1.now) (sym c.in_default.is)
+    ∙ access_on x.line.now _ _ c.word.ensures.first c.word.ensures.behind x.k x.v x.p _ (sym c.is_empty.ensures ∙ c.if-is_empty.false) c.access_named.ensures
 
 pub returns : goal.returns
 returns c =
+    let x = c.args in
     c.ended.ensures
-    ∙ access_on c.args.line.now _ _ (word-is _ _ c.word-s.ensures) (rest-is _ _ c.word-s.ensures) _ _ _ _ (word_some _ _ c.word-s.ensures c.if-from-to.false)
-    c.access_named-a.ensures c.if-a-eq0.false
+    ∙ ap (λ a. after_access x.k x.v x.p a c.word.result.1.now) (sym c.in-Some.is)
+    ∙ access_on x.line.now _ _ c.word.ensures.first c.word.ensures.behind x.k x.v x.p _ (sym c.is_empty.ensures ∙ c.if-is_empty.false) c.access_named.ensures

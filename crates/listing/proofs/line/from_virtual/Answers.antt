@@ -1,39 +1,19 @@
-use Rattle.listing.proofs.Names.{◌∙◌}
+use Rattle.std.proofs.Common.{Err}
+use Rattle.listing.proofs.Names.{◌∙◌, ap}
 use Rattle.listing.proofs.Says.{virtual-on}
-use Rattle.listing.proofs.Runs.{from_to, to_fits, word-is, rest-is}
 use Rattle.listing.proofs.line.from_virtual.Goals as goal
 
-pub slice_bounds-address-count : goal.slice_bounds-address-count
-slice_bounds-address-count c = from_to _ _ c.word-s.ensures
+pub returns-in-Ok : goal.returns-in-Ok
+returns-in-Ok c = c.from_physical.ensures ∙ virtual-on c.args.line.now _ _ c.word.ensures.first c.word.ensures.behind _ _ _ c.address.ensures c.in-Ok.is
 
-pub slice_bounds-address-start : goal.slice_bounds-address-start
-slice_bounds-address-start c = from_to _ _ c.word-s.ensures
+pub returns-in-Err-Missing : goal.returns-in-Err-Missing
+returns-in-Err-Missing c = virtual-on c.args.line.now _ _ c.word.ensures.first c.word.ensures.behind _ _ _ c.address.ensures (c.in-Err-Missing.is ∙ ap Err c.in-Err-Missing.field-0-is)
 
-pub slice_bounds-address-end : goal.slice_bounds-address-end
-slice_bounds-address-end c = to_fits _ _ c.word-s.ensures
+pub returns-in-Err-NotHex : goal.returns-in-Err-NotHex
+returns-in-Err-NotHex c = virtual-on c.args.line.now _ _ c.word.ensures.first c.word.ensures.behind _ _ _ c.address.ensures (c.in-Err-NotHex.is ∙ ap Err c.in-Err-NotHex.field-0-is)
 
-pub slice_bounds-from_physical-count : goal.slice_bounds-from_physical-count
-slice_bounds-from_physical-count c = to_fits _ _ c.word-s.ensures
+pub returns-in-Err-TooLarge : goal.returns-in-Err-TooLarge
+returns-in-Err-TooLarge c = virtual-on c.args.line.now _ _ c.word.ensures.first c.word.ensures.behind _ _ _ c.address.ensures (c.in-Err-TooLarge.is ∙ ap Err c.in-Err-TooLarge.field-0-is)
 
-pub slice_bounds-from_physical-start : goal.slice_bounds-from_physical-start
-slice_bounds-from_physical-start c = to_fits _ _ c.word-s.ensures
-
-pub returns-in-At : goal.returns-in-At
-returns-in-At c =
-    c.from_physical.ensures ∙ virtual-on c.args.line.now _ _ (word-is _ _ c.word-s.ensures) (rest-is _ _ c.word-s.ensures) _ _ _ c.address-a.ensures c.in-At.is
-
-pub returns-in-Missing : goal.returns-in-Missing
-returns-in-Missing c =
-    virtual-on c.args.line.now _ _ (word-is _ _ c.word-s.ensures) (rest-is _ _ c.word-s.ensures) _ _ _ c.address-a.ensures c.in-Missing.is
-
-pub returns-in-NotHex : goal.returns-in-NotHex
-returns-in-NotHex c =
-    virtual-on c.args.line.now _ _ (word-is _ _ c.word-s.ensures) (rest-is _ _ c.word-s.ensures) _ _ _ c.address-a.ensures c.in-NotHex.is
-
-pub returns-in-TooLarge : goal.returns-in-TooLarge
-returns-in-TooLarge c =
-    virtual-on c.args.line.now _ _ (word-is _ _ c.word-s.ensures) (rest-is _ _ c.word-s.ensures) _ _ _ c.address-a.ensures c.in-TooLarge.is
-
-pub returns-in-Uneven : goal.returns-in-Uneven
-returns-in-Uneven c =
-    virtual-on c.args.line.now _ _ (word-is _ _ c.word-s.ensures) (rest-is _ _ c.word-s.ensures) _ _ _ c.address-a.ensures c.in-Uneven.is
+pub returns-in-Err-Uneven : goal.returns-in-Err-Uneven
+returns-in-Err-Uneven c = virtual-on c.args.line.now _ _ c.word.ensures.first c.word.ensures.behind _ _ _ c.address.ensures (c.in-Err-Uneven.is ∙ ap Err c.in-Err-Uneven.field-0-is)

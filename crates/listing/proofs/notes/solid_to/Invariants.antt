@@ -3,6 +3,3 @@ use Rattle.listing.proofs.notes.solid_to.Given as goal
 
 abbrev pub invariant-loop-n : goal.invariant-loop-n
 invariant-loop-n l = Solid l.s l.n
-
-abbrev pub decreases-loop-n : goal.decreases-loop-n
-decreases-loop-n l = l.n

@@ -36,6 +36,6 @@ pub returns-then-to-from : goal.returns-then-to-from
 returns-then-to-from c =
     comment_none c.args.s.now _ _ _ c.run-c.ensures c.if-c-s.false c.run.ensures c.solid_to-to.ensures c.if-to-from.true
 
-pub returns : goal.returns
-returns c =
+pub returns-else-to-from : goal.returns-else-to-from
+returns-else-to-from c =
     comment_is c.args.s.now _ _ _ c.run-c.ensures c.if-c-s.false c.run.ensures c.solid_to-to.ensures c.if-to-from.false

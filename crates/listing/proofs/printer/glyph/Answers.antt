@@ -5,6 +5,6 @@ pub returns-then-d-lt10 : goal.returns-then-d-lt10
 unfolding glyph
 returns-then-d-lt10 c = sym (pick_yes _ _ _ (lt-ltb _ _ c.if-d-lt10.true))
 
-pub returns : goal.returns
+pub returns-else-d-lt10 : goal.returns-else-d-lt10
 unfolding glyph
-returns c = sym (pick_no _ _ _ (le-ltb _ _ c.if-d-lt10.false))
+returns-else-d-lt10 c = sym (pick_no _ _ _ (le-ltb _ _ c.if-d-lt10.false))

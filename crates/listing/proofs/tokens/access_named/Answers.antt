@@ -8,9 +8,9 @@ returns-then-same c = sym (pick_yes _ _ _ (sym c.same.ensures ∙ c.if-same.true
 pub returns-then-same-2 : goal.returns-then-same-2
 unfolding access_named
 returns-then-same-2 c =
-    sym (pick_no _ _ _ (sym c.same.ensures ∙ c.if-same.false) ∙ pick_yes _ _ _ (sym c.same-2.ensures ∙ c.if-same-2.true))
+    sym (pick_no _ _ _ (sym c.same.ensures ∙ c.if-same.false) ∙ pick_yes _ _ _ (sym c.same-else-same.ensures ∙ c.if-same-2.true))
 
-pub returns : goal.returns
+pub returns-else-same-2 : goal.returns-else-same-2
 unfolding access_named
-returns c =
-    sym (pick_no _ _ _ (sym c.same.ensures ∙ c.if-same.false) ∙ pick_no _ _ _ (sym c.same-2.ensures ∙ c.if-same-2.false))
+returns-else-same-2 c =
+    sym (pick_no _ _ _ (sym c.same.ensures ∙ c.if-same.false) ∙ pick_no _ _ _ (sym c.same-else-same.ensures ∙ c.if-same-2.false))

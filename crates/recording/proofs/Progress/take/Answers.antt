@@ -1,4 +1,4 @@
 use Rattle.recording.proofs.Progress.take.Goals as goal
 
 pub take_by-requires : goal.take_by-requires
-take_by-requires c = c.table-t.ensures
+take_by-requires c = c.table.ensures

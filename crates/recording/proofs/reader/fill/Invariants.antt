@@ -1,12 +1,8 @@
-use Rattle.recording.specs.Names.{◌≡◌, ◌+◌, ◌-◌, ◌≤◌, length, pasted}
-use Rattle.recording.specs.Reading.{calls_at}
-use Rattle.recording.proofs.Names.{pieces}
+use Rattle.std.specs.Slice.Iter.{chunks_rest, chunks_size}
+use Rattle.recording.specs.Names.{length}
+use Rattle.recording.proofs.Turns.{Filling}
 use Rattle.recording.proofs.reader.fill.Given as goal
 
-abbrev pub invariant-loop-i : goal.invariant-loop-i
-invariant-loop-i l =
-    (l.i ≤ l.n) × (length l.out ≡ length l.initial.out) × (l.at + length (pieces (calls_at l.recording) l.i (l.n - l.i)) ≤ length l.initial.out)
-    × (pasted l.initial.out 0 (pieces (calls_at l.recording) 0 l.n) ≡ pasted l.out l.at (pieces (calls_at l.recording) l.i (l.n - l.i)))
-
-abbrev pub decreases-loop-i : goal.decreases-loop-i
-decreases-loop-i l = l.n - l.i
+abbrev pub invariant-loop-block : goal.invariant-loop-block
+invariant-loop-block l =
+    Filling l.recording (chunks_rest l.block-iterator) (chunks_size l.block-iterator) l.initial.out l.out l.at (length l.yielded)

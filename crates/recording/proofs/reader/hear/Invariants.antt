@@ -1,10 +1,6 @@
-use Rattle.recording.specs.Names.{◌≡◌, ◌-◌, ◌≤◌}
-use Rattle.recording.specs.Reading.{heard}
-use Rattle.recording.proofs.Names.{heard_from}
+use Rattle.std.specs.Slice.Iter.{chunks_rest, chunks_size}
+use Rattle.recording.proofs.Hears.{Hearing}
 use Rattle.recording.proofs.reader.hear.Given as goal
 
-abbrev pub invariant-loop-i : goal.invariant-loop-i
-invariant-loop-i l = (l.i ≤ l.n) × (l.p.blocks ≡ l.i) × (heard l.recording ≡ heard_from l.recording l.p (l.n - l.i))
-
-abbrev pub decreases-loop-i : goal.decreases-loop-i
-decreases-loop-i l = l.n - l.i
+abbrev pub invariant-loop-block : goal.invariant-loop-block
+invariant-loop-block l = Hearing l.recording (chunks_rest l.block-iterator) (chunks_size l.block-iterator) l.p

@@ -1,11 +1,9 @@
-use Rattle.recording.specs.Names.{◌≡◌, ◌-◌, ◌*◌, ◌≤◌, length, pasted}
-use Rattle.recording.specs.Writing.{block_for}
-use Rattle.recording.proofs.Names.{pieces}
+use Rattle.std.specs.Slice.Iter.{chunks_rest, chunks_size}
+use Rattle.std.specs.Iterator.Adapters.{enumerate_source, enumerate_count}
+use Rattle.recording.specs.Names.{length}
+use Rattle.recording.proofs.Turns.{Blocking}
 use Rattle.recording.proofs.writer.put_blocks.Given as goal
 
 abbrev pub invariant-loop-i : goal.invariant-loop-i
 invariant-loop-i l =
-    (l.i ≤ l.n) × (length l.out ≡ length l.initial.out) × (pasted l.initial.out 0 (pieces (block_for l.calls) 0 l.n) ≡ pasted l.out (512 * l.i) (pieces (block_for l.calls) l.i (l.n - l.i)))
-
-abbrev pub decreases-loop-i : goal.decreases-loop-i
-decreases-loop-i l = l.n - l.i
+    Blocking l.calls (chunks_rest (enumerate_source l.i-iterator)) (chunks_size (enumerate_source l.i-iterator)) l.initial.out l.out (enumerate_count l.i-iterator)

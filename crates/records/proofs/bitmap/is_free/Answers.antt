@@ -12,7 +12,7 @@ pub returns-in-Large : goal.returns-in-Large
 returns-in-Large c =
     let args = c.args in
     let pre = c.requires in
-    free_large args.c.now args.m pre.1 c.in-Large.is (c.shared_slice_known-in-Large-1.given (args.m.at.0 / 65536)).fits
+    free_large args.c.now args.m pre.1 c.in-Large.is (c.type_inv.c (args.m.at.0 / 65536)).fits
 
 pub returns-in-Small : goal.returns-in-Small
 returns-in-Small c =

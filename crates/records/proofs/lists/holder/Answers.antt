@@ -1,42 +1,24 @@
-use Rattle.records.specs.Names.{List, Mapping}
-use Rattle.records.proofs.Names.{sym, ◌∙◌, pick_yes, pick_no, arith, holder, rules}
-use Rattle.records.proofs.Scan.{rest-none, rest_at, rest_end}
+use Rattle.std.proofs.Common.{tests}
+use Rattle.std.proofs.lemmas.Iterator.{YieldsList-from_map}
+use Rattle.std.proofs.lemmas.Iterator.Consumers.{YieldsList-at}
+use Rattle.std.proofs.lemmas.Iterator.Search.{find_from_yields_List}
+use Rattle.std.proofs.lemmas.Iterator.Splits.{YieldsList-from_shown_while}
+use Rattle.std.specs.Slice.Iter.{chunks_exact_rest, chunks_exact_size, chunks_exact_steps}
+use Rattle.records.specs.Names.{◌≡◌}
+use Rattle.records.proofs.Names.{ap, ◌∙◌, arith, rules, mapping_of, mappings, holds}
+use Rattle.records.proofs.Listed.{mappings-length}
+use Rattle.records.proofs.Pieces.{mappings-cons, found_is}
 use Rattle.records.proofs.lists.holder.Goals as goal
 
-pub count-n-requires : goal.count-n-requires
-count-n-requires c = tt
-
-pub loop-j-init : goal.loop-j-init
-loop-j-init c = (c.count-n.ensures, search rules, rest-none (λ (l : List Mapping). holder l c.args.va) _)
-
-pub mapping_at-m-requires : goal.mapping_at-m-requires
-mapping_at-m-requires c = tt
-
-pub holds-requires : goal.holds-requires
-holds-requires c = tt
-
-pub returns-then-holds : goal.returns-then-holds
-unfolding holder
-returns-then-holds c =
-    sym (rest_at (λ (l : List Mapping). holder l c.args.va) _ c.loop-j.j c.mapping_at-m.result c.loop-j.invariant.2 (omega arith) c.mapping_at-m.ensures
-    ∙ pick_yes _ _ _ (sym c.holds.ensures ∙ c.if-holds.true))
-
-pub overflow_add-j : goal.overflow_add-j
-overflow_add-j c = omega arith
-
-pub loop-j-smaller : goal.loop-j-smaller
-loop-j-smaller c = omega arith
-
-pub loop-j-preserved : goal.loop-j-preserved
-unfolding holder
-loop-j-preserved c = (
-  c.loop-j.invariant.0,
-  omega arith,
-  rest_at (λ (l : List Mapping). holder l c.args.va) _ c.loop-j.j c.mapping_at-m.result c.loop-j.invariant.2 (omega arith)
-      c.mapping_at-m.ensures ∙ pick_no _ _ _ (sym c.holds.ensures ∙ c.if-holds.false),
-)
-
 pub returns : goal.returns
-unfolding holder
 returns c =
-    sym (rest_end (λ (l : List Mapping). holder l c.args.va) _ c.loop-j.j c.loop-j.invariant.2 (omega arith))
+    found_is _ _ c.args.va c.find.result c.chunks_exact.ensures.rest
+    (find_from_yields_List (λ m. holds m c.args.va) _ _ c.find.result c.find.ensures.ran
+    (YieldsList-from_map _ (λ m. m)
+    (YieldsList-at c.map.ensures.source
+    (YieldsList-from_shown_while chunks_exact_steps (λ x. mapping_of x.now) (λ s. mappings (chunks_exact_rest s)) (λ s. chunks_exact_size s ≡ 12)
+    (λ s t p e. mappings-length (chunks_exact_rest s) ∙ omega arith)
+    (λ s x t p e. (e.0 ∙ p, ap mappings e.1.0 ∙ mappings-cons x.now (chunks_exact_rest t) (e.1.1 ∙ p)))
+    c.chunks_exact.result c.chunks_exact.ensures.size))
+    c.map.ensures.closure (λ x r q k. search (rules, tests)))
+    (λ x b q k. search (rules, tests)))

@@ -1,4 +1,4 @@
-use Rattle.unit.specs.Names.{lent, Done}
+use Rattle.unit.specs.Names.{Done}
 use Rattle.unit.proofs.Names.{ap, told_of}
 use Rattle.unit.specs.Device.{reported}
 use Rattle.unit.specs.Acts.{shift_in}
@@ -8,6 +8,5 @@ use Rattle.unit.proofs.Device.shift_report.Goals as goal
 pub returns : goal.returns
 returns c =
     let x = c.args in
-    let m = lent x.on.now x.onbase.0 x.ext.now x.extbase.0 in
-    let e = shift_acts m _ _ x.self _ x.va _ _ c.in_range.ensures c.memories_ok-memories.ensures c.shift-plan.ensures _ c.act-x.ensures in
+    let e = shift_acts _ _ _ x.self _ x.va _ _ c.in_range.ensures c.ok.ensures c.shift-plan.ensures _ c.act-x.ensures in
     rw c.shift_in.ensures (ap (λ (y : Done). reported (told_of y).device (shift_in y.said) y.from) e)

@@ -1,8 +1,0 @@
-use Rattle.bank.proofs.Names.{sym, eq-eqb, ne_eqb, pick_yes, pick_no}
-use Rattle.bank.proofs.slots.low_kept.Goals as goal
-
-pub returns-then-w-eq0 : goal.returns-then-w-eq0
-returns-then-w-eq0 c = sym (pick_yes _ _ _ (eq-eqb _ _ c.if-w-eq0.true))
-
-pub returns : goal.returns
-returns c = sym (pick_no _ _ _ (ne_eqb _ _ c.if-w-eq0.false))

@@ -1,9 +1,0 @@
-use Rattle.nx.proofs.Names.{◌-◌}
-use Rattle.std.proofs.Common.{◌≡◌, ◌≤◌, length}
-use Rattle.nx.proofs.changes.table.Given as goal
-
-abbrev pub invariant-loop-k : goal.invariant-loop-k
-invariant-loop-k l = (length l.out ≡ length l.initial.out) × (l.k ≤ l.n)
-
-abbrev pub decreases-loop-k : goal.decreases-loop-k
-decreases-loop-k l = l.n - l.k

@@ -1,9 +1,0 @@
-use Rattle.nx.proofs.Names.{◌-◌}
-use Rattle.std.proofs.Common.{◌≤◌}
-use Rattle.nx.proofs.recordings.first_bad.Given as goal
-
-abbrev pub invariant-loop-i : goal.invariant-loop-i
-invariant-loop-i l = l.i ≤ l.n
-
-abbrev pub decreases-loop-i : goal.decreases-loop-i
-decreases-loop-i l = l.n - l.i

@@ -1,9 +1,0 @@
-use Rattle.nx.proofs.Names.{◌-◌}
-use Rattle.std.proofs.Common.{◌+◌, ◌≤◌}
-use Rattle.nx.proofs.refusal.alike.Given as goal
-
-abbrev pub invariant-loop-k : goal.invariant-loop-k
-invariant-loop-k l = l.k ≤ l.bytes + 3
-
-abbrev pub decreases-loop-k : goal.decreases-loop-k
-decreases-loop-k l = l.bytes + 4 - l.k

@@ -1,9 +1,0 @@
-use Rattle.nx.proofs.Names.{◌-◌}
-use Rattle.std.proofs.Common.{◌≤◌}
-use Rattle.nx.proofs.show.shares.Given as goal
-
-abbrev pub invariant-loop-j : goal.invariant-loop-j
-invariant-loop-j l = l.j ≤ l.i
-
-abbrev pub decreases-loop-j : goal.decreases-loop-j
-decreases-loop-j l = l.i - l.j

@@ -1,6 +1,0 @@
-use Rattle.records.specs.Mappings.{byte_of}
-use Rattle.records.proofs.byte_of.Goals as goal
-
-pub returns : goal.returns
-unfolding byte_of
-returns c = c.join.ensures

@@ -1,8 +1,0 @@
-use Rattle.sheet_run.proofs.Names.{◌≤◌, ◌-◌}
-use Rattle.sheet_run.proofs.empty.Given as goal
-
-abbrev pub invariant-loop-i : goal.invariant-loop-i
-invariant-loop-i l = l.i ≤ 256
-
-abbrev pub decreases-loop-i : goal.decreases-loop-i
-decreases-loop-i l = 256 - l.i
