@@ -68,6 +68,9 @@ fn filled<R: Read>(from: &mut R, room: &mut [u8]) -> io::Result<usize>
             break;
         }
         n += got;
+        if n == room.len() {
+            break;
+        }
     }
     Ok(n)
 }

@@ -35,12 +35,16 @@ pub(crate) fn show_all() {
 
 // Slots that were full, cleared; with a lock base and a victim.
 fn empty(lock: u8, victim: u8) -> Slots {
-    let mut s = Slots::of(Bank {
-        cam: [0x0405; SLOTS],
-        ram: [0x10020300; SLOTS],
-        lock: 0,
-        victim: 0,
-    });
+    let mut s = Slots {
+        bank: Bank {
+            cam: [0x0405; SLOTS],
+            ram: [0x10020300; SLOTS],
+            lock: 0,
+            victim: 0,
+        },
+        lows: [0; SLOTS],
+        highs: [0x3FFF; SLOTS],
+    };
     s.clear();
     s.set_lock(lock, victim);
     s
@@ -101,16 +105,16 @@ fn flushes() {
     fill(&mut s, PRESERVED, 0x010000);
     fill(&mut s, LARGE, 0x010000);
     s.set_lock(2, 2);
-    both(s.bank, |s| s.flush());
-    both(s.bank, |s| s.flush_at(VirtualAddress(0x010000)));
-    both(s.bank, |s| s.flush_at(VirtualAddress(0x010400)));
+    both(s, |s| s.flush());
+    both(s, |s| s.flush_at(VirtualAddress(0x010000)));
+    both(s, |s| s.flush_at(VirtualAddress(0x010400)));
 }
 
-// Slots 0 and 1 of a bank, after a change.
-fn both<F: FnOnce(&mut Slots)>(bank: Bank, change: F)
+// Slots 0 and 1, after a change.
+fn both<F: FnOnce(&mut Slots)>(slots: Slots, change: F)
     requires { F.IsAlwaysCallable change }
 {
-    let mut s = Slots::of(bank);
+    let mut s = slots;
     change(&mut s);
     slot(&s, 0);
     slot(&s, 1);
