@@ -1,9 +1,22 @@
--- Tables that lie inside a memory. Assumes nothing.
+-- Tables that lie inside a memory, and the test that one does, made by its length. Assumes nothing.
 use Rattle.std.specs.Borrow.{Bor}
-use Rattle.audit.specs.Names.{◌≡◌, List, true, ℕ, ◌+◌, ◌*◌, ◌%◌, ◌^◌, ◌<◌, ◌≤◌, leb, Table, index_limit, word_bits}
-use Rattle.audit.proofs.Names.{subst, ◌∙◌, arith, le-leb, leb-true, and_yes, and_left, and_right, eqb-true, image_ok, table_in}
+use Rattle.audit.specs.Names.{◌≡◌, List, Bool, true, false, ℕ, ◌+◌, ◌-◌, ◌*◌, ◌%◌, ◌^◌, ◌<◌, ◌≤◌, leb, Table, index_limit, word_bits}
+use Rattle.audit.proofs.Names.{refl, sym, subst, ◌∙◌, arith, le-leb, lt-leb, leb-true, leb-false, and_yes, and_left, and_right, eqb-true, image_ok, table_in}
 use lib.Dec.{lit≤}
 use Rattle.memory.proofs.Places.{ok_ends}
+
+module _ (base n : ℕ) (t : Table) (at : ℕ) (from : base ≤ at) where
+  pub table_short : n < 4 * index_limit t → false ≡ table_in base n t at
+  unfolding table_in
+  table_short h = sym (and_yes _ _ (le-leb base at from) ∙ lt-leb (at + 4 * index_limit t) (base + n) (omega arith))
+
+  pub table_fits : (size : ℕ) → size ≡ 4 * index_limit t → size ≤ n → leb (at - base) (n - size) ≡ table_in base n t at
+  unfolding table_in
+  table_fits size e h = by_test (leb (at - base) (n - size)) refl ∙ sym (and_yes _ _ (le-leb base at from))
+    where
+      by_test : (b : Bool) → leb (at - base) (n - size) ≡ b → b ≡ leb (at + 4 * index_limit t) (base + n)
+      by_test true f = sym (le-leb (at + 4 * index_limit t) (base + n) (omega (arith, e, leb-true (at - base) (n - size) f)))
+      by_test false f = sym (lt-leb (at + 4 * index_limit t) (base + n) (omega (arith, e, leb-false (at - base) (n - size) f)))
 
 -- a table that lies inside begins and ends there
 pub inside-from : (base n : ℕ) (t : Table) (at : ℕ) → table_in base n t at ≡ true → base ≤ at

@@ -13,7 +13,7 @@ unfoldable pub use Rattle.audit.specs.Groups.{all_are, broken}
 pub use Rattle.audit.specs.Groups.{table_word, taken, taken_at}
 unfoldable pub use Rattle.audit.specs.Pages.{level_pages, table_pages}
 pub use Rattle.audit.specs.Pages.{first_pages, page_mapping, pages_in, word_pages}
-pub use Rattle.audit.specs.Puts.{Fits, FirstListable, FirstSound, LevelListable, Listable, Put, TableListable}
-pub use Rattle.audit.specs.Runs.{InRun, PageCount, Scanned, Tallied, Unbroken}
+pub use Rattle.audit.specs.Puts.{Fits, FirstListable, FirstSound, GroupListable, LevelListable, Listable, Put, TableListable}
+pub use Rattle.audit.specs.Runs.{BrokenOver, Grouped, InRun, PageCount, Scanned, Tallied, Unbroken}
 unfoldable pub use Rattle.audit.specs.List.{list_of}
 pub use Rattle.audit.specs.List.{inventoried, inventory_left, inventory_of}

@@ -6,8 +6,8 @@ use Rattle.std.proofs.Common.{Result}
 use Rattle.audit.specs.declared.ImageError.{ImageError}
 use Rattle.audit.specs.Names.{◌≡◌, List, [], ◌∷◌, ◌++◌, ℕ, ◌+◌, ◌-◌, ◌*◌, ◌/◌, ◌%◌, ◌^◌, ◌<◌, ◌≤◌, length, pasted, records_of}
 use Rattle.audit.specs.Names.{zero, suc, drop, Mapping, Table, Page, First, first_of, second_of, word_bits, word_at, index_limit, megabytes}
-use Rattle.audit.proofs.Names.{sym, ap, ap₂, ◌∙◌, subst, arith, dec_le, eq-eqb, pick_yes, length-append, table_word, taken, taken_at}
-use Rattle.audit.proofs.Names.{page_mapping, word_pages, table_pages, first_pages, level_pages, pages_in, InRun, Unbroken, Put, Fits, Listable}
+use Rattle.audit.proofs.Names.{refl, sym, ap, ap₂, ◌∙◌, subst, true≢false, arith, dec_le, eq-eqb, pick_yes, length-append, table_word, taken, taken_at}
+use Rattle.audit.proofs.Names.{page_mapping, word_pages, table_pages, first_pages, level_pages, pages_in, InRun, Unbroken, Put, Fits, Listable, GroupListable}
 use Rattle.audit.proofs.Names.{TableListable, check_of, inventory_of, inventory_left, inventoried, list_of}
 use mathlib.Core.List.{append_assoc, append-nil}
 use lib.Pow.{pow_pos}
@@ -16,9 +16,9 @@ use Rattle.wire.proofs.Pastes.{pasted-none, pasted_then, pasted_length}
 use Rattle.records.proofs.Records.{records-append, records-length}
 use Rattle.audit.proofs.Equal.{group_start, unbroken-equal}
 use Rattle.audit.proofs.Counts.{pages-one, pages-append, pages-none, group_pages, word_none}
-use Rattle.audit.proofs.Scans.{Ended, ended_word, ended_group}
+use Rattle.audit.proofs.Scans.{other_head}
 use Rattle.audit.proofs.Inside.{inside-from, inside_to}
-use Rattle.audit.proofs.Sizes.{takes_none}
+use Rattle.audit.proofs.Sizes.{takes_none, coarse_sizes, fine_sizes, fine_large}
 
 -- no mappings
 pub put_none : (at : ℕ) (l : List ℕ) → Put [] at l at l
@@ -102,37 +102,53 @@ module _ (t : Table) (l : List ℕ) (o i j : ℕ) where
 
   module _ (n : ℕ) (some : 0 < n) (aligned : j % n ≡ 0) (whole : Unbroken t l o j n) where
     -- a group whose first word takes it is that word's page
-    pub group_taken : taken_at t l o j ≡ n → InRun j n (λ k. taken_at t l o k ≡ n)
-    group_taken e k p q =
+    pub group_listed : taken_at t l o j ≡ n → table_pages t l o i j n ≡ table_pages t l o i j 1
+    group_listed e =
+        group_pages t l o i n j some aligned
+        (λ k p q.
         ap (λ (w : ℕ). taken t (second_of t w))
         (unbroken-equal t l o j (whole j (omega arith) (omega arith)) k (omega (arith, start j (omega arith) (omega arith))) (omega (arith, start j (omega arith) (omega arith), e)))
-        ∙ e
+        ∙ e)
       where
         start : (k : ℕ) → j ≤ k → k < j + n → k / taken_at t l o j * taken_at t l o j ≡ j
         start k p q = ap (λ (x : ℕ). k / x * x) e ∙ group_start n j k some aligned p q
 
-    pub group_listed : taken_at t l o j ≡ n → table_pages t l o i j n ≡ table_pages t l o i j 1
-    group_listed e = group_pages t l o i n j some aligned (group_taken e)
+    -- where it does not, no word takes the group
+    pub no_group : (taken_at t l o j ≡ n → ⊥) → InRun j n (λ k. taken_at t l o k ≡ n → ⊥)
+    no_group odd k p q e = true≢false (sym (other_head t l o j n some aligned odd k p q e) ∙ whole k p q)
 
--- the words of the page that a word says, or that word
-module _ (t : Table) (l : List ℕ) (o i j k w : ℕ) (from : j ≤ k) (few : taken_at t l o k ≤ 1 → w ≡ 1) (more : 1 < taken_at t l o k → w ≡ taken_at t l o k)
-    (placed : 0 < taken_at t l o k → k % taken_at t l o k ≡ 0) (whole : Unbroken t l o k w) where
-  aligned : 1 < taken_at t l o k → k % w ≡ 0
-  aligned h = ap (λ (r : ℕ). k % r) (more h) ∙ placed (omega arith)
+-- a group whose first word takes fewer words is one of single words
+pub group_singles : (t : Table) (l : List ℕ) (o i j n at room : ℕ) → GroupListable t l o i j n at room → (taken_at t l o j ≡ n → ⊥) → InRun j n (λ k. taken_at t l o k ≤ 1)
+group_singles t l o i j n at room g odd k p q = elim (dec_le (taken_at t l o k) 1) [
+  | yes h ↦ h
+  | no h ↦ absurd (no_group t l o i j n g.some g.aligned g.run.unbroken odd k p q (g.only k p q (omega arith)))
+]
 
-  pub step_listed : table_pages t l o i k w ≡ table_pages t l o i k 1
-  step_listed = elim (dec_le (taken_at t l o k) 1) [
-    | yes h ↦ ap (table_pages t l o i k) (few h)
-    | no h ↦ let g : 1 < taken_at t l o k = omega arith in group_listed t l o i k w (omega (arith, more g)) (aligned g) whole (sym (more g))
-  ]
+-- the groups of a coarse table, and those of small pages in a fine one
+pub coarse_listable : (l : List ℕ) (o i j at room : ℕ) → j % 16 ≡ 0 → Listable Table.Coarse l o i j 16 at room → GroupListable Table.Coarse l o i j 16 at room
+coarse_listable l o i j at room e h = record {
+  some = omega arith;
+  aligned = e;
+  only = λ k p q. coarse_sizes (table_word l o k) (λ r. 1 < r → r ≡ 16) (λ g. absurd (omega arith)) (λ g. absurd (omega arith)) (λ g. refl);
+  run = h;
+}
 
-  pub step_ended : Ended t l o j k → Ended t l o j (k + w)
-  step_ended f = elim (dec_le (taken_at t l o k) 1) [
-    | yes h ↦ subst (λ (x : ℕ). Ended t l o j (k + x)) (sym (few h)) (ended_word t l o j k from f h)
-    | no h ↦
-        let g : 1 < taken_at t l o k = omega arith in
-        ended_group t l o j k from f w (omega (arith, more g)) (aligned g) (group_taken t l o i k w (omega (arith, more g)) (aligned g) whole (sym (more g)))
-  ]
+pub small_listable : (l : List ℕ) (o i j at room : ℕ) → j % 4 ≡ 0 → InRun j 4 (λ k. taken_at Table.Fine l o k ≤ 4) → Listable Table.Fine l o i j 4 at room → GroupListable Table.Fine l o i j 4 at room
+small_listable l o i j at room e f h = record {
+  some = omega arith;
+  aligned = e;
+  only = λ k p q.
+      fine_sizes (table_word l o k) (λ r. r ≤ 4 → 1 < r → r ≡ 4) (λ m g. absurd (omega arith)) (λ m g. absurd (omega arith)) (λ m g. refl) (λ m g. absurd (omega arith))
+      (f k p q);
+  run = h;
+}
+
+-- a large page's group that is none has small and tiny pages alone
+pub no_large : (l : List ℕ) (o i j : ℕ) → j % 64 ≡ 0 → Unbroken Table.Fine l o j 64 → (taken_at Table.Fine l o j ≡ 64 → ⊥) → InRun j 64 (λ k. taken_at Table.Fine l o k ≤ 4)
+no_large l o i j e whole odd k p q = elim (dec_le (taken_at Table.Fine l o k) 4) [
+  | yes h ↦ h
+  | no h ↦ absurd (no_group Table.Fine l o i j 64 (omega arith) e whole odd k p q (fine_large (table_word l o k) (omega arith)))
+]
 
 -- the pages of the first-level words, one after the other
 module _ (l : List ℕ) (base : ℕ) where

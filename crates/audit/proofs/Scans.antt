@@ -1,11 +1,11 @@
 -- What a look at a run of words finds, run by run. Assumes nothing.
 use Rattle.std.proofs.Common.{Ok, Err}
-use Rattle.audit.specs.Names.{◌≡◌, true, false, not, List, ℕ, suc, ◌+◌, ◌-◌, ◌*◌, ◌/◌, ◌%◌, ◌<◌, ◌≤◌, length, Table, second_of, repeats, Large}
-use Rattle.audit.proofs.Names.{refl, sym, ap, ap₂, ◌∙◌, subst, true≢false, arith, dec_le, length-append, table_word, taken, taken_at, broken, table_pages, InRun}
-use Rattle.audit.proofs.Names.{all_are, PageCount, Scanned}
-use Rattle.audit.proofs.Sizes.{group_head}
-use native.Mathlib.Nat.{le_refl, mul-mod_left, suc-mul}
-use Rattle.audit.proofs.Equal.{group_start, group_place, in_group, all_at, equal-unbroken, single_unbroken, headless}
+use Rattle.audit.specs.Names.{◌≡◌, true, false, not, List, ℕ, suc, ◌+◌, ◌-◌, ◌*◌, ◌/◌, ◌%◌, ◌<◌, ◌≤◌, length, Table, second_of}
+use Rattle.audit.proofs.Names.{refl, sym, ap, ap₂, ◌∙◌, subst, arith, dec_le, length-append, table_word, taken, taken_at, broken, table_pages, InRun}
+use Rattle.audit.proofs.Names.{all_are, PageCount, Scanned, BrokenOver, Grouped}
+use Rattle.audit.proofs.Sizes.{coarse_sizes, fine_sizes, fine_large}
+use native.Mathlib.Nat.{le_refl, suc-mul}
+use Rattle.audit.proofs.Equal.{group_start, equal-unbroken, single_unbroken, headless}
 use Rattle.audit.proofs.Counts.{word_first, word_count_lem, pages-one, pages-append, pages-most, group_pages}
 
 -- what holds of each word of a run and of the next one
@@ -104,69 +104,37 @@ module _ (t : Table) (l : List ℕ) (o : ℕ) where
   pub count_most : (j n c : ℕ) → PageCount t l o j n c → c ≤ n
   count_most j n c f = omega (arith, f 0, pages-most t l o 0 n j)
 
--- each page's group that begins among the words from j on and before word k ends by word k
-abbrev pub Ended : Table → List ℕ → ℕ → ℕ → ℕ → Type 0
-Ended t l o j k = InRun j (k - j) (λ y. 0 < taken_at t l o y → y % taken_at t l o y ≡ 0 → y + taken_at t l o y ≤ k)
+-- in a group, a page that takes more than a word is broken, where the first word does not take the group
+pub singles_broken : (t : Table) (l : List ℕ) (o j n : ℕ) → Grouped t l o j n → (taken_at t l o j ≡ n → ⊥) → BrokenOver t l o j n 1
+singles_broken t l o j n g odd k p q h = elim (dec_le (taken_at t l o k) n) [
+  | yes e ↦ other_head t l o j n g.some g.aligned odd k p q (omega (arith, g.least (table_word l o k) h))
+  | no e ↦ g.more k p q (omega arith)
+]
 
-module _ (t : Table) (l : List ℕ) (o j k : ℕ) (from : j ≤ k) (ended : Ended t l o j k) where
-  -- so it is a word on
-  pub ended_word : taken_at t l o k ≤ 1 → Ended t l o j (k + 1)
-  ended_word h y p q some e = elim (dec_le k y) [
-    | yes g ↦ let z : y ≡ k = omega arith in let u : taken_at t l o y ≡ taken_at t l o k = ap (taken_at t l o) z in omega arith
-    | no g ↦ let u = ended y p (omega arith) some e in omega arith
-  ]
+-- the groups of a coarse table, and those of small pages in a fine one
+pub coarse_grouped : (l : List ℕ) (o j : ℕ) → o + 4 * (j + 16) ≤ length l → j % 16 ≡ 0 → Grouped Table.Coarse l o j 16
+coarse_grouped l o j h e = record {
+  room = h;
+  some = omega arith;
+  few = omega arith;
+  aligned = e;
+  least = λ w. coarse_sizes w (λ r. 1 < r → 16 ≤ r) (λ g. omega arith) (λ g. omega arith) (λ g. omega arith);
+  more = λ k p q g. absurd (omega (arith, g, coarse_sizes (table_word l o k) (λ r. r ≤ 16) (omega arith) (omega arith) (omega arith)));
+}
 
-  -- and a page's group on
-  pub ended_group : (n : ℕ) → 0 < n → k % n ≡ 0 → InRun k n (λ y. taken_at t l o y ≡ n) → Ended t l o j (k + n)
-  ended_group n some aligned f y p q pos e = elim (dec_le k y) [
-    | yes g ↦
-        let r : taken_at t l o y ≡ n = f y g (omega arith) in
-        let m : y % n ≡ 0 = ap (λ (x : ℕ). y % x) (sym r) ∙ e in
-        let u : y % n ≡ y - k = group_place n k y some aligned g (omega arith) in
-        omega arith
-    | no g ↦ let u = ended y p (omega arith) pos e in omega arith
-  ]
+pub small_grouped : (l : List ℕ) (o j : ℕ) → o + 4 * (j + 4) ≤ length l → j % 4 ≡ 0 → BrokenOver Table.Fine l o j 4 4 → Grouped Table.Fine l o j 4
+small_grouped l o j h e f = record {
+  room = h;
+  some = omega arith;
+  few = omega arith;
+  aligned = e;
+  least = λ w. fine_sizes w (λ r. 1 < r → 4 ≤ r) (λ g. omega arith) (λ g. omega arith) (λ g. omega arith) (λ g. omega arith);
+  more = f;
+}
 
-  -- a word that then follows, and does not begin its page's group, is broken
-  pub misplaced : j % repeats t Large ≡ 0 → 0 < taken_at t l o k → (k % taken_at t l o k ≡ 0 → ⊥) → broken t l o k ≡ true
-  misplaced aligned some odd =
-      headless t l o k some
-      (λ e.
-      let r : ℕ = taken_at t l o k in
-      let s : ℕ = k / r * r in
-      let group = in_group r k some in
-      let low : j ≤ s = group_head t (table_word l o k) j k aligned from some in
-      let head : s % r ≡ 0 = mul-mod_left (k / r) r in
-      let next : (s ≤ k) × (s ≡ k → ⊥) = (group.0, λ z. odd (ap (λ (x : ℕ). x % r) (sym z) ∙ head)) in
-      let u : s + taken_at t l o s ≤ k = ended s low (omega arith) (omega (arith, e, some)) (ap (λ (x : ℕ). s % x) e ∙ head) in
-      omega (arith, group.1, e))
-
-  -- so where none is broken it begins its page's group
-  pub placed : j % repeats t Large ≡ 0 → broken t l o k ≡ false → 0 < taken_at t l o k → k % taken_at t l o k ≡ 0
-  placed aligned whole some = elim (dec_le (k % taken_at t l o k) 0) [
-    | yes h ↦ omega arith
-    | no h ↦ absurd (true≢false (sym (misplaced aligned some (λ e. omega (arith, e))) ∙ whole))
-  ]
-
--- nothing begins before the first word
-pub ended_none : (t : Table) (l : List ℕ) (o j : ℕ) → Ended t l o j j
-ended_none t l o j y p q = absurd (omega arith)
+-- where a large page's group is none, each large page in it is broken
+pub large_broken : (l : List ℕ) (o j : ℕ) → j % 64 ≡ 0 → (taken_at Table.Fine l o j ≡ 64 → ⊥) → BrokenOver Table.Fine l o j 64 4
+large_broken l o j e odd k p q h = other_head Table.Fine l o j 64 (omega arith) e odd k p q (fine_large (table_word l o k) h)
 
 pub groups_next : (g n : ℕ) → g * n + n ≡ (g + 1) * n
 groups_next g n = sym (ap (λ (m : ℕ). m * n) (let z : g + 1 ≡ suc g = omega arith in z) ∙ suc-mul g n)
-
--- a look at the words of a group, page by page
-module _ (t : Table) (l : List ℕ) (o j k c : ℕ) (from : j ≤ k) (so : Scanned t l o j (k - j) (Ok c)) where
-  pub scan_word : (r : ℕ) → r ≡ taken_at t l o k → r ≤ 1 → Scanned t l o j (k + 1 - j) (Ok (c + r))
-  scan_word r e h =
-      subst (λ (m : ℕ). Scanned t l o j m (Ok (c + r))) (let z : k - j + 1 ≡ k + 1 - j = omega arith in z)
-      (scanned_more t l o j (k - j) 1 k c r (omega arith) so
-      (subst (λ (m : ℕ). Scanned t l o k 1 (Ok m)) (sym e) (scanned_word t l o k (omega (arith, e)))))
-
-  pub scan_page : (r : ℕ) → r ≡ taken_at t l o k → 0 < r → k % r ≡ 0 → all_are l o (table_word l o k) k r ≡ true → Scanned t l o j (k + r - j) (Ok (c + 1))
-  scan_page r e some aligned all =
-      subst (λ (m : ℕ). Scanned t l o j m (Ok (c + 1))) (let z : k - j + r ≡ k + r - j = omega arith in z)
-      (scanned_more t l o j (k - j) r k c 1 (omega arith) so (scanned_group t l o k r some aligned (sym e) (all_at l o (table_word l o k) r k all)))
-
-pub page_taken : (t : Table) (l : List ℕ) (o k r : ℕ) → r ≡ taken_at t l o k → all_are l o (table_word l o k) k r ≡ true → InRun k r (λ y. taken_at t l o y ≡ r)
-page_taken t l o k r e all y p q = ap (λ (w : ℕ). taken t (second_of t w)) (all_at l o (table_word l o k) r k all y p q) ∙ sym e

@@ -1,10 +1,10 @@
 -- How many words a page takes, by its word's two lowest bits. Assumes nothing.
-use Rattle.audit.specs.Names.{◌≡◌, ℕ, ◌+◌, ◌/◌, ◌%◌, ◌^◌, ◌<◌, ◌≤◌, ◌-◌, ◌*◌, Table, Page, second_of, repeats, index_limit, word_bits, Large, Unfound, Result, Ok, Err}
+use Rattle.audit.specs.Names.{◌≡◌, ℕ, ◌+◌, ◌/◌, ◌%◌, ◌^◌, ◌<◌, ◌≤◌, ◌*◌, Table, second_of, repeats, index_limit, Large}
 use Rattle.audit.proofs.Names.{refl, sym, ap, ◌∙◌, subst, arith, dec_le, pick_yes, eq-eqb, taken}
-use lib.Bits.{bit_and, bit_or, and_mask, or_mod, or_shr, or_add_and, and_le_l, and_le_r}
+use lib.Bits.{bit_or, or_mod, or_shr, or_add_and, and_le_l, and_le_r}
 use Rattle.page.specs.declared.Kind.{Kind}
-use Rattle.page.specs.Words.{low_bits}
-use lib.Dec.{lit≤}
+use lib.Dec.{lit≤, lit<}
+use lib.Pow.{field}
 use Rattle.page.proofs.Picks.{bits_01, bits_10, bits_11}
 use Rattle.walk.proofs.Laws.{coarse-none}
 
@@ -64,10 +64,18 @@ fine_sizes w P f g s h =
     (λ e. subst P (sym (takes_small Table.Fine w e)) s)
     (λ e. subst P (sym (fine_takes_tiny w (λ q. omega (arith, q, e)) (λ q. omega (arith, q, e)) (λ q. omega (arith, q, e)))) g)
 
+-- a fine table's page of more words than a small one is a large one
+pub fine_large : (w : ℕ) → 4 < taken Table.Fine (second_of Table.Fine w) → taken Table.Fine (second_of Table.Fine w) ≡ 64
+fine_large w = fine_sizes w (λ r. 4 < r → r ≡ 64) (λ h. absurd (omega arith)) (λ h. absurd (omega arith)) (λ h. absurd (omega arith)) (λ h. refl)
+
 -- a table has 16 large pages' groups
 pub group_room : (t : Table) (g : ℕ) → g < 16 → g * repeats t Large + repeats t Large ≤ index_limit t
 group_room Table.Coarse g h = omega arith
 group_room Table.Fine g h = omega arith
+
+pub group_some : (t : Table) → 0 < repeats t Large
+group_some Table.Coarse = lit< tt
+group_some Table.Fine = lit< tt
 
 pub group_all : (t : Table) → 16 * repeats t Large ≡ index_limit t
 group_all Table.Coarse = refl
@@ -81,42 +89,28 @@ pub limit-few : (t : Table) → index_limit t ≤ 1024
 limit-few Table.Coarse = lit≤ tt
 limit-few Table.Fine = lit≤ tt
 
--- a page's group within a large page's
-pub group_head : (t : Table) (w j k : ℕ) → j % repeats t Large ≡ 0 → j ≤ k → 0 < taken t (second_of t w) → j ≤ k / taken t (second_of t w) * taken t (second_of t w)
-group_head Table.Coarse w j k a f =
-    coarse_sizes w (λ r. 0 < r → j ≤ k / r * r) (λ p. absurd (omega arith)) (λ p. omega arith) (λ p. omega arith)
-group_head Table.Fine w j k a f =
-    fine_sizes w (λ r. 0 < r → j ≤ k / r * r) (λ p. absurd (omega arith)) (λ p. omega arith) (λ p. omega arith) (λ p. omega arith)
-
-pub group_end : (t : Table) (w j k : ℕ) → j % repeats t Large ≡ 0 → k < j + repeats t Large → k % taken t (second_of t w) ≡ 0 → 0 < taken t (second_of t w)
-    → k + taken t (second_of t w) ≤ j + repeats t Large
-group_end Table.Coarse w j k a f =
-    coarse_sizes w (λ r. k % r ≡ 0 → 0 < r → k + r ≤ j + 16) (λ e p. absurd (omega arith)) (λ e p. omega arith) (λ e p. omega arith)
-group_end Table.Fine w j k a f =
-    fine_sizes w (λ r. k % r ≡ 0 → 0 < r → k + r ≤ j + 64) (λ e p. absurd (omega arith)) (λ e p. omega arith) (λ e p. omega arith) (λ e p. omega arith)
-
--- the code's mask
-pub taken-mask : (t : Table) (f : Result Page Unfound) (k : ℕ) → 0 < taken t f → bit_and k (taken t f - 1) ≡ k % taken t f
-taken-mask t (Ok p) k h = and_mask k (low_bits p.kind - word_bits t)
-taken-mask t (Err Unfound.NoPage) k h = absurd (omega arith)
-taken-mask t (Err Unfound.Missing) k h = absurd (omega arith)
-
--- the code's signs: where bit 1 is clear, bit 2 says a page of a word
-pub coarse_signs : (w : ℕ) → w % 4 * 2 / 2 % 2 ≡ 0 → taken Table.Coarse (second_of Table.Coarse w) ≡ w % 4 * 2 / 4
-coarse_signs w h =
+-- the code's sums: where no word of a coarse table has bit 0, bit 1 says a page; where bits 1 and 0 of a fine table's word are equal, both do
+pub coarse_single : (w : ℕ) → w % 2 ≡ 0 → taken Table.Coarse (second_of Table.Coarse w) ≡ w / 2 % 2
+coarse_single w h =
     by_bits w
-    (λ e. omega (arith, takes_none Table.Coarse w e))
+    (λ e. takes_none Table.Coarse w e ∙ ap (λ (x : ℕ). x / 2) (sym e) ∙ field w 1 1)
     (λ e. absurd (omega arith))
-    (λ e. let z : taken Table.Coarse (second_of Table.Coarse w) ≡ 1 = takes_small Table.Coarse w e in omega arith)
+    (λ e. takes_small Table.Coarse w e ∙ ap (λ (x : ℕ). x / 2) (sym e) ∙ field w 1 1)
     (λ e. absurd (omega arith))
 
-pub fine_signs : (w : ℕ) → (w % 4 + 1) / 2 % 2 ≡ 0 → taken Table.Fine (second_of Table.Fine w) ≡ (w % 4 + 1) / 4
-fine_signs w h =
+pub fine_single : (w : ℕ) → (w % 4 + 1) / 2 % 2 ≡ 0 → taken Table.Fine (second_of Table.Fine w) ≡ (w % 4 + 1) / 4
+fine_single w h =
     by_bits w
-    (λ e. omega (arith, takes_none Table.Fine w e))
-    (λ e. absurd (omega arith))
-    (λ e. absurd (omega arith))
-    (λ e. omega (arith, fine_takes_tiny w (λ q. omega (arith, q, e)) (λ q. omega (arith, q, e)) (λ q. omega (arith, q, e))))
+    (λ e. takes_none Table.Fine w e ∙ sym (ap quarter e))
+    (λ e. odd 1 e refl)
+    (λ e. odd 2 e refl)
+    (λ e. fine_takes_tiny w (λ q. omega (arith, q, e)) (λ q. omega (arith, q, e)) (λ q. omega (arith, q, e)) ∙ sym (ap quarter e))
+  where
+    quarter : ℕ → ℕ
+    quarter x = (x + 1) / 4
+
+    odd : {P : Type 0} (x : ℕ) → w % 4 ≡ x → (x + 1) / 2 % 2 ≡ 1 → P
+    odd x e f = let z : ◌≡◌ {A = ℕ} 0 1 = sym h ∙ ap (λ (y : ℕ). (y + 1) / 2 % 2) e ∙ f in absurd (omega arith)
 
 -- bits that are clear in an or are clear in both
 pub or_clear : (k n a b : ℕ) → bit_or a b / 2 ^ k % 2 ^ n ≡ 0 → (a / 2 ^ k % 2 ^ n ≡ 0) × (b / 2 ^ k % 2 ^ n ≡ 0)

@@ -1,10 +1,11 @@
 -- What the code puts into a lent list, record by record.
-use Rattle.std.specs.Prelude.{◌+◌, ◌-◌, ◌*◌, ◌<◌, ◌≤◌, ◌≡◌}
+use Rattle.std.specs.Prelude.{◌+◌, ◌-◌, ◌*◌, ◌%◌, ◌<◌, ◌≤◌, ◌≡◌}
 use Rattle.audit.specs.Names.{ℕ, true, List, length, pasted, record_size, records_of, Mapping, Table, First}
 use Rattle.audit.specs.Names.{index_limit, megabytes, first_of, word_at}
+use Rattle.audit.specs.Groups.{taken_at}
 use Rattle.audit.specs.Pages.{table_pages, first_pages, level_pages}
 use Rattle.audit.specs.Check.{table_in}
-use Rattle.audit.specs.Runs.{Unbroken}
+use Rattle.audit.specs.Runs.{InRun, Unbroken}
 
 -- the records of mappings put from an offset on, and where they end
 abbrev pub Put : List Mapping → ℕ → List ℕ → ℕ → List ℕ → Type 0
@@ -21,6 +22,13 @@ pub record Listable (t : Table) (l : List ℕ) (o i j n at room : ℕ) : Type 0 
   pub megabyte : i < megabytes
   pub unbroken : Unbroken t l o j n
   pub records : Fits (table_pages t l o i j n) at room
+
+-- as a group: a page takes them all, or each takes a word
+pub record GroupListable (t : Table) (l : List ℕ) (o i j n at room : ℕ) : Type 0 where
+  pub some : 0 < n
+  pub aligned : j % n ≡ 0
+  pub only : InRun j n (λ k. 1 < taken_at t l o k → taken_at t l o k ≡ n)
+  pub run : Listable t l o i j n at room
 
 -- what a first-level word names may be listed: its table lies inside, and no word of it is broken
 pub record TableListable (t : Table) (l : List ℕ) (base at : ℕ) : Type 0 where

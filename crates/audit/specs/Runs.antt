@@ -1,9 +1,9 @@
 -- What the code finds in a run of a table's words, n from word j on.
 use Rattle.std.specs.Prelude.{Result, Ok, Err}
-use Rattle.std.specs.Prelude.{◌+◌, ◌-◌, ◌<◌, ◌≤◌, ◌≡◌}
-use Rattle.audit.specs.Names.{ℕ, true, false, List, length, Table}
+use Rattle.std.specs.Prelude.{◌+◌, ◌-◌, ◌*◌, ◌%◌, ◌<◌, ◌≤◌, ◌≡◌}
+use Rattle.audit.specs.Names.{ℕ, true, false, List, length, Table, second_of}
 use Rattle.std.specs.Prelude.{Option, Some, None}
-use Rattle.audit.specs.Groups.{taken_at, broken}
+use Rattle.audit.specs.Groups.{taken, taken_at, broken}
 use Rattle.audit.specs.Pages.{table_pages}
 
 -- each word of the run
@@ -27,3 +27,16 @@ Scanned t l o j n (Err b) = (j ≤ b) × (b < j + n) × Unbroken t l o j (b - j)
 abbrev pub Tallied : Table → List ℕ → ℕ → ℕ → ℕ → Option ℕ → Type 0
 Tallied t l o j n (Some c) = InRun j n (λ k. taken_at t l o k ≤ 1) × PageCount t l o j n c
 Tallied t l o j n None = Unit
+
+-- each page that takes more than m words is broken
+abbrev pub BrokenOver : Table → List ℕ → ℕ → ℕ → ℕ → ℕ → Type 0
+BrokenOver t l o j n m = InRun j n (λ k. m < taken_at t l o k → broken t l o k ≡ true)
+
+-- the run is an aligned group of a table, and each page of more words is broken
+pub record Grouped (t : Table) (l : List ℕ) (o j n : ℕ) : Type 0 where
+  pub room : o + 4 * (j + n) ≤ length l
+  pub some : 0 < n
+  pub few : n ≤ 64
+  pub aligned : j % n ≡ 0
+  pub least : (w : ℕ) → 1 < taken t (second_of t w) → n ≤ taken t (second_of t w)
+  pub more : BrokenOver t l o j n n

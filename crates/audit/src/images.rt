@@ -30,7 +30,7 @@ fn table_bytes(table: Table) -> usize
 
 impl<'a> Image<'a> {
     // What first-level word i says.
-    pub fn first(&self, i: u32) -> First
+    pub(crate) fn first(&self, i: u32) -> First
         requires { i < megabytes }
         ensures { result ≡ first_of (word_at self.now.memory.now (4 * i)) }
     {
@@ -46,7 +46,7 @@ impl<'a> Image<'a> {
     }
 
     // The words of a table that lies in the image.
-    pub fn words(&self, table: Table, at: PhysicalAddress) -> Words<'a>
+    pub(crate) fn words(&self, table: Table, at: PhysicalAddress) -> Words<'a>
         requires { table_in self.now.base (length self.now.memory.now) table at.0 ≡ true }
         ensures memory { result.memory ≡ self.now.memory }
         ensures at { result.at ≡ at.0 - self.now.base }
@@ -60,6 +60,7 @@ impl<'a> Image<'a> {
     }
 
     // The table that first-level word i names.
+    #[inline(always)]
     fn check_table(&self, i: u32, table: Table, at: PhysicalAddress) -> Result<usize, ImageError>
         requires { i < megabytes }
         ensures { result ≡ table_checked table self.now.memory.now self.now.base i at.0
@@ -89,7 +90,7 @@ impl<'a> Image<'a> {
     }
 
     // The first-level words, and the tables that they name.
-    pub fn check(&self) -> Result<usize, ImageError>
+    pub(crate) fn check(&self) -> Result<usize, ImageError>
         ensures { result ≡ level_checked self.now.memory.now self.now.base 0 megabytes
             (Ok (length (level_pages self.now.memory.now self.now.base 0 megabytes))) }
     {

@@ -1,11 +1,11 @@
 // The pages of an image, a record for each.
 ghost use Rattle.std.specs.Prelude.{◌≡◌, ◌+◌, ◌*◌, ◌%◌, ◌^◌, ◌<◌, ◌≤◌, ◌∷◌};
 ghost use Rattle.audit.specs.Names.{ℕ, [], true, length, word_bits, index_limit, repeats, Large, records_of, record_size, pasted};
-ghost use Rattle.audit.specs.Names.{megabytes, first_of, word_at};
+ghost use Rattle.audit.specs.Names.{megabytes, first_of, word_at, Table};
 ghost use Rattle.audit.specs.Groups.{table_word, taken_at};
 ghost use Rattle.audit.specs.Pages.{page_mapping, table_pages, first_pages, level_pages};
 ghost use Rattle.audit.specs.Runs.{InRun};
-ghost use Rattle.audit.specs.Puts.{Put, Listable, FirstListable, LevelListable};
+ghost use Rattle.audit.specs.Puts.{Put, Listable, GroupListable, FirstListable, LevelListable};
 
 use crate::groups::{GROUPS, Words};
 use crate::images::Image;
@@ -13,6 +13,7 @@ use page::{MEGABYTE, MEGABYTES};
 use walk::{First, Page, Table};
 
 // The bytes of addresses that a word of a table stands for.
+#[inline(always)]
 fn span(table: Table) -> u32
     ensures { result ≡ 2 ^ word_bits table }
 {
@@ -23,6 +24,7 @@ fn span(table: Table) -> u32
 }
 
 // A page's record at an offset.
+#[inline(always)]
 fn put_page(out: &mut [u8], at: usize, va: u32, p: Page)
     requires { at + record_size ≤ length out.old }
     ensures { out.new ≡ pasted out.old at (records_of (page_mapping va p ∷ [])) }
@@ -37,6 +39,7 @@ fn put_page(out: &mut [u8], at: usize, va: u32, p: Page)
 
 impl<'a> Words<'a> {
     // Word j of a table of megabyte i: its page's record, if it says one.
+    #[inline(always)]
     fn list_word(&self, i: u32, j: usize, out: &mut [u8], at: usize) -> usize
         requires { Listable self.now.table self.now.memory.now self.now.at i j 1 at (length out.old) ×
             (0 < taken_at self.now.table self.now.memory.now self.now.at j → j % taken_at self.now.table self.now.memory.now self.now.at j ≡ 0) }
@@ -51,6 +54,7 @@ impl<'a> Words<'a> {
     }
 
     // Whether n words from word j on are all faults.
+    #[inline(always)]
     fn vacant(&self, j: usize, n: usize) -> bool
         requires { j + n ≤ index_limit self.now.table }
         ensures { result ≡ true → InRun j n (λ (k : ℕ). table_word self.now.memory.now self.now.at k % 4 ≡ 0) }
@@ -62,27 +66,68 @@ impl<'a> Words<'a> {
         bits % 4 == 0
     }
 
+    // n words from word j on, each of which takes a word at most.
+    #[inline(always)]
+    fn list_each(&self, i: u32, j: usize, n: usize, out: &mut [u8], from: usize) -> usize
+        requires { Listable self.now.table self.now.memory.now self.now.at i j n from (length out.old) ×
+            InRun j n (λ (k : ℕ). taken_at self.now.table self.now.memory.now self.now.at k ≤ 1) }
+        ensures { Put (table_pages self.now.table self.now.memory.now self.now.at i j n) from out.old result out.new }
+    {
+        let mut at = from;
+        for k in 0..n {
+            at = self.list_word(i, j + k, out, at);
+        }
+        at
+    }
+
+    // A group of n words from word j on.
+    #[inline(always)]
+    fn list_run(&self, i: u32, j: usize, n: usize, out: &mut [u8], from: usize) -> usize
+        requires { GroupListable self.now.table self.now.memory.now self.now.at i j n from (length out.old) }
+        ensures { Put (table_pages self.now.table self.now.memory.now self.now.at i j n) from out.old result out.new }
+    {
+        if self.taken(j) == n {
+            return self.list_word(i, j, out, from);
+        }
+        self.list_each(i, j, n, out, from)
+    }
+
+    // A large page's group of a fine table from word j on that is none: by the groups of small pages.
+    #[inline(always)]
+    fn list_smalls(&self, i: u32, j: usize, out: &mut [u8], from: usize) -> usize
+        requires { (self.now.table ≡ Table.Fine) × Listable Table.Fine self.now.memory.now self.now.at i j 64 from (length out.old) × (j % 64 ≡ 0) ×
+            InRun j 64 (λ (k : ℕ). taken_at Table.Fine self.now.memory.now self.now.at k ≤ 4) }
+        ensures { Put (table_pages Table.Fine self.now.memory.now self.now.at i j 64) from out.old result out.new }
+    {
+        let mut at = from;
+        for g in 0..16 {
+            at = self.list_run(i, j + 4 * g, 4, out, at);
+        }
+        at
+    }
+
     // A large page's group from word j on.
+    #[inline(always)]
     fn list_group(&self, i: u32, j: usize, out: &mut [u8], from: usize) -> usize
         requires { Listable self.now.table self.now.memory.now self.now.at i j (repeats self.now.table Large) from (length out.old) ×
             (j % repeats self.now.table Large ≡ 0) }
         ensures { Put (table_pages self.now.table self.now.memory.now self.now.at i j (repeats self.now.table Large)) from out.old result out.new }
     {
         let n = self.group();
+        if self.taken(j) == n {
+            return self.list_word(i, j, out, from);
+        }
         if self.vacant(j, n) {
             return from;
         }
-        let mut at = from;
-        let mut k = j;
-        // Kept: the new form is no plainer, since k goes on by as many words as a page takes.
-        while k < j + n {
-            at = self.list_word(i, k, out, at);
-            k += self.taken(k).max(1);
+        match self.table {
+            Table::Coarse => self.list_each(i, j, 16, out, from),
+            Table::Fine => self.list_smalls(i, j, out, from),
         }
-        at
     }
 
     // The pages of the table.
+    #[inline(always)]
     fn list(&self, i: u32, out: &mut [u8], from: usize) -> usize
         requires { Listable self.now.table self.now.memory.now self.now.at i 0 (index_limit self.now.table) from (length out.old) }
         ensures { Put (table_pages self.now.table self.now.memory.now self.now.at i 0 (index_limit self.now.table)) from out.old result out.new }
@@ -114,7 +159,7 @@ impl<'a> Image<'a> {
     }
 
     // The pages of all megabytes, from a list's start on.
-    pub fn list(&self, out: &mut [u8])
+    pub(crate) fn list(&self, out: &mut [u8])
         requires { LevelListable self.now.memory.now self.now.base (length out.old) }
         ensures { out.new ≡ pasted out.old 0 (records_of (level_pages self.now.memory.now self.now.base 0 megabytes)) }
     {

@@ -151,12 +151,12 @@ module _ (n : ℕ) (firsts : List ℕ) (l : Level n firsts) (m : Mapping) (lt : 
 
   pub fine-room : f % 4 ≡ 3 → f - 3 + 4 * (word_in (Some Table.Fine) m + words_in (Some Table.Fine) (m.at.0 / 2 ^ 20) m) ≤ n
   fine-room h =
-      let w = own_words Table.Fine m in
+      let w = own_words (Some Table.Fine) m in
       omega (arith, inside.fine h, words-fine m.kind m.at.0)
 
   pub coarse-room : f % 4 ≡ 1 → f - 1 + 4 * (word_in (Some Table.Coarse) m + words_in (Some Table.Coarse) (m.at.0 / 2 ^ 20) m) ≤ n
   coarse-room h =
-      let w = own_words Table.Coarse m in
+      let w = own_words (Some Table.Coarse) m in
       omega (arith, inside.coarse h, words-coarse m.kind m.at.0)
 
 -- one word more of a list, that are those of f

@@ -7,7 +7,7 @@ ghost use Rattle.builder.specs.Parts.{Turned, Filled};
 ghost use Rattle.builder.specs.Places.{Firsts, based, Level};
 
 use crate::places;
-use page::{MEGABYTE, MEGABYTES};
+use page::{Kind, MEGABYTE, MEGABYTES};
 use records::Mapping;
 use records::lists::Notes;
 use tables::words;
@@ -21,15 +21,27 @@ fn write_run(out: &mut [u8], at: usize, n: usize, w: u32)
     wire::put_run(out, at, n, w);
 }
 
-// How many words of a table a mapping takes.
+// How many words of a table a mapping takes. (No accepted list has a section there.)
 fn words_of(table: Table, m: Mapping) -> usize
     ensures { result ≡ words_in (Some table) (m.at.0 / 2 ^ 20) m }
 {
-    ((1 << page::low_bits(m.kind)) / table.span()) as usize
+    match table {
+        Table::Fine => match m.kind {
+            Kind::Section => 1024,
+            Kind::Large => 64,
+            Kind::Small => 4,
+            Kind::Tiny => 1,
+        },
+        Table::Coarse => match m.kind {
+            Kind::Section => 256,
+            Kind::Large => 16,
+            Kind::Small => 1,
+            Kind::Tiny => 0,
+        },
+    }
 }
 
-// The word of a page in its megabyte's table, which begins at an offset, as often as it stands there. (No accepted list
-// has a section there.)
+// The word of a page in its megabyte's table, which begins at an offset, as often as it stands there.
 fn write_page(out: &mut [u8], at: usize, table: Table, m: Mapping)
     requires { at + 4 * (word_in (Some table) m + words_in (Some table) (m.at.0 / 2 ^ 20) m) ≤ length out.old }
     ensures { out.new

@@ -72,5 +72,7 @@ pub fn post(meters: &mut Meters, tally: Tally)
 pub fn after(meters: Meters, tally: Tally) -> Meters
     ensures { result ≡ posted meters tally }
 {
-    meters.posted(tally)
+    let mut lent = meters;
+    post(&mut lent, tally);
+    lent
 }

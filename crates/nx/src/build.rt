@@ -2,10 +2,10 @@
 ghost use Rattle.std.specs.Prelude.{◌≤◌};
 
 use crate::failure::{self, Failure};
-use crate::files;
 use crate::list::{List, Room};
 use crate::parse::{self, BadHex};
 use crate::text::Shown;
+use crate::{files, output};
 use std::fmt;
 use std::fmt::{Display, Formatter, Write};
 
@@ -49,10 +49,16 @@ pub(crate) fn base_of(rt: HostRuntime, word: &[u8]) -> Result<u32, Failure> {
 }
 
 // How many first-level words point at a table of a kind: 1 coarse, 3 fine.
-fn tables(image: &[u8], kind: u32) -> usize {
-    (0..16)
-        .filter(|i| wire::word_at(image, 4 * *i) % 4 == kind)
-        .count()
+fn tables(image: &[u8], kind: u32) -> usize
+    ensures { result ≤ 16 }
+{
+    let mut n = 0;
+    for i in 0..16 {
+        if wire::word_at(image, 4 * i) % 4 == kind {
+            n += 1;
+        }
+    }
+    n
 }
 
 // What was built: from how many mappings, into which file.
@@ -88,12 +94,15 @@ fn built(rt: HostRuntime, path: &[u8], list: List, file: &[u8], base: u32) -> Re
     let mappings = list.count();
     files::told(
         rt,
-        rt.print(Summary {
-            path: file,
-            mappings,
-            image,
-            base,
-        }),
+        output::print(
+            rt,
+            Summary {
+                path: file,
+                mappings,
+                image,
+                base,
+            },
+        ),
     )
 }
 

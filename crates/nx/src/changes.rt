@@ -4,10 +4,19 @@ ghost use Rattle.std.specs.Prelude.{◌<◌, ◌≤◌};
 
 use crate::image::Image;
 use crate::list;
+use crate::output::{self, Output};
 use crate::second::{self, Second};
-use std::fmt;
-use std::fmt::{Display, Formatter, InlineText, Write};
+use std::fmt::{Formatter, InlineText, Write};
+use std::{fmt, io};
 use walk::{First, Page, Table};
+
+// The table's head.
+const HEAD: &str = "\n\
+The words that differ\n\
+\x20 offset  words  image   word      megabyte  table   index  virtual          page\n";
+
+// A room with more bytes than these has none for the lines of a run, of which there are at most 34.
+const FULL: usize = output::SIZE - 34 * 120;
 
 // The words of the first level.
 const FIRST_LEVEL: u32 = 16;
@@ -238,22 +247,20 @@ impl Changes<'_> {
         write!(f, "                 new     ")?;
         side(f, self.new, self.new_good, from, 4 * n)
     }
-}
 
-impl Display for Changes<'_> {
-    fn fmt<W: Write>(&self, f: &mut Formatter<W>) -> fmt::Result {
-        writeln!(f, "\nThe words that differ")?;
-        writeln!(
-            f,
-            "  offset  words  image   word      megabyte  table   index  virtual          page"
-        )?;
+    // Writes the table of them.
+    pub fn print(&self, rt: HostRuntime) -> io::Result<()> {
+        let mut out = Output::new(rt);
+        out.put(HEAD);
+        out.write_past(0);
         let n = self.count();
         let mut k = 0;
         while k < n {
             let end = self.run_end(k, n);
-            self.lines(f, k, end)?;
+            let _ = self.lines(&mut Formatter::new(&mut out), k, end);
+            out.write_past(FULL);
             k = end;
         }
-        Ok(())
+        out.flush()
     }
 }

@@ -1,6 +1,8 @@
 // The table of commands: each one's name, how many words it takes, and its function.
 use crate::failure::Failure;
-use crate::{args, build, convert, diff, files, image, map, pages, playback, record, show, trial};
+use crate::{
+    args, build, convert, diff, files, image, map, output, pages, playback, record, show, trial,
+};
 
 // The usage.
 const USAGE: &str = "\
@@ -47,7 +49,7 @@ fn done(rt: HostRuntime) -> Result<(), Failure> {
     let second = args::arg(rt, 3, &mut c);
     let third = args::arg(rt, 4, &mut d);
     match (command, args::count(rt).saturating_sub(2)) {
-        (b"help", 0) => files::told(rt, rt.print(USAGE)),
+        (b"help", 0) => files::told(rt, output::print(rt, USAGE)),
         (b"build", 2 | 3) => build::run(rt, first, second, third),
         (b"show", 1) => show::run(rt, first),
         (b"try", 2) => trial::run(rt, first, second),

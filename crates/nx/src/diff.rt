@@ -1,11 +1,11 @@
 // nx diff: a new image compared with the signed one, the mappings and the words that differ.
-use crate::build;
 use crate::changes::Changes;
 use crate::failure::{self, Failure};
 use crate::files::{self, Name};
 use crate::image::{self, Image};
 use crate::mappings::Mappings;
 use crate::refusal::Refusal;
+use crate::{build, output};
 use audit::ImageError;
 use parting::Parting;
 use std::fmt::{Display, Formatter, Write};
@@ -56,38 +56,46 @@ fn refused(rt: HostRuntime, image: Image) -> io::Result<()> {
         return Ok(());
     }
     let image = Image { base: 0, ..image };
-    rt.print(Refusal {
-        image,
-        why: ImageError::BadMemory,
-    })
+    output::print(
+        rt,
+        Refusal {
+            image,
+            why: ImageError::BadMemory,
+        },
+    )
 }
 
 // Tells how two images part, and what maps otherwise in images that are both accepted.
 fn parted(rt: HostRuntime, new: Image, signed: Image, parting: Parting) -> Result<(), Failure> {
-    let mut page = rt.print(Head {
-        new,
-        signed,
-        parting,
-    });
+    let head = output::print(
+        rt,
+        Head {
+            new,
+            signed,
+            parting,
+        },
+    );
     let new_good = new.judge(rt).is_ok();
     let signed_good = signed.judge(rt).is_ok();
-    if new_good && signed_good {
-        page = page.and_then(|()| rt.print(Mappings { new, signed }));
-    }
+    let mappings = if new_good && signed_good {
+        (Mappings { new, signed }).print(rt)
+    } else {
+        Ok(())
+    };
     let changes = Changes {
         new,
         new_good,
         signed,
         signed_good,
     };
-    files::told(rt, page.and_then(|()| rt.print(changes)))?;
+    files::told(rt, head.and(mappings).and(changes.print(rt)))?;
     Err(Failure::Wrong)
 }
 
 // Two images compared: equal ones part at the end of both.
 fn compared(rt: HostRuntime, new: Image, signed: Image) -> Result<(), Failure> {
     let Some(parting) = parting::compare(new.bytes, signed.bytes) else {
-        files::told(rt, refused(rt, new).and_then(|()| refused(rt, signed)))?;
+        files::told(rt, refused(rt, new).and(refused(rt, signed)))?;
         return Err(Failure::Wrong);
     };
     let n = new.bytes.len();
@@ -97,7 +105,7 @@ fn compared(rt: HostRuntime, new: Image, signed: Image) -> Result<(), Failure> {
             Name(new.path),
             Name(signed.path)
         );
-        return files::told(rt, rt.print(names));
+        return files::told(rt, output::print(rt, names));
     }
     parted(rt, new, signed, parting)
 }

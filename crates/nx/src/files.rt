@@ -1,7 +1,7 @@
 // Files: one read whole or opened, and one written whole or not at all.
 ghost use Rattle.std.specs.Prelude.{◌≤◌, length, OnOk, IfOk};
 
-use crate::failure::Failure;
+use crate::failure::{self, Failure};
 use crate::reason;
 use crate::text::{Shown, Xml};
 use std::fmt::{Display, Formatter, InlineText, Write};
@@ -188,13 +188,14 @@ pub(crate) fn replace(rt: HostRuntime, path: &[u8], bytes: &[u8]) -> Result<(), 
     fresh.finish(rt)
 }
 
-// Says why a page could not be written, where it could not.
+// Says that a page could not be written, where it could not, and why, for which the system is asked once more.
 pub(crate) fn told(rt: HostRuntime, page: io::Result<()>) -> Result<(), Failure> {
-    match page {
-        Ok(()) => Ok(()),
-        Err(e) => {
-            reason::say(rt, b"standard output", e);
-            Err(Failure::Wrong)
-        }
+    if page.is_ok() {
+        return Ok(());
     }
+    match rt.write_all(b"\n") {
+        Ok(()) => failure::say(rt, "standard output: a part was not written\n"),
+        Err(e) => reason::say(rt, b"standard output", e),
+    }
+    Err(Failure::Wrong)
 }

@@ -1,8 +1,8 @@
 // nx check: an image that was built elsewhere, read and accepted or refused.
-use crate::build;
 use crate::failure::Failure;
 use crate::files::{self, Name};
 use crate::refusal::Refusal;
+use crate::{build, output};
 use page::PhysicalAddress;
 
 // The most bytes of an image, and one more.
@@ -58,10 +58,10 @@ impl<'a> Image<'a> {
                 let line = format_args!(
                     "{name}: accepted, {pages} pages, {len} bytes at {base:08X}\n"
                 );
-                files::told(rt, rt.print(line))
+                files::told(rt, output::print(rt, line))
             }
             Err(why) => {
-                files::told(rt, rt.print(Refusal { image: self, why }))?;
+                files::told(rt, output::print(rt, Refusal { image: self, why }))?;
                 Err(Failure::Wrong)
             }
         }

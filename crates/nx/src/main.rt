@@ -19,6 +19,7 @@ mod list;
 mod map;
 mod mappings;
 mod options;
+mod output;
 mod pages;
 mod parse;
 mod playback;

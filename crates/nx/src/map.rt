@@ -6,7 +6,7 @@ use crate::failure::Failure;
 use crate::files::{self, XmlName};
 use crate::labels::Labels;
 use crate::list::{List, Room};
-use crate::{build, grid, pages};
+use crate::{build, grid, output, pages};
 use std::fmt;
 use std::fmt::{Display, Formatter, Write};
 
@@ -138,11 +138,14 @@ fn from_list(rt: HostRuntime, path: &[u8]) -> Result<(), Failure> {
     list.tables(rt, path, build::BASE, &mut memory)?;
     files::told(
         rt,
-        rt.print(Picture {
-            path,
-            list,
-            is_image: false,
-        }),
+        output::print(
+            rt,
+            Picture {
+                path,
+                list,
+                is_image: false,
+            },
+        ),
     )
 }
 
@@ -157,11 +160,14 @@ fn from_image(rt: HostRuntime, path: &[u8], word: &[u8]) -> Result<(), Failure> 
     };
     files::told(
         rt,
-        rt.print(Picture {
-            path,
-            list,
-            is_image: true,
-        }),
+        output::print_lines(
+            rt,
+            Picture {
+                path,
+                list,
+                is_image: true,
+            },
+        ),
     )
 }
 

@@ -1,10 +1,19 @@
 // The mappings of two accepted images that differ: the pages that only one of them has, in rising order.
 use crate::image::Image;
+use crate::output::{self, Output};
 use crate::{list, pages};
 use records::Mapping;
 use std::cmp::Ordering;
-use std::fmt;
-use std::fmt::{Display, Formatter, Write};
+use std::fmt::{Formatter, Write};
+use std::{fmt, io};
+
+// The table's head.
+const HEAD: &str = "\n\
+The mappings that differ\n\
+\x20 image   virtual          physical  page     access\n";
+
+// A room with more bytes than these has none for two lines.
+const FULL: usize = output::SIZE - 128;
 
 // Two accepted images.
 #[derive(Clone, Copy)]
@@ -46,7 +55,7 @@ fn line<W: Write>(f: &mut Formatter<W>, image: &str, m: Mapping) -> fmt::Result 
 }
 
 // The pages of two lists that differ; whether there are any.
-fn rows<W: Write>(f: &mut Formatter<W>, signed: &[u8], new: &[u8]) -> Result<bool, fmt::Error> {
+fn rows(out: &mut Output, signed: &[u8], new: &[u8]) -> bool {
     let mut before = signed;
     let mut now = new;
     let mut any = false;
@@ -56,11 +65,12 @@ fn rows<W: Write>(f: &mut Formatter<W>, signed: &[u8], new: &[u8]) -> Result<boo
         let order = start(before).cmp(&start(now));
         let differ = order != Ordering::Equal || !same(a, b);
         if differ && order != Ordering::Greater {
-            line(f, "signed", a)?;
+            let _ = line(&mut Formatter::new(&mut *out), "signed", a);
         }
         if differ && order != Ordering::Less {
-            line(f, "new", b)?;
+            let _ = line(&mut Formatter::new(&mut *out), "new", b);
         }
+        out.write_past(FULL);
         any |= differ;
         before = if order == Ordering::Greater {
             before
@@ -73,20 +83,22 @@ fn rows<W: Write>(f: &mut Formatter<W>, signed: &[u8], new: &[u8]) -> Result<boo
             behind(now)
         };
     }
-    Ok(any)
+    any
 }
 
-impl Display for Mappings<'_> {
-    fn fmt<W: Write>(&self, f: &mut Formatter<W>) -> fmt::Result {
+impl Mappings<'_> {
+    // Writes the table of them.
+    pub fn print(&self, rt: HostRuntime) -> io::Result<()> {
         let mut room = [0u8; pages::RECORDS];
         let mut other = [0u8; pages::RECORDS];
         let new = pages::listed(self.new, &mut room).unwrap_or(b"");
         let signed = pages::listed(self.signed, &mut other).unwrap_or(b"");
-        writeln!(f, "\nThe mappings that differ")?;
-        writeln!(f, "  image   virtual          physical  page     access")?;
-        if rows(f, signed, new)? {
-            return Ok(());
+        let mut out = Output::new(rt);
+        out.put(HEAD);
+        out.write_past(0);
+        if !rows(&mut out, signed, new) {
+            out.put("  none: the words that differ map the same pages\n");
         }
-        writeln!(f, "  none: the words that differ map the same pages")
+        out.flush()
     }
 }

@@ -1,15 +1,20 @@
 // nx list: the pages of an accepted image, a line for each as a list of mappings has it.
 use crate::failure::{self, Failure};
 use crate::image::{self, Image};
+use crate::output::{self, Output};
 use crate::refusal::Refusal;
 use crate::{files, list};
 use audit::ListError;
 use page::PhysicalAddress;
-use std::fmt;
+use records::Mapping;
 use std::fmt::{Display, Formatter, Write};
+use std::{fmt, io};
 
 // The bytes of the most records: a tiny page for each kilobyte.
 pub const RECORDS: usize = records::SIZE * 16384;
+
+// A room with more bytes than these has none for a line.
+const FULL: usize = output::SIZE - listing::WIDEST;
 
 // The records of the pages of an image, where it is accepted.
 pub(crate) fn listed<'a>(image: Image, room: &'a mut [u8]) -> Result<&'a [u8], ListError> {
@@ -36,25 +41,32 @@ pub(crate) fn load<'a>(
     }
 }
 
-// The lines of records.
+// A page's line.
 #[derive(Clone, Copy)]
-struct Lines<'a>(&'a [u8]);
+struct Line(Mapping);
 
-impl Display for Lines<'_> {
+impl Display for Line {
     fn fmt<W: Write>(&self, f: &mut Formatter<W>) -> fmt::Result {
-        for i in 0..records::count(self.0) {
-            let m = records::mapping_at(self.0, i);
-            let kind = list::kind_name(m.kind);
-            let access = list::access_name(m.access);
-            writeln!(f, "{kind:<7} {:06X} {:08X} {access}", m.at.0, m.to.0)?;
-        }
-        Ok(())
+        let m = self.0;
+        let kind = list::kind_name(m.kind);
+        let access = list::access_name(m.access);
+        writeln!(f, "{kind:<7} {:06X} {:08X} {access}", m.at.0, m.to.0)
     }
+}
+
+// The lines of records, written as often as the room is full.
+fn print(rt: HostRuntime, records: &[u8]) -> io::Result<()> {
+    let mut out = Output::new(rt);
+    for i in 0..records::count(records) {
+        out.put(Line(records::mapping_at(records, i)));
+        out.write_past(FULL);
+    }
+    out.flush()
 }
 
 // nx list IMAGE BASE.
 pub(crate) fn run(rt: HostRuntime, path: &[u8], word: &[u8]) -> Result<(), Failure> {
     let mut room = [0u8; RECORDS];
     let records = load(rt, path, word, &mut room)?;
-    files::told(rt, rt.print(Lines(records)))
+    files::told(rt, print(rt, records))
 }

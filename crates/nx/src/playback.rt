@@ -3,6 +3,7 @@ use crate::columns::{Answered, Source};
 use crate::costs::Costs;
 use crate::failure::Failure;
 use crate::options::Options;
+use crate::output::Output;
 use crate::recordings::{self, Counted};
 use crate::spelling::Spelled;
 use crate::{files, image};
@@ -27,7 +28,8 @@ struct Rows<'a> {
     said: &'a [u8],
 }
 
-// A row for each call: its number, the call, the answer and where the last word of its walk lies.
+// A row for each call: its number, the call, the answer and where the last word of its walk lies. A block's rows
+// go out in one write.
 impl Display for Rows<'_> {
     fn fmt<W: Write>(&self, f: &mut Formatter<W>) -> fmt::Result {
         let calls = self.calls.chunks_exact(calls::SIZE);
@@ -60,10 +62,10 @@ fn session(
     prices: Prices,
 ) -> Result<(), Failure> {
     let mut blocks = recordings::reopen(rt, path)?;
-    let head = format_args!("The recording: {}\n", Counted(whole));
-    files::told(rt, rt.print(head))?;
-    let columns = "  number   call                           unit answers          from\n";
-    files::told(rt, rt.print(columns))?;
+    let mut out = Output::new(rt);
+    out.put(format_args!("The recording: {}\n", Counted(whole)));
+    out.put("  number   call                           unit answers          from\n");
+    files::told(rt, out.flush())?;
     let mut room = [0u8; recording::BLOCK];
     let mut said = [0u8; ANSWERS];
     let mut bench = Bench::fresh();
@@ -71,17 +73,16 @@ fn session(
         let first = blocks.read.calls;
         let calls = recording::calls_of(blocks.again(rt, whole, &mut room)?);
         bench = replay::replay(bench, calls, memories, prices, &mut said);
-        files::told(
-            rt,
-            rt.print(Rows {
-                first,
-                calls,
-                said: &said,
-            }),
-        )?;
+        out.put(Rows {
+            first,
+            calls,
+            said: &said,
+        });
+        files::told(rt, out.flush())?;
     }
     blocks.test_end(rt)?;
-    files::told(rt, rt.print(Costs(bench)))
+    out.put(Costs(bench));
+    files::told(rt, out.flush())
 }
 
 // nx replay RECORDING with the words behind it.

@@ -4,6 +4,7 @@ ghost use Rattle.std.specs.Prelude.{◌≤◌};
 use crate::failure::Failure;
 use crate::files::{self, Fresh};
 use crate::list;
+use crate::output::{self, Output};
 use crate::recordings::{self, Counted};
 use crate::scripts::{self, Words};
 use crate::spelling::Spelled;
@@ -103,15 +104,18 @@ pub(crate) fn run(rt: HostRuntime, path: &[u8], recording: &[u8]) -> Result<(), 
     fresh.finish(rt)?;
     files::told(
         rt,
-        rt.print(Summary {
-            path: recording,
-            calls,
-            script,
-        }),
+        output::print(
+            rt,
+            Summary {
+                path: recording,
+                calls,
+                script,
+            },
+        ),
     )
 }
 
-// The lines of a block's calls.
+// The lines of a block's calls, which go out in one write.
 #[derive(Clone, Copy)]
 struct Lines<'a>(&'a [u8]);
 
@@ -132,9 +136,11 @@ pub(crate) fn script(rt: HostRuntime, path: &[u8]) -> Result<(), Failure> {
     let whole = recordings::accept(rt, path)?;
     let mut blocks = recordings::reopen(rt, path)?;
     let mut room = [0u8; recording::BLOCK];
+    let mut out = Output::new(rt);
     for _ in 0..whole.blocks {
         let block = blocks.again(rt, whole, &mut room)?;
-        files::told(rt, rt.print(Lines(recording::calls_of(block))))?;
+        out.put(Lines(recording::calls_of(block)));
+        files::told(rt, out.flush())?;
     }
     blocks.test_end(rt)
 }

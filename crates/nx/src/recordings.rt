@@ -1,8 +1,8 @@
 // A recording's file, block by block and twice: the first time to accept the whole of it, the second time for
 // its calls.
 use crate::failure::{self, Failure};
-use crate::files;
 use crate::list::At;
+use crate::{files, output};
 use recording::{Flaw, Progress};
 use std::fmt;
 use std::fmt::{Display, Formatter, Write};
@@ -138,7 +138,7 @@ impl<'a> Blocks<'a> {
 
     // Says that a recording is refused, and what is wrong with its next block.
     fn refused(&self, rt: HostRuntime, flaw: Flaw, block: &[u8]) -> Failure {
-        let _ = files::told(rt, rt.print("refused 16\n"));
+        let _ = files::told(rt, output::print(rt, "refused 16\n"));
         let number = self.read.blocks;
         let bad = BadBlock {
             number,

@@ -2,7 +2,7 @@
 use crate::failure::Failure;
 use crate::list::{self, List, Room};
 use crate::text::Shown;
-use crate::{build, files};
+use crate::{build, files, output};
 use records::Mapping;
 use std::fmt;
 use std::fmt::{Display, Formatter, Write};
@@ -160,5 +160,5 @@ pub(crate) fn run(rt: HostRuntime, path: &[u8]) -> Result<(), Failure> {
     let list = room.load(rt, path)?;
     let mut memory = io::large_buffer();
     let image = list.tables(rt, path, build::BASE, &mut memory)?;
-    files::told(rt, rt.print(Page { list, image }))
+    files::told(rt, output::print(rt, Page { list, image }))
 }

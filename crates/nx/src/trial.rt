@@ -3,6 +3,7 @@ use crate::columns::{Answered, Meant, Source};
 use crate::costs::Costs;
 use crate::failure::Failure;
 use crate::list::{self, Room};
+use crate::output::Output;
 use crate::script::Step;
 use crate::scripts::{self, Words};
 use crate::text::Shown;
@@ -124,13 +125,16 @@ fn stepped(bench: Bench, tables: &[u8], call: Call, prices: prices::Prices) -> S
 }
 
 // The calls of a script in order, a row each, and what they cost.
-fn session(rt: HostRuntime, records: &[u8], tables: &[u8], t: &[u8]) -> std::io::Result<()> {
+fn session<W: Write>(f: &mut Formatter<W>, records: &[u8], tables: &[u8], t: &[u8]) -> fmt::Result {
     let prices = scripts::prices(t);
     let width = widest(t);
     let base = build::BASE;
-    println!(rt; "The session: a fresh unit, the tables at {base:08X}")?;
-    print!(rt; "  call {}", Blanks(width.saturating_sub(5)))?;
-    println!(rt; " list says  unit answers          words  from           remark")?;
+    writeln!(f, "The session: a fresh unit, the tables at {base:08X}")?;
+    write!(f, "  call {}", Blanks(width.saturating_sub(5)))?;
+    writeln!(
+        f,
+        " list says  unit answers          words  from           remark"
+    )?;
     let mut bench = Bench::fresh();
     for line in t.split(|b| *b == b'\n') {
         let line = Line {
@@ -147,7 +151,7 @@ fn session(rt: HostRuntime, records: &[u8], tables: &[u8], t: &[u8]) -> std::io:
                 let read = next.meters.words.wrapping_sub(bench.meters.words);
                 let meant = Meant { records, call };
                 let said = Answered::made(said, from);
-                rt.print(CallRow {
+                f.write(CallRow {
                     line,
                     meant,
                     said,
@@ -156,11 +160,11 @@ fn session(rt: HostRuntime, records: &[u8], tables: &[u8], t: &[u8]) -> std::io:
                 })?;
                 bench = next;
             }
-            Some(Step::Price(_, _)) => rt.print(PriceRow(line))?,
+            Some(Step::Price(_, _)) => f.write(PriceRow(line))?,
             None => {}
         }
     }
-    rt.print(Costs(bench))
+    f.write(Costs(bench))
 }
 
 // nx try LIST SCRIPT.
@@ -171,5 +175,7 @@ pub(crate) fn run(rt: HostRuntime, path: &[u8], script: &[u8]) -> Result<(), Fai
     list.tables(rt, path, build::BASE, &mut memory)?;
     let mut text = [0u8; list::TEXT];
     let t = scripts::load(rt, script, &mut text, scripts::LAST)?;
-    files::told(rt, session(rt, list.records, &memory, t))
+    let mut out = Output::new(rt);
+    let _ = session(&mut Formatter::new(&mut out), list.records, &memory, t);
+    files::told(rt, out.flush())
 }

@@ -1,6 +1,6 @@
 -- What a slot's two words say after they were made, dropped or flushed. Assumes nothing.
 use mathlib.Core.Path.{◌≡◌, refl, sym, ap, ap₂, ◌∙◌}
-use mathlib.Core.Bool.{Bool, true, false}
+use mathlib.Core.Bool.{Bool, true, false, ◌&&◌}
 use Prim.Native.Nat.{ℕ, ◌+◌, ◌-◌, ◌*◌, ◌/◌, ◌%◌, ◌^◌, ◌<◌, ◌≤◌}
 use native.Mathlib.Omega.{arith}
 use lib.Dec.{eqb, ltb}
@@ -12,7 +12,7 @@ use Rattle.page.specs.Pick.{◌and◌}
 use Rattle.page.specs.Low.{upper, agree, joined}
 use Rattle.page.specs.Words.{low_bits, type_of, kind_of, physical, word_valid, word_preserved, word_tag, word_access, word_matches, word_address}
 use Rattle.page.specs.Words.{word_dropped, word_flushed, made_cam, made_ram}
-use Rattle.page.proofs.Picks.{pick_yes, pick_no, bits_01, bits_10, bits_11, and_yes, and_no}
+use Rattle.page.proofs.Picks.{pick_yes, pick_no, bits_01, bits_10, bits_11, and_yes, and_no, and_is}
 use Rattle.page.proofs.Lower.{upper-le, upper_high, joined-agree, apart-agree, pages-agree}
 
 -- a page is at least a tiny one and at most a section
@@ -133,13 +133,14 @@ flushed-valid w = by_kept (word_preserved w) refl
     by_kept true e = ap word_valid (pick_yes _ _ _ e) ∙ sym (and_yes true (word_valid w) refl)
     by_kept false e = ap word_valid (pick_no _ _ _ e) ∙ dropped-off w ∙ sym (and_no false (word_valid w) refl)
 
--- the code's test, on the bits in which page number and tag are apart, decides what the definition says of a valid slot
-pub matches-apart : (w : ℕ) (va : VirtualAddress) (k : Kind) (r : ℕ) → word_valid w ≡ true → k ≡ kind_of w → r ≡ 2 ^ (low_bits k - 10)
-    → ltb (bit_xor (va.0 / 1024) (w / 16)) r ≡ word_matches w va
+-- the code's test, on the bits in which page number and tag are apart, decides what the definition says
+pub matches-apart : (w : ℕ) (va : VirtualAddress) (t : Bool) (k : Kind) (r : ℕ) → t ≡ word_valid w → k ≡ kind_of w → r ≡ 2 ^ (low_bits k - 10)
+    → (t && ltb (bit_xor (va.0 / 1024) (w / 16)) r) ≡ word_matches w va
 unfolding word_matches
-matches-apart w va k r h ek er =
-    ap (ltb (bit_xor (va.0 / 1024) (w / 16))) (er ∙ ap (λ (j : Kind). 2 ^ (low_bits j - 10)) ek)
-    ∙ apart-agree (low_bits (kind_of w) - 10) (va.0 / 1024) (w / 16)
+matches-apart w va t k r et ek er =
+    ap₂ (λ (v : Bool) (m : ℕ). v && ltb (bit_xor (va.0 / 1024) (w / 16)) m) et (er ∙ ap (λ (j : Kind). 2 ^ (low_bits j - 10)) ek)
+    ∙ and_is _ _
+    ∙ ap (λ (q : Bool). word_valid w and q)
+    (apart-agree (low_bits (kind_of w) - 10) (va.0 / 1024) (w / 16)
     ∙ pages-agree 10 (low_bits (kind_of w) - 10) va.0 (w / 16)
-    ∙ ap (λ (m : ℕ). agree m va.0 (w / 16 * 2 ^ 10)) (omega (arith, low_bits-ge (kind_of w)))
-    ∙ sym (and_yes _ _ h)
+    ∙ ap (λ (m : ℕ). agree m va.0 (w / 16 * 2 ^ 10)) (omega (arith, low_bits-ge (kind_of w))))

@@ -133,7 +133,7 @@ pub fn matches(cam: u32, va: VirtualAddress) -> bool
     ensures { result ≡ word_matches cam va }
 {
     let apart = va.0 / 1024 ^ cam / 16;
-    valid(cam) && apart < reach(kind_of(cam))
+    valid(cam) & (apart < reach(kind_of(cam)))
 }
 
 // The physical address that a matching slot gives.

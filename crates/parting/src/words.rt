@@ -38,7 +38,7 @@ impl<'a> Common<'a> {
     }
 
     // How many of the words from word k on differ.
-    pub fn differing(&self, k: usize) -> usize
+    pub(crate) fn differing(&self, k: usize) -> usize
         requires { k ≤ self.now.count }
         ensures { differing self.now.new.now self.now.signed.now self.now.count ≡ differing self.now.new.now self.now.signed.now k + result }
     {
@@ -64,7 +64,7 @@ impl<'a> Common<'a> {
     }
 
     // The first word that differs, the number of words where none does.
-    pub fn first_differing(&self) -> usize
+    pub(crate) fn first_differing(&self) -> usize
         ensures { result ≡ first_differing self.now.new.now self.now.signed.now 0 self.now.count }
     {
         for b in 0..self.count / BLOCK {

@@ -23,6 +23,7 @@ fn missing(bill: Bill) -> Charged
 }
 
 // The end of a walk whose second word stands at an address: the bill before it, and with the first word on it.
+#[inline(always)]
 fn second(
     memories: &Memories,
     prices: Prices,

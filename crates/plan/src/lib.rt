@@ -2,12 +2,13 @@
 // What a call is to do, by the registers, the pending fault and what was tested: refused, or one thing to be performed.
 ghost use Rattle.std.specs.Prelude.{◌≡◌};
 ghost use Rattle.registers.specs.Table.{command_of};
+ghost use Rattle.plan.specs.declared.Plan.TheVariants.{Refused, Unreported};
 ghost use Rattle.plan.specs.Plans.{tried_money, lent_refusal, request_refusal, request_plan, prefetch_plan, retry_plan, pending_plan, acknowledge_plan};
 ghost use Rattle.plan.specs.Plans.{setting_plan, tend_plan, unless_walking, command_plan, write_plan, read_plan, drop_plan, shift_plan};
 
 use bill::Bill;
 use page::{Access, LIMIT, VirtualAddress};
-use registers::{Command, Fault, Setting, Stall, Tending, offsets, refusals};
+use registers::{Command, Setting, Stall, Tending, offsets, refusals};
 
 // Why the unit tries an address.
 #[derive(Clone, Copy)]
@@ -108,10 +109,10 @@ fn prefetch(v: u16, lent: Option<u8>, control: u16, p: Option<Stall>) -> Plan
 fn retry(s: Stall) -> Plan
     ensures { result ≡ retry_plan s.fault s.at s.access }
 {
-    match s.fault {
-        Fault::Prefetch => Plan::Drop,
-        _ => Plan::Attempt(s.access, Reason::Retry, s.at),
+    if registers::is_prefetch(s.fault) {
+        return Plan::Drop;
     }
+    Plan::Attempt(s.access, Reason::Retry, s.at)
 }
 
 // An acknowledge of what is pending.
@@ -189,6 +190,24 @@ fn command(c: Command, tried: Tried, control: u16, p: Option<Stall>) -> Plan
     }
 }
 
+// A refusal, made out of the way of the calls that go on.
+#[cold]
+#[inline(never)]
+fn refused(k: u8) -> Plan
+    ensures { result ≡ Refused k }
+{
+    Plan::Refused(k)
+}
+
+// The same of a shift report.
+#[cold]
+#[inline(never)]
+fn unreported(k: u8) -> Plan
+    ensures { result ≡ Unreported k }
+{
+    Plan::Unreported(k)
+}
+
 // A register write.
 pub fn write(tried: Tried, control: u16, p: Option<Stall>, offset: u32, v: u16) -> Plan
     ensures { result ≡ write_plan tried.device tried.memories (tried_money tried) control p (command_of offset v) }
@@ -196,7 +215,7 @@ pub fn write(tried: Tried, control: u16, p: Option<Stall>, offset: u32, v: u16) 
     if tried.device {
         command(commands::command_at(offset, v), tried, control, p)
     } else {
-        Plan::Refused(refusals::RANGE)
+        refused(refusals::RANGE)
     }
 }
 
@@ -207,7 +226,7 @@ pub fn read(ok: bool, offset: u32) -> Plan
     if ok {
         Plan::Show(offset)
     } else {
-        Plan::Refused(refusals::RANGE)
+        refused(refusals::RANGE)
     }
 }
 
@@ -216,9 +235,9 @@ pub fn drop(ok: bool, p: Option<Stall>) -> Plan
     ensures { result ≡ drop_plan ok p }
 {
     if !ok {
-        Plan::Refused(refusals::RANGE)
+        refused(refusals::RANGE)
     } else if p.is_none() {
-        Plan::Refused(refusals::UNTIMELY)
+        refused(refusals::UNTIMELY)
     } else {
         Plan::Drop
     }
@@ -229,11 +248,11 @@ pub fn shift(ok: bool, memories: bool, va: VirtualAddress) -> Plan
     ensures { result ≡ shift_plan ok memories va }
 {
     if !ok {
-        Plan::Unreported(refusals::RANGE)
+        unreported(refusals::RANGE)
     } else if va.0 >= LIMIT {
-        Plan::Unreported(refusals::ADDRESS)
+        unreported(refusals::ADDRESS)
     } else if !memories {
-        Plan::Unreported(refusals::MEMORIES)
+        unreported(refusals::MEMORIES)
     } else {
         Plan::Shift(va)
     }

@@ -20,11 +20,12 @@ pub enum Fault {
 }
 
 // A fault that is held: its kind, with the address and access of the request.
+// The two bytes stand together: each gap between fields is copied along with the value, at every call of a run.
 #[derive(Clone, Copy)]
 pub struct Stall {
     pub fault: Fault,
-    pub at: VirtualAddress,
     pub access: Access,
+    pub at: VirtualAddress,
 }
 
 // What a call answers.

@@ -71,6 +71,8 @@ fn run_all(
     ensures { ran result out.new ≡ ran_from (lent_of memories.now) prices handed start calls.now out.old }
 {
     let n = calls::count(calls);
+    // The run's own: what is written to `out` would else have the memories' bounds read again at each call.
+    let memories = *memories;
     let lent = memories.ok();
     told_bytes(memories.on);
     told_bytes(memories.ext);
@@ -91,7 +93,9 @@ fn run_all(
             bill,
         };
         let plan = plan_of(call, tried, registers.control, pending);
-        let x = perform::perform(plan, &mut slots, registers, pending, bill, memories, prices);
+        let x = perform::perform(
+            plan, &mut slots, registers, pending, bill, &memories, prices,
+        );
         registers = x.registers;
         pending = x.pending;
         bill = x.bill;

@@ -38,7 +38,7 @@ fn posted(meters: Meters, outcome: Outcome) -> Stepped
         bench: Bench {
             device: outcome.device,
             bill: outcome.bill,
-            meters: meters.posted(outcome.tally),
+            meters: meters::after(meters, outcome.tally),
         },
         said: Said::Answered(outcome.answer),
         from: outcome.from,
@@ -100,7 +100,7 @@ impl Bench {
                     bench: Bench {
                         device: reported.device,
                         bill,
-                        meters: meters.posted(Tally::zero()),
+                        meters: meters::after(meters, Tally::zero()),
                     },
                     said: Said::Reported(reported.shift),
                     from: reported.from,

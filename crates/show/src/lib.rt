@@ -75,10 +75,10 @@ pub fn decimal(n: u64) {
     io::print_decimal(STDOUT_FILENO, n);
 }
 
-// An address in hexadecimal and capitals, with zeros in front up to a width.
+// An address in hexadecimal and capitals, with zeros in front up to a width, that of eight digits at most.
 pub fn address(n: u32, width: u32) {
     let mut digits = [0u8; 16];
-    let len = io::hex(u64::from(n), width as usize, &mut digits);
+    let len = io::hex(u64::from(n), width.min(8) as usize, &mut digits);
     let capitals = digits.map(|d| d.to_ascii_uppercase());
     text(capitals.get(..len).unwrap_or(&[]));
 }
@@ -86,4 +86,11 @@ pub fn address(n: u32, width: u32) {
 // Bytes as they are.
 pub fn text(bytes: &[u8]) {
     io::write_all(STDOUT_FILENO, bytes);
+}
+
+// The part of a text that has a number: a bar stands between two parts, and the first is part 0.
+pub fn part(bytes: &[u8], number: u32) {
+    if let Some(it) = bytes.split(|b| *b == b'|').nth(number as usize) {
+        text(it);
+    }
 }

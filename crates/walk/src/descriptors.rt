@@ -59,10 +59,17 @@ fn page_of(kind: Kind, w: u32) -> Page
 pub fn decode_second(table: Table, w: u32) -> Result<Page, Unfound>
     ensures { result ≡ second_of table w }
 {
-    match (w % 4, table) {
-        (1, _) => Ok(page_of(Kind::Large, w)),
-        (2, _) => Ok(page_of(Kind::Small, w)),
-        (3, Table::Fine) => Ok(page_of(Kind::Tiny, w)),
-        _ => Err(Unfound::NoPage),
+    match table {
+        Table::Coarse => match w % 4 {
+            1 => Ok(page_of(Kind::Large, w)),
+            2 => Ok(page_of(Kind::Small, w)),
+            _ => Err(Unfound::NoPage),
+        },
+        Table::Fine => match w % 4 {
+            0 => Err(Unfound::NoPage),
+            1 => Ok(page_of(Kind::Large, w)),
+            2 => Ok(page_of(Kind::Small, w)),
+            _ => Ok(page_of(Kind::Tiny, w)),
+        },
     }
 }

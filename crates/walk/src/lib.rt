@@ -81,6 +81,7 @@ pub fn read_word(memories: &Memories, at: PhysicalAddress) -> Option<(u32, Place
 }
 
 // The end of a walk whose second word stands at an address.
+#[inline(always)]
 fn second_level(memories: &Memories, table: Table, first: Source, at: PhysicalAddress) -> Walked
     ensures { result ≡ after_second table first at.0 (read_within (lent_of memories.now) at.0) }
 {

@@ -3,7 +3,7 @@ use Rattle.wire.specs.Names.{◌≡◌, List, [], ◌++◌, ℕ, ◌+◌, ◌*�
 use Rattle.wire.proofs.Names.{refl, sym, ap, ap₂, ◌∙◌, append_assoc, arith, length-append, length-drop, take-append-drop, length-take-le, bytes_of, placed, words_put, le-leb, pick_yes}
 use mathlib.Core.List.{append-nil}
 use native.Mathlib.Nat.{add-zero}
-use lib.Seq.{take_at, drop_at, drop-append-add, drop-drop, drop-length}
+use lib.Seq.{paste, take-length, take_at, drop_at, drop-append-add, drop-drop, drop-length}
 use borrow.Rule.Slice.PartMut.{put_mid, Post-is}
 use Rattle.wire.specs.Words.{pasted, bytes_put}
 use Rattle.wire.specs.Spliced.{bytes_by, spliced}
@@ -53,6 +53,14 @@ module _ (l : List ℕ) (at : ℕ) (s : List ℕ) (fits : at + length s ≤ leng
 pub pasted_followed : (l m n : List ℕ) (at k : ℕ) (s t : List ℕ) → k ≡ at + length s → at + length s ≤ length l → m ≡ pasted l at s → n ≡ pasted m k t
     → n ≡ pasted l at (s ++ t)
 pasted_followed l m n at k s t e h p q = q ∙ ap₂ (λ (x : List ℕ) (i : ℕ). pasted x i t) p e ∙ pasted_then l at s h t
+
+-- a copy of all of a list
+pub copied : (l o s : List ℕ) (at i : ℕ) → i ≡ length s → o ≡ paste l at s i → o ≡ pasted l at s
+unfolding pasted
+copied l o s at i e h =
+    h
+    ∙ ap (λ (k : ℕ). paste l at s k) e
+    ∙ ap (λ (t : List ℕ). (take at l ++ t) ++ drop (at + length s) l) (take-length s)
 
 -- bytes that have room
 pub bytes_fit : (l : List ℕ) (at : ℕ) (s : List ℕ) → at + length s ≤ length l → bytes_put l at s ≡ pasted l at s

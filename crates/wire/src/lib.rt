@@ -2,7 +2,7 @@
 // Numbers as little-endian bytes: words put into a buffer and read from one.
 ghost use Rattle.std.specs.Prelude.{◌≡◌, ◌∷◌, ◌+◌, ◌*◌, ◌≤◌};
 ghost use Rattle.wire.specs.Names.{ℕ, [], leb, length, get_or};
-ghost use Rattle.wire.specs.Words.{little_endian, word_of, placed, words_put, bytes_put, halves, swapped, word_at, low_at, high_at};
+ghost use Rattle.wire.specs.Words.{little_endian, word_of, placed, words_put, pasted, bytes_put, halves, swapped, word_at, low_at, high_at};
 ghost use Rattle.wire.specs.Signed.{twos};
 ghost use Rattle.wire.specs.Spliced.{run_put};
 
@@ -65,13 +65,24 @@ pub fn put(out: &mut [u8], at: usize, words: &[u32])
     }
 }
 
+// Bytes that have room, from an offset on.
+// Kept: copy_from_slice makes the archive for C ask for `memmove` from outside.
+fn copy(out: &mut [u8], at: usize, s: &[u8])
+    requires { at + length s.now ≤ length out.old }
+    ensures { out.new ≡ pasted out.old at s.now }
+{
+    for i in 0..s.len() {
+        out[at + i] = s[i];
+    }
+}
+
 // Bytes from an offset on, where they have room.
 #[tactic(auto, using(page::proofs::Picks::tests), unfolding(crate::specs::Words::bytes_put))]
 pub fn put_bytes(out: &mut [u8], at: usize, s: &[u8])
     ensures { out.new ≡ bytes_put out.old at s.now }
 {
     if at <= out.len() && s.len() <= out.len() - at {
-        out[at..at + s.len()].copy_from_slice(s);
+        copy(out, at, s);
     }
 }
 

@@ -1,31 +1,13 @@
-use Rattle.audit.specs.Names.{◌≡◌, ◌≤◌, ℕ, second_of}
-use Rattle.audit.proofs.Names.{◌∙◌, ap, subst, sym, arith, taken, taken_at, InRun, PageCount}
-use Rattle.audit.proofs.Scans.{tally-none, tally-more}
-use Rattle.audit.proofs.Sizes.{or_clear, limit-few}
+use Rattle.audit.specs.Names.{Table}
+use Rattle.audit.proofs.Names.{subst, sym, Tallied}
 use Rattle.audit.proofs.groups.Words.tally.Goals as goal
 
-pub loop-k-init : goal.loop-k-init
-loop-k-init c = (omega arith, λ _. tally-none _ _ _ _)
+pub returns-in-Coarse : goal.returns-in-Coarse
+returns-in-Coarse c =
+    let t = c.args.self.now in
+    subst (λ (u : Table). Tallied u t.memory.now t.at c.args.j c.args.n c.tally_coarse.result) (sym c.in-Coarse.is) c.tally_coarse.ensures
 
-pub overflow_add-pages : goal.overflow_add-pages
-overflow_add-pages c = omega (arith, c.signs-s.ensures.few, c.loop-k.invariant.0, limit-few c.args.self.now.table)
-
-pub loop-k-preserved : goal.loop-k-preserved
-loop-k-preserved c =
-    let x = c.args in
-    let t = x.self.now in
-    let i = c.loop-k.invariant in (
-      omega (arith, i.0, c.signs-s.ensures.few),
-      (λ e.
-          let b = or_clear 1 1 c.loop-k.bits c.signs-s.result e in
-          tally-more t.table t.memory.now t.at x.j c.loop-k.k c.loop-k.pages _ (i.1 b.0)
-          (ap (λ (w : ℕ). taken t.table (second_of t.table w)) (sym c.word.ensures) ∙ c.signs-s.ensures.page b.1) (omega (arith, c.signs-s.ensures.few))),
-    )
-
-pub returns-else-bits-eq1 : goal.returns-else-bits-eq1
-returns-else-bits-eq1 c =
-    let x = c.args in
-    let t = x.self.now in
-    let z : c.loop-k.k ≡ x.n = omega arith in
-    subst (λ (k : ℕ). InRun x.j k (λ (y : ℕ). taken_at t.table t.memory.now t.at y ≤ 1) × PageCount t.table t.memory.now t.at x.j k c.loop-k.pages) z
-    (c.loop-k.invariant.1 (omega arith))
+pub returns-in-Fine : goal.returns-in-Fine
+returns-in-Fine c =
+    let t = c.args.self.now in
+    subst (λ (u : Table). Tallied u t.memory.now t.at c.args.j c.args.n c.tally_fine.result) (sym c.in-Fine.is) c.tally_fine.ensures
